@@ -1,0 +1,159 @@
+use crate::{Keeper, KeeperError, MemoryKeeper};
+use entry_model::entry::{Batch, Entry, EntryList};
+use entry_model::reserved::ReservedRuns;
+use entry_model::restored::{Restored, RunList};
+use entry_model::schedule::{Form, Mode, QueryKey, Schedule, ScheduledList};
+use osq_outside::{Fail, FailList};
+use osq_value::{Event, EventList, NoMemory, Row, RowList, Str, TableId, TextList, Value};
+use std::alloc::Global;
+use std::test::Fail as Failed;
+
+fn event(alloc: Global, table: u8) -> Result<Event, NoMemory> {
+    let mut row = Row::new(alloc);
+    row.push(Value::Text(Str::of(alloc, "a")?))?;
+    Ok(Event {
+        table: TableId(table),
+        row,
+    })
+}
+
+fn appended(alloc: Global, moment: u64) -> Result<Entry, NoMemory> {
+    let mut events = EventList::new(alloc);
+    events.push(event(alloc, 2)?)?;
+    events.push(event(alloc, 0)?)?;
+    events.push(event(alloc, 2)?)?;
+    Ok(Entry::Appended {
+        source: Str::of(alloc, "audit")?,
+        taken: 40,
+        events,
+        skipped: 0,
+        moment,
+    })
+}
+
+fn table_set(alloc: Global) -> Result<Entry, NoMemory> {
+    let mut rows = RowList::new(alloc);
+    rows.push(Row::new(alloc))?;
+    Ok(Entry::TableSet {
+        source: Str::of(alloc, "tables")?,
+        table: TableId(3),
+        rows,
+        taken: 7,
+    })
+}
+
+fn key(alloc: Global) -> Result<QueryKey, NoMemory> {
+    Ok(QueryKey {
+        name: Str::of(alloc, "q")?,
+        text: Str::of(alloc, "SELECT * FROM users")?,
+        mode: Mode::Snapshot,
+    })
+}
+
+fn committed(alloc: Global, number: u64) -> Result<Entry, NoMemory> {
+    let batch = Batch {
+        number,
+        query: key(alloc)?,
+        lo: 0,
+        hi: 3,
+        cut: 3,
+        moment: 1000,
+        rows: RowList::new(alloc),
+    };
+    Ok(Entry::Committed { batch })
+}
+
+fn expired(floor: u64) -> Entry {
+    Entry::Expired {
+        table: TableId(2),
+        floor,
+        moment: 1000,
+    }
+}
+
+/// A list with an entry of each kind, in which a floor falls.
+fn entries(alloc: Global) -> Result<EntryList, NoMemory> {
+    let mut entries = EntryList::new(alloc);
+    entries.push(Entry::Opened { session: 1 })?;
+    entries.push(Entry::Configured {
+        document: TextList::new(alloc),
+        schedule: Schedule {
+            queries: ScheduledList::new(alloc),
+            events_expiry: 3600,
+            events_max: 50000,
+            form: Form::Event,
+        },
+        moment: 900,
+    })?;
+    entries.push(Entry::Ticked { moment: 1000 })?;
+    entries.push(appended(alloc, 1000)?)?;
+    entries.push(table_set(alloc)?)?;
+    entries.push(expired(3))?;
+    entries.push(expired(1))?;
+    entries.push(committed(alloc, 1)?)?;
+    entries.push(committed(alloc, 2)?)?;
+    entries.push(Entry::Acked { upto: 1 })?;
+    Ok(entries)
+}
+
+fn numbers(restored: &Restored) -> [u64; 12] {
+    let mut events = 0;
+    for event in restored.live.as_slice() {
+        events = 10 * (events % 100) + event.number % 10;
+    }
+    [
+        restored.position,
+        restored.sessions,
+        restored.moment,
+        restored.last,
+        restored.floors[2],
+        events,
+        restored.taken.len() as u64,
+        restored.tables.len() as u64,
+        restored.runs.len() as u64,
+        restored.batches,
+        restored.acked,
+        restored.floors[0],
+    ]
+}
+
+/// What a keeper loads, without what is said of it.
+fn loaded(alloc: Global, keeper: &mut MemoryKeeper) -> Result<[u64; 12], KeeperError> {
+    Ok(numbers(&keeper.load(alloc)?))
+}
+
+#[test]
+fn loads_the_values_of_any_list(rt: HostRuntime) -> Result<(), Failed> {
+    let alloc = rt.alloc();
+    let mut keeper = MemoryKeeper::new(entries(alloc)?, FailList::new(alloc), false);
+    let values = loaded(alloc, &mut keeper);
+    assert_eq!(rt; values, Ok([10, 1, 1000, 3, 1, 23, 2, 1, 1, 2, 1, 0]));
+    Ok(())
+}
+
+#[test]
+fn seals_all_or_nothing(rt: HostRuntime) -> Result<(), Failed> {
+    let alloc = rt.alloc();
+    for (is_whole, count) in [(false, 1), (true, 2)] {
+        let mut fails = FailList::new(alloc);
+        fails.push(Fail { call: 2 })?;
+        let mut added = EntryList::new(alloc);
+        added.push(Entry::Opened { session: 1 })?;
+        let mut keeper = MemoryKeeper::new(EntryList::new(alloc), fails, is_whole);
+        assert_eq!(rt; keeper.seal(alloc, &added), Ok(()));
+        assert_eq!(rt; keeper.seal(alloc, &added), Err(KeeperError::Fault));
+        assert_eq!(rt; keeper.entries().len(), count);
+    }
+    Ok(())
+}
+
+#[test]
+fn records_batches_in_reserved_room(rt: HostRuntime) -> Result<(), Failed> {
+    let alloc = rt.alloc();
+    let mut runs = ReservedRuns::of(RunList::new(alloc));
+    runs.reserve_runs(1)?;
+    runs.record_run(key(alloc)?, 4, 30, 1000);
+    let counts: Vec<u64> = runs.as_slice().iter().map(|run| run.count).collect(alloc)?;
+    assert_eq!(rt; counts.as_slice(), [1].as_slice());
+    Ok(())
+}

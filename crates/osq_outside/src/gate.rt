@@ -1,0 +1,25 @@
+//! Places at which a test may hold a thread up.
+
+/// A place between two turns of a publisher or a worker.
+#[derive(Clone, Copy, PartialEq, Eq, Debug)]
+pub enum Point {
+    AfterCut,
+    BeforeCommit,
+    BeforeAppend,
+    AfterAppend,
+}
+
+/// What a publisher or a worker passes at each of its points, outside any turn.
+pub trait Gate: Sync {
+    /// `who` is the source's place for a publisher, and the number of sources plus the worker's place for a worker;
+    /// places count from 0.
+    fn at(&self, who: u32, point: Point);
+}
+
+/// A gate that holds nothing up.
+#[derive(Clone, Copy, PartialEq, Eq, Debug)]
+pub struct OpenGate;
+
+impl Gate for OpenGate {
+    fn at(&self, _who: u32, _point: Point) {}
+}

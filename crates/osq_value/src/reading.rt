@@ -1,0 +1,64 @@
+use crate::memory::NoMemory;
+use crate::sequence::{Copied, Sequence};
+use crate::text::{Str, TextList};
+use crate::value::{EventList, RowList, TableId};
+use std::alloc::Global;
+
+/// A named set of paths: those that a pattern matches and no excluded pattern does.
+#[derive(Drop)]
+pub struct Category {
+    pub name: Str,
+    pub patterns: TextList,
+    pub excluded: TextList,
+}
+
+impl Copied for Category {
+    fn copy(&self, alloc: Global) -> Result<Self, NoMemory> {
+        Ok(Category {
+            name: self.name.copy(alloc)?,
+            patterns: self.patterns.copy(alloc)?,
+            excluded: self.excluded.copy(alloc)?,
+        })
+    }
+}
+
+pub type CategoryList = Sequence<Category>;
+
+/// What was read of a source: events, with the number of lines that were skipped, or a whole recorded table.
+/// `taken` is the source's offset, in bytes, behind what was read.
+#[derive(Drop)]
+pub enum Reading {
+    Events {
+        taken: u64,
+        events: EventList,
+        skipped: u64,
+    },
+    Table {
+        taken: u64,
+        table: TableId,
+        rows: RowList,
+    },
+}
+
+impl Copied for Reading {
+    fn copy(&self, alloc: Global) -> Result<Self, NoMemory> {
+        match self {
+            Reading::Events {
+                taken,
+                events,
+                skipped,
+            } => Ok(Reading::Events {
+                taken: *taken,
+                events: events.copy(alloc)?,
+                skipped: *skipped,
+            }),
+            Reading::Table { taken, table, rows } => Ok(Reading::Table {
+                taken: *taken,
+                table: *table,
+                rows: rows.copy(alloc)?,
+            }),
+        }
+    }
+}
+
+pub type ReadingList = Sequence<Reading>;
