@@ -1,0 +1,102 @@
+-- What a run answers, and why.
+use Rattle.std.specs.Prelude.{◌≡◌, ◌⊎◌, ◌<◌, ◌≤◌, ℕ, List, [], codes}
+use Rattle.osq_program.specs.FirstPath.{LAST_MOMENT}
+use Rattle.osq_program.specs.declared.status.Status.{Status}
+use Rattle.osq_program.specs.declared.status.Status.TheVariants.{Ok as Done, Usage, FilesFault, ConfigRefused, KeeperFault, MomentTooLarge, SourceFault, SinkFault, TicksSpent, OutOfMemory, NotBuilt}
+
+-- the number that the process ends with
+abbrev pub status_number : Status → ℕ
+status_number Done = 0
+status_number (ConfigRefused kind key) = 2
+status_number FilesFault = 3
+status_number KeeperFault = 4
+status_number (SourceFault source) = 7
+status_number SinkFault = 8
+status_number (MomentTooLarge moment) = 9
+status_number TicksSpent = 11
+status_number OutOfMemory = 20
+status_number (NotBuilt what) = 30
+status_number Usage = 64
+
+abbrev pub IsDoneStatus : Status → Type 0
+IsDoneStatus Done = Unit {0}
+IsDoneStatus status = ⊥
+
+abbrev pub IsSpentStatus : Status → Type 0
+IsSpentStatus TicksSpent = Unit {0}
+IsSpentStatus status = ⊥
+
+abbrev pub IsUsageStatus : Status → Type 0
+IsUsageStatus Usage = Unit {0}
+IsUsageStatus status = ⊥
+
+-- what may stand behind each refusal
+pub record Causes : Type 1 where
+  pub files : Type 0  -- a fault of the files
+  pub missing : Type 0  -- no configuration
+  pub config : Type 0  -- another configuration
+  pub keeper : Type 0  -- a fault of the keeper
+  pub kept : Type 0  -- a kept list that isn't empty
+  pub moment : ℕ → Type 0  -- this moment of the clock
+  pub source : List ℕ → Type 0  -- a fault of the source of this name
+  pub line : Type 0  -- a line in another form
+  pub sink : Type 0  -- a fault of a sink
+
+abbrev pub no_causes : Causes
+no_causes = record {
+  files = ⊥;
+  missing = ⊥;
+  config = ⊥;
+  keeper = ⊥;
+  kept = ⊥;
+  moment = λ moment. ⊥;
+  source = λ name. ⊥;
+  line = ⊥;
+  sink = ⊥;
+}
+
+-- the answer is a refusal with its cause; want of memory needs none
+abbrev pub IsCaused : Causes → Status → Type 0
+IsCaused c Done = ⊥
+IsCaused c Usage = ⊥
+IsCaused c FilesFault = c.files
+IsCaused c (ConfigRefused kind key) = (kind.now ≡ codes "Missing") × (key ≡ []) × c.missing
+IsCaused c KeeperFault = c.keeper
+IsCaused c (MomentTooLarge moment) = c.moment moment
+IsCaused c (SourceFault name) = c.source name
+IsCaused c SinkFault = c.sink
+IsCaused c TicksSpent = ⊥
+IsCaused c OutOfMemory = Unit {0}
+IsCaused c (NotBuilt what) = ((what ≡ codes "config") × c.config) ⊎ ((what ≡ codes "kept") × c.kept) ⊎ ((what ≡ codes "line") × c.line)
+
+-- the run ended before its session was done
+abbrev pub IsRefusal : Status → Type 0
+IsRefusal Done = ⊥
+IsRefusal Usage = ⊥
+IsRefusal TicksSpent = ⊥
+IsRefusal status = Unit {0}
+
+-- the run needs this, which isn't built yet
+abbrev pub NotBuiltYet : List ℕ → Status → Type 0
+NotBuiltYet what (NotBuilt told) = told ≡ what
+NotBuiltYet what OutOfMemory = Unit {0}
+NotBuiltYet what status = ⊥
+
+-- the clock was read, and gave no moment that is too large
+abbrev pub IsRead : (ℕ → Type 0) → Type 0
+IsRead reads = (moment : ℕ) × reads moment × (moment ≤ LAST_MOMENT)
+
+-- the causes of a replay, in the order in which the run meets them: each carries what was passed before it
+abbrev pub replay_causes : (files missing config known keeper kept empty : Type 0) (reads : ℕ → Type 0) (name : List ℕ) (source line sink : Type 0) → Causes
+replay_causes files missing config known keeper kept empty reads name source line sink =
+    record {
+      files = files;
+      missing = missing;
+      config = config;
+      keeper = known × keeper;
+      kept = known × kept;
+      moment = λ moment. known × empty × reads moment × (LAST_MOMENT < moment);
+      source = λ told. known × empty × IsRead reads × (told ≡ name) × source;
+      line = known × empty × IsRead reads × line;
+      sink = known × empty × IsRead reads × sink;
+    }

@@ -1,0 +1,110 @@
+//! The lines of the status stream.
+
+ghost use Rattle.std.specs.Prelude.{◌≡◌, ◌++◌, IfOk, OnOk};
+ghost use Rattle.std.specs.Fmt.{decimal};
+ghost use Rattle.osq_program.specs.Report.{final_text, next_of};
+
+use crate::status::Status;
+use osq_value::{Bytes, NoMemory};
+use std::alloc::Global;
+
+/// What is written where the words are refused.
+pub const USAGE: &str = "usage: osqd COMMAND [OPTIONS]\n";
+
+/// What is written before the final line where the ticks are spent.
+pub const SPENT: &str = "osqd: status 11 TicksSpent\n";
+
+/// The last event number and the count of batches of a kept list of which no batch is acknowledged.
+#[derive(Clone, Copy)]
+pub struct Totals {
+    pub events: u64,
+    pub batches: u64,
+}
+
+/// Adds a label and a number.
+fn push_field(alloc: Global, line: &mut Bytes, label: &str, number: u64) -> Result<(), NoMemory>
+    ensures { OnOk result (line.new ≡ line.old ++ label.now ++ decimal number) }
+{
+    let text = number.to_string(alloc)?;
+    line.extend(label.as_bytes())?;
+    line.extend(text.as_bytes())?;
+    Ok(())
+}
+
+/// The first of so many batches, or 0 where there is none.
+fn next_batch(batches: u64) -> u64
+    ensures { result ≡ next_of 0 batches }
+{
+    if batches > 0 { 1 } else { 0 }
+}
+
+/// The final line of a run with this status's number, over a kept list of these totals, without a fault of the link.
+pub fn final_line(alloc: Global, number: u8, totals: Totals) -> Result<Bytes, NoMemory>
+    ensures { IfOk result (λ line. line ≡ final_text number totals.events totals.batches 0 0) }
+{
+    let mut line = Bytes::new(alloc);
+    push_field(alloc, &mut line, "osqd: done ", u64::from(number))?;
+    push_field(alloc, &mut line, " events=", totals.events)?;
+    push_field(alloc, &mut line, " batches=", totals.batches)?;
+    push_field(alloc, &mut line, " acknowledged=", 0)?;
+    push_field(alloc, &mut line, " next=", next_batch(totals.batches))?;
+    push_field(alloc, &mut line, " linkfaults=", 0)?;
+    line.extend(b"\n")?;
+    Ok(line)
+}
+
+/// The name of a status in its line.
+fn name_of(status: &Status) -> &'static str {
+    match status {
+        Status::Ok => "Ok",
+        Status::Usage => "Usage",
+        Status::FilesFault => "FilesFault",
+        Status::ConfigRefused { kind: _, key: _ } => "ConfigRefused",
+        Status::KeeperFault => "KeeperFault",
+        Status::MomentTooLarge { moment: _ } => "MomentTooLarge",
+        Status::SourceFault { source: _ } => "SourceFault",
+        Status::SinkFault => "SinkFault",
+        Status::TicksSpent => "TicksSpent",
+        Status::OutOfMemory => "OutOfMemory",
+        Status::NotBuilt { what: _ } => "NotBuilt",
+    }
+}
+
+/// Adds the fields of a refusal.
+fn push_fields(alloc: Global, line: &mut Bytes, status: &Status) -> Result<(), NoMemory> {
+    match status {
+        Status::ConfigRefused { kind, key } => {
+            line.extend(b" kind=")?;
+            line.extend(kind.as_bytes())?;
+            line.extend(b" key=")?;
+            line.extend(key.as_str().as_bytes())
+        }
+        Status::MomentTooLarge { moment } => push_field(alloc, line, " moment=", *moment),
+        Status::SourceFault { source } => {
+            line.extend(b" source=")?;
+            line.extend(source.as_str().as_bytes())
+        }
+        _ => Ok(()),
+    }
+}
+
+/// The line that tells a refusal: its number, its name and its fields.
+pub(crate) fn refusal_line(alloc: Global, status: &Status) -> Result<Bytes, NoMemory> {
+    let mut line = Bytes::new(alloc);
+    if let Status::NotBuilt { what } = status {
+        line.extend(b"osqd: not built: ")?;
+        line.extend(what.as_str().as_bytes())?;
+    } else {
+        push_field(
+            alloc,
+            &mut line,
+            "osqd: status ",
+            u64::from(status.number()),
+        )?;
+        line.extend(b" ")?;
+        line.extend(name_of(status).as_bytes())?;
+        push_fields(alloc, &mut line, status)?;
+    }
+    line.extend(b"\n")?;
+    Ok(line)
+}

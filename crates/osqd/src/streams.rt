@@ -1,0 +1,56 @@
+//! The machine's streams, each as one type.
+
+use std::fs::File;
+use std::io::{self, ErrorKind, Read, Stderr, Stdout, Write};
+
+/// A source's file. One that can't be opened fails at its first read.
+#[derive(Drop)]
+pub enum Input {
+    Opened(File),
+    Missing,
+}
+
+impl Input {
+    /// The file of this path.
+    pub(crate) fn open<R: std::rt::Files<File = File>>(rt: &R, path: &str) -> Input {
+        match File::open(rt, path) {
+            Ok(file) => Input::Opened(file),
+            Err(_) => Input::Missing,
+        }
+    }
+}
+
+impl Read for Input {
+    fn read(&mut self, buf: &mut [u8]) -> io::Result<usize> {
+        match self {
+            Input::Opened(file) => file.read(buf),
+            Input::Missing => Err(io::Error::from(ErrorKind::NotFound)),
+        }
+    }
+}
+
+/// Where results and status lines go. There is no ledger yet.
+#[derive(Drop)]
+pub enum Output {
+    Results(Stdout),
+    Status(Stderr),
+    Nowhere,
+}
+
+impl Write for Output {
+    fn write(&mut self, buf: &[u8]) -> io::Result<usize> {
+        match self {
+            Output::Results(stdout) => stdout.write(buf),
+            Output::Status(stderr) => stderr.write(buf),
+            Output::Nowhere => Ok(buf.len()),
+        }
+    }
+
+    fn flush(&mut self) -> io::Result<()> {
+        match self {
+            Output::Results(stdout) => stdout.flush(),
+            Output::Status(stderr) => stderr.flush(),
+            Output::Nowhere => Ok(()),
+        }
+    }
+}

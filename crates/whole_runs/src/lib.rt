@@ -1,0 +1,19 @@
+//! Whole runs over the forms in memory: a crate of tests, so that the crates below stay quick to check.
+#![tactic(auto)]
+
+use batch_keeper::MemoryKeeper;
+use osq_outside::{MemoryFiles, MemorySink, MemorySource, StepClock};
+use osq_program::{MemoryLink, Outside};
+
+/// The outside in memory.
+pub type Memory = Outside<
+    MemorySource,
+    MemorySink,
+    MemoryFiles,
+    StepClock,
+    MemoryKeeper,
+    MemoryLink,
+>;
+
+#[cfg(test)]
+mod tests;
