@@ -1,0 +1,73 @@
+//! The table behind the lock, and what a seat at it knows.
+//! The one slot has the value, but for the turns.
+use atomic_table::TableRule;
+use std::collections::LinkedList;
+use std::marker::PhantomData;
+use std::snapshot::Snapshot;
+
+/// The word that is the next ticket to be drawn.
+pub(crate) const NEXT: usize = 0;
+
+/// The word that is the ticket served.
+pub(crate) const SERVED: usize = 1;
+
+/// A value that stands for a list of entries from a start. `stands` says whether it does.
+pub trait Stands {
+    ghost use Rattle.std.specs.Prelude.{List};
+
+    /// What the value stands for before any entry.
+    type Start;
+
+    /// What a turn may add.
+    type Entry;
+
+    ghost stands: { Self → Self.Start → List Self.Entry → Type 0 };
+}
+
+pub enum Phase {
+    Idle,
+    Joined,
+    Waits(u64),
+    InTurn,
+    Spent,
+}
+
+/// What a seat knows. No value of it is made.
+pub struct View<A, E> {
+    pub start: Option<A>,
+    pub number: u64,
+    pub phase: Phase,
+    /// The entries that its owner has seen, each with the number of the seat that added it.
+    pub seen: LinkedList<(u64, E)>,
+    /// Of the first seat: how many it split off.
+    pub given: u64,
+    /// Of the first seat: the numbers of those that were joined into it, the last one first.
+    pub joined: LinkedList<u64>,
+    /// Between the two steps of a join: what the first seat had seen, and what the other one had.
+    pub before: LinkedList<(u64, E)>,
+    pub heard: LinkedList<(u64, E)>,
+}
+
+/// What the lock is told once: the start, and how many seats may be out.
+pub struct Terms<A> {
+    pub start: Snapshot<A>,
+    pub seats: u32,
+}
+
+impl<A> Drop for Terms<A> {
+    fn drop(self) {
+        let Self { start: _, seats: _ } = self;
+    }
+}
+
+pub struct Law<T> {
+    value: PhantomData<T>,
+}
+
+impl<T: Stands> TableRule<Option<T>, View<T::Start, T::Entry>, Terms<T::Start>> for Law<T> {
+    ghost use Rattle.turn_lock.specs.Turns.{Kept, first_view};
+
+    ghost holds = { Kept T.stands };
+
+    ghost first = { λ terms. first_view terms.start.value };
+}
