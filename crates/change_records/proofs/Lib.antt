@@ -1,0 +1,4 @@
+pub mod AllThere
+pub mod FirstCategory
+pub mod PartMatches
+pub mod PathMatches

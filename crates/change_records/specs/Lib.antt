@@ -1,0 +1,6 @@
+pub mod Changes
+pub mod Events
+pub mod Fields
+pub mod Patterns
+pub mod Reads
+pub mod Rows

@@ -1,0 +1,47 @@
+use osq_value::NoMemory;
+use std::alloc::AllocError;
+
+/// Why a line wasn't read: it isn't in the form, or memory was wanting.
+#[derive(Clone, Copy, PartialEq, Eq, Debug)]
+pub enum LineError {
+    BadLine,
+    NoMemory,
+}
+
+impl From<NoMemory> for LineError {
+    ghost use Rattle.std.specs.Prelude.{◌≡◌};
+    ghost use Rattle.change_records.specs.declared.error.LineError.TheVariants as fault;
+
+    ghost from_gives = { λ _ e. e ≡ fault.NoMemory };
+
+    fn from(_error: NoMemory) -> Self {
+        LineError::NoMemory
+    }
+}
+
+impl From<serde_json::Error> for LineError {
+    ghost use Rattle.std.specs.Prelude.{◌≡◌};
+    ghost use Rattle.serde_json.specs.Errors.{IsMemory};
+    ghost use Rattle.change_records.specs.declared.error.LineError.TheVariants as fault;
+
+    ghost from_gives = { λ error e. e ≡ fault.BadLine → ¬ (IsMemory error) };
+
+    fn from(error: serde_json::Error) -> Self {
+        if error.is_memory() {
+            LineError::NoMemory
+        } else {
+            LineError::BadLine
+        }
+    }
+}
+
+impl From<AllocError> for LineError {
+    ghost use Rattle.std.specs.Prelude.{◌≡◌};
+    ghost use Rattle.change_records.specs.declared.error.LineError.TheVariants as fault;
+
+    ghost from_gives = { λ _ e. e ≡ fault.NoMemory };
+
+    fn from(_error: AllocError) -> Self {
+        LineError::NoMemory
+    }
+}

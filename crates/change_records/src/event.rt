@@ -1,0 +1,93 @@
+ghost use Rattle.std.specs.Prelude.{◌≡◌, ◌↔◌, IfOk, IsTrue};
+ghost use Rattle.std.specs.Option.{option_copied};
+ghost use Rattle.change_records.specs.Events.{BeforeFound, FindsCategory, IsEventOf, SomeMatches, Takes, file_row, number_at};
+
+use crate::change::Change;
+use crate::pattern::path_matches;
+use osq_value::{Category, CategoryList, Copied, Event, NoMemory, Row, Str, TableId, Value};
+use std::alloc::Global;
+
+const FILE_EVENTS: TableId = TableId(2);
+
+/// The event of the table `file_events` for a change of a file. Its category is the first, in byte order of names, of which some pattern
+/// matches the path and no excluded pattern does; of equal names the first in the list is meant. None exactly where no category takes the
+/// path. A place that the change's numbers lack is Null, and places behind the fifth are passed over.
+pub fn change_event(
+    alloc: Global,
+    change: &Change,
+    paths: &CategoryList,
+) -> Result<Option<Event>, NoMemory>
+    ensures { IfOk result (λ event. IsEventOf change.now paths.now event) }
+{
+    match category_of(change.path.as_str(), paths.as_slice()) {
+        None => Ok(None),
+        Some(category) => Ok(Some(Event {
+            table: FILE_EVENTS,
+            row: row(alloc, change, &category.name)?,
+        })),
+    }
+}
+
+fn category_of<'a>(path: &str, categories: &'a [Category]) -> Option<&'a Category>
+    ensures { FindsCategory path.now categories.now (option_copied result) }
+{
+    let mut first: Option<&Category> = None;
+    for category in categories {
+        if takes(category, path) && is_before(category, first) {
+            first = Some(category);
+        }
+    }
+    first
+}
+
+/// The category's name stands before the name of the one that was found so far.
+fn is_before(category: &Category, first: Option<&Category>) -> bool
+    ensures { IsTrue result ↔ BeforeFound category.now (option_copied first.entry) }
+{
+    match first {
+        None => true,
+        Some(found) => category.name.as_str() < found.name.as_str(),
+    }
+}
+
+fn takes(category: &Category, path: &str) -> bool
+    ensures { IsTrue result ↔ Takes category.now path.now }
+{
+    some_matches(category.patterns.as_slice(), path)
+        && !some_matches(category.excluded.as_slice(), path)
+}
+
+fn some_matches(patterns: &[Str], path: &str) -> bool
+    ensures { IsTrue result ↔ SomeMatches patterns.now path.now }
+{
+    patterns
+        .iter()
+        .any(|pattern| path_matches(pattern.as_str(), path))
+}
+
+fn row(alloc: Global, change: &Change, category: &Str) -> Result<Row, NoMemory>
+    ensures { IfOk result (λ row. row ≡ file_row change.now category.now) }
+{
+    let numbers = &change.numbers;
+    let mut row = Row::new(alloc);
+    row.push(Value::Text(change.path.copy(alloc)?))?;
+    row.push(Value::Text(category.copy(alloc)?))?;
+    row.push(Value::Text(change.action.copy(alloc)?))?;
+    row.push(number_at(alloc, numbers, 0)?)?;
+    row.push(number_at(alloc, numbers, 1)?)?;
+    row.push(number_at(alloc, numbers, 2)?)?;
+    row.push(change.mode.copy(alloc)?)?;
+    row.push(number_at(alloc, numbers, 3)?)?;
+    row.push(number_at(alloc, numbers, 4)?)?;
+    row.push(change.time.copy(alloc)?)?;
+    Ok(row)
+}
+
+fn number_at(alloc: Global, numbers: &Row, place: usize) -> Result<Value, NoMemory>
+    ensures { IfOk result (λ number. number ≡ number_at place numbers.now) }
+{
+    match numbers.get(place) {
+        None => Ok(Value::Null),
+        Some(number) => number.copy(alloc),
+    }
+}
