@@ -1,0 +1,10 @@
+use Rattle.sql_parser.specs.View.{tree_of}
+use Rattle.sql_parser.proofs.Arms.{kind_at, kind_not}
+use Rattle.sql_parser.proofs.Whole.{whole_read, whole_unended}
+use Rattle.sql_parser.proofs.parse.whole.Goals as goal
+
+pub returns-in-End : goal.returns-in-End
+returns-in-End c = whole_read c.args.tokens.now c.chain.new.reader (tree_of c.in_ok-node.node) (rw c.new-reader.ensures at c.in_ok-node.ensures) (kind_at c.chain.new.reader c.peek.ensures c.in-End.is)
+
+pub returns-in_default : goal.returns-in_default
+returns-in_default c = whole_unended c.args.tokens.now c.chain.new.reader (tree_of c.in_ok-node.node) (rw c.new-reader.ensures at c.in_ok-node.ensures) (kind_not c.chain.new.reader c.peek.ensures c.in_default.not-End)

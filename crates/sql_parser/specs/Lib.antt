@@ -1,0 +1,15 @@
+pub mod Tree
+pub mod View
+pub mod Levels
+pub mod Tokens
+pub mod Calls
+pub mod Reading
+pub mod Grammar
+pub mod Descent
+pub mod Stack
+pub mod Turns
+pub mod Whole
+pub mod Read
+pub mod Words
+pub mod Lexing
+pub mod Text

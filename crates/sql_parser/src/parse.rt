@@ -1,0 +1,98 @@
+//! The tree of a text, or its least fault.
+
+ghost use Rattle.std.specs.Prelude.{List, ◌≡◌, ◌≢◌, OnOk, IfOk, Some, None};
+ghost use Rattle.sql_parser.specs.View.{tree_of};
+ghost use Rattle.sql_parser.specs.Reading.{first_fault, whole as whole_expression};
+ghost use Rattle.sql_parser.specs.Read.{tree_of_tokens};
+ghost use Rattle.sql_parser.specs.Tree.{Tree};
+ghost use Rattle.sql_parser.specs.Lexing.{tokens_of};
+ghost use Rattle.sql_parser.specs.Text.{expression_of, expression_fault, select_fault, too_long};
+ghost use Rattle.sql_parser.specs.Whole.{IsTree, WholeDescends};
+ghost use Rattle.sql_parser.specs.declared.error.ParseKind.TheVariants.{NoMemory};
+
+use crate::error::{ParseError, ParseKind};
+use crate::level::Level;
+use crate::reader::Reader;
+use crate::stop::Stop;
+use crate::token::{Kind, Token};
+use crate::tree::Node;
+use crate::{descent, lexer, recognizer};
+use std::alloc::{AllocError, Global};
+
+/// How many bytes a text may have.
+pub const MAX_BYTES: usize = 65536;
+
+fn whole(alloc: Global, tokens: &[Token]) -> Result<Node, Stop>
+    ensures { WholeDescends tokens.now result }
+{
+    let mut reader = Reader::new(tokens);
+    let node = descent::chain(alloc, &mut reader, Level::Or, 0)?;
+    match reader.peek().kind {
+        Kind::End => Ok(node),
+        _ => Err(Stop::Refused),
+    }
+}
+
+/// The tree that the grammar gives for the tokens of an expression.
+fn parse_tokens(alloc: Global, tokens: &[Token]) -> Result<Node, ParseError>
+    ensures tree { IfOk result (λ node. IsTree tokens.now (tree_of node)) }
+    ensures accepted { OnOk result (first_fault whole_expression tokens.now ≡ None) }
+    // The error is the least fault.
+    ensures refused { (error : ParseError) → result ≡ Err error → error.kind ≢ NoMemory → first_fault whole_expression tokens.now ≡ Some error }
+{
+    match whole(alloc, tokens) {
+        Ok(node) => Ok(node),
+        Err(Stop::NoMemory) => Err(ParseError {
+            place: 0,
+            kind: ParseKind::NoMemory,
+        }),
+        Err(Stop::Refused) => match recognizer::expression_fault(alloc, tokens)? {
+            Some(fault) => Err(fault),
+            None => unreachable!(),
+        },
+    }
+}
+
+/// The tree of an expression's text, or its least fault.
+pub fn parse_expression(alloc: Global, text: &str) -> Result<Node, ParseError>
+    ensures tree { IfOk result (λ node. expression_of text.now ≡ Some (tree_of node)) }
+    ensures accepted { OnOk result (expression_fault text.now ≡ None) }
+    // The error is the least fault.
+    ensures refused { (error : ParseError) → result ≡ Err error → error.kind ≢ NoMemory → expression_fault text.now ≡ Some error }
+{
+    if text.len() > MAX_BYTES {
+        return Err(too_long());
+    }
+    let tokens = lexer::tokens_of(alloc, text.as_bytes())?;
+    parse_tokens(alloc, &tokens)
+}
+
+/// The least fault of a select's text, where it has one.
+pub fn fault_of_select(alloc: Global, text: &str) -> Result<Option<ParseError>, AllocError>
+    ensures { IfOk result (λ fault. fault ≡ select_fault text.now) }
+{
+    if text.len() > MAX_BYTES {
+        return Ok(Some(too_long()));
+    }
+    let tokens = lexer::tokens_of(alloc, text.as_bytes())?;
+    recognizer::select_fault(alloc, &tokens)
+}
+
+fn too_long() -> ParseError
+    ensures { result ≡ too_long }
+{
+    ParseError {
+        place: MAX_BYTES,
+        kind: ParseKind::TextTooLong,
+    }
+}
+
+/// The tokens have at most one tree.
+pub fn one_tree()
+    ensures { (tokens : List Token) → (a b : Tree) → IsTree tokens a → IsTree tokens b → a ≡ b }
+{}
+
+/// The tree of the tokens is the one that the reading computes.
+pub fn computed_tree()
+    ensures { (tokens : List Token) → (tree : Tree) → IsTree tokens tree → tree_of_tokens tokens ≡ Some tree }
+{}
