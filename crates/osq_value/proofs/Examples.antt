@@ -1,6 +1,9 @@
--- The catalogue and the spellings on known values.
-use Rattle.std.proofs.Common.{◌≡◌, refl, codes, pos, negsuc, Some, None}
-use Rattle.osq_value.specs.Catalogue.{tables, columns_of, table_name, width_of, id_of}
+-- The catalogue, the spellings and the casts on known values.
+use Rattle.std.proofs.Common.{◌≡◌, ℕ, Bool, true, false, List, [], ◌∷◌, map, refl, codes, pos, negsuc, Some, None}
+use Rattle.osq_value.specs.declared.catalogue.TableKind.{TableKind}
+use Rattle.osq_value.specs.declared.catalogue.TableKind.TheVariants.{Evented, Recorded, Computed}
+use Rattle.osq_value.specs.Casts.{number_of}
+use Rattle.osq_value.specs.Catalogue.{Table, tables, columns_of, table_name, width_of, id_of, is_evented_id, is_recorded_id, is_computed_id}
 use Rattle.osq_value.specs.Spelling.{int_of}
 
 file_events-name : table_name 2 ≡ codes "file_events"
@@ -30,3 +33,45 @@ least = refl
 too_large : int_of (codes "9223372036854775808") ≡ None
 unfolding int_of
 too_large = refl
+
+evented : TableKind → Bool
+evented Evented = true
+evented Recorded = false
+evented Computed = false
+
+recorded : TableKind → Bool
+recorded Evented = false
+recorded Recorded = true
+recorded Computed = false
+
+computed : TableKind → Bool
+computed Evented = false
+computed Recorded = false
+computed Computed = true
+
+numbers : List ℕ
+numbers = 0 ∷ 1 ∷ 2 ∷ 3 ∷ 4 ∷ 5 ∷ 6 ∷ 7 ∷ 8 ∷ 9 ∷ 10 ∷ 11 ∷ 12 ∷ 13 ∷ 14 ∷ []
+
+evented_by_number : map (λ (table : Table). evented table.kind) tables ≡ map is_evented_id numbers
+unfolding tables evented numbers
+evented_by_number = refl
+
+recorded_by_number : map (λ (table : Table). recorded table.kind) tables ≡ map is_recorded_id numbers
+unfolding tables recorded numbers
+recorded_by_number = refl
+
+computed_by_number : map (λ (table : Table). computed table.kind) tables ≡ map is_computed_id numbers
+unfolding tables computed numbers
+computed_by_number = refl
+
+blanks_before : number_of (codes " \t-12 apples") ≡ negsuc 11
+unfolding number_of
+blanks_before = refl
+
+no_digit : number_of (codes "- 1") ≡ pos 0
+unfolding number_of
+no_digit = refl
+
+far_below : number_of (codes "-99999999999999999999") ≡ negsuc 9223372036854775807
+unfolding number_of
+far_below = refl

@@ -1,3 +1,5 @@
 pub mod Digits
 mod Examples
-pub mod Tables
+pub mod Fronts
+pub mod NamedTables
+pub mod OrderLaws

@@ -34,6 +34,7 @@ pub struct TableDesc {
     pub id: TableId,
     pub name: &'static str,
     pub kind: TableKind,
+    /// The number of columns.
     pub width: u32,
 }
 

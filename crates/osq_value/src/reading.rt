@@ -1,3 +1,5 @@
+//! What a source gave: events, or a table.
+
 use crate::memory::NoMemory;
 use crate::sequence::{Copied, Sequence};
 use crate::text::{Str, TextList};
@@ -8,7 +10,9 @@ use std::alloc::Global;
 #[derive(Drop)]
 pub struct Category {
     pub name: Str,
+    /// Path patterns, with `%` for any run of bytes without `/`.
     pub patterns: TextList,
+    /// Path patterns of which none may match.
     pub excluded: TextList,
 }
 
@@ -22,6 +26,7 @@ impl Copied for Category {
     }
 }
 
+/// Categories, in the order in which they are given.
 pub type CategoryList = Sequence<Category>;
 
 /// What was read of a source: events, with the number of lines that were skipped, or a whole recorded table.
@@ -61,4 +66,5 @@ impl Copied for Reading {
     }
 }
 
+/// Readings, in the order in which they were made.
 pub type ReadingList = Sequence<Reading>;

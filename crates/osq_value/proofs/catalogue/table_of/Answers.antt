@@ -1,5 +1,5 @@
 use Rattle.std.proofs.Common.{ℕ, ◌<◌, ◌≡◌, Some, refl, sym, ap, ◌∙◌, arith}
-use Rattle.osq_value.proofs.Tables.{id_of-found, id_of-none}
+use Rattle.osq_value.proofs.NamedTables.{id_of-found, id_of-none}
 use Rattle.osq_value.specs.Catalogue.{heading_at}
 use Rattle.osq_value.specs.Described.{heading, id}
 use Rattle.osq_value.proofs.catalogue.table_of.Goals as goal

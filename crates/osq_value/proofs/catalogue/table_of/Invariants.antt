@@ -1,5 +1,5 @@
 use Rattle.std.proofs.Common.{ℕ, ◌<◌}
-use Rattle.osq_value.proofs.Tables.{Misses}
+use Rattle.osq_value.proofs.NamedTables.{Misses}
 use Rattle.osq_value.proofs.catalogue.table_of.Given as goal
 
 abbrev pub invariant-loop-place : goal.invariant-loop-place
