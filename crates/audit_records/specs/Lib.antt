@@ -1,2 +1,11 @@
+pub mod Grammar
 pub mod Groups
+pub mod Lines
+pub mod Reads
+pub mod Addresses
+pub mod Arguments
+pub mod Events
+pub mod FieldValues
+pub mod Indexes
+pub mod Joins
 pub mod Runs

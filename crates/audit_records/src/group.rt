@@ -1,5 +1,5 @@
 //! The groups of consecutive lines that one audit event wrote.
-ghost use Rattle.std.specs.Prelude.{◌≡◌, if◌then◌else◌, ◌∷◌, ◌++◌, [], List, OnErr, IfOk};
+ghost use Rattle.std.specs.Prelude.{◌≡◌, if◌then◌else◌, ◌∷◌, ◌++◌, [], List, OnOk, OnErr, IfOk, Some, None};
 ghost use Rattle.std.specs.Option.{option_to_list};
 ghost use Rattle.audit_records.specs.declared.line.AuditLine.{AuditLine};
 ghost use Rattle.audit_records.specs.Groups.{Stands, ends_by_kind, goes_on, groups_behind, groups_of, is_ended, own_group, whole};
@@ -53,6 +53,8 @@ impl GroupBuilder {
     pub fn push(&mut self, line: AuditLine) -> Result<Option<AuditGroup>, NoMemory>
         ensures step { (coming : List AuditLine) → IfOk result (λ group. option_to_list group ++ groups_behind self.new coming ≡ groups_behind self.old (line ∷ coming)) }
         ensures stands { (given : List (List AuditLine)) → (pushed : List AuditLine) → Stands given pushed self.old → IfOk result (λ group. Stands (given ++ option_to_list group) (pushed ++ line ∷ []) self.new) }
+        ensures before { IfOk result (λ group. group ≡ (if goes_on self.old line then None else Some self.old)) }
+        ensures held { OnOk result (self.new ≡ (if goes_on self.old line then self.old ++ line ∷ [] else line ∷ [])) }
         ensures err { OnErr result (self.new ≡ self.old) }
     {
         if goes_on(self.held.as_slice(), &line) {

@@ -12,7 +12,7 @@ pub struct AuditId {
 }
 
 /// A `key=value` of a line. `text` is the value, without its quotes where it was quoted.
-#[derive(Drop)]
+#[derive(Drop, PartialEq)]
 pub struct Field {
     pub key: Str,
     pub quoted: bool,
@@ -32,7 +32,7 @@ impl Copied for Field {
 pub type FieldList = Sequence<Field>;
 
 /// A line of the log. `kind` is its type, as `SYSCALL`, and its fields stand in the line's order.
-#[derive(Drop)]
+#[derive(Drop, PartialEq)]
 pub struct AuditLine {
     pub id: AuditId,
     pub kind: Str,

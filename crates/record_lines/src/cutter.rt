@@ -1,4 +1,5 @@
 ghost use Rattle.std.specs.Prelude.{◌≡◌, ℕ, ◌+◌, ◌<◌, ◌≤◌, ◌^◌, List, [], ◌∷◌, ◌++◌, length, OnOk, OnErr, IfNone, IfSome};
+ghost use Rattle.std.specs.Option.{option_to_list};
 ghost use Rattle.record_lines.specs.Lines.{HasNoFeed};
 
 use crate::later::cut_all;
@@ -98,6 +99,7 @@ impl LineCutter {
         ensures none { (start : ℕ) → (stream : List ℕ) → Stands self.old start stream → IfNone result (HasNoFeed stream) }
         ensures some { (start : ℕ) → (stream : List ℕ) → Stands self.old start stream → IfSome result (λ cut. TakesLine self.old self.new start stream cut) }
         ensures same { IfNone result (self.new ≡ self.old) }
+        ensures ready { self.old.ready ≡ option_to_list result ++ self.new.ready }
     {
         self.ready.pop_front()
     }

@@ -1,0 +1,91 @@
+//! The rows of started programs.
+
+ghost use Rattle.std.specs.Prelude.{◌≡◌, find, IfOk, option_copied};
+ghost use Rattle.audit_records.specs.Events.{cwd_of, execution_event, is_first_path, is_working_directory, mode_of, process_row};
+
+use crate::arguments::command_line;
+use crate::line::AuditLine;
+use crate::value::{
+    field_of, has_kind, has_succeeded, has_text, number_value, text_value, time_of,
+};
+use osq_value::{Copied, Event, NoMemory, Row, TableId, Value};
+use std::alloc::Global;
+
+const PROCESS_EVENTS: TableId = TableId(0);
+
+/// The event of a call that runs a program, where it succeeded.
+pub fn process_event(
+    alloc: Global,
+    line: &AuditLine,
+    lines: &[AuditLine],
+) -> Result<Option<Event>, NoMemory>
+    ensures { IfOk result (λ event. event ≡ execution_event line.now lines.now) }
+{
+    if !has_succeeded(line) {
+        return Ok(None);
+    }
+    Ok(Some(Event {
+        table: PROCESS_EVENTS,
+        row: process_row(alloc, line, lines)?,
+    }))
+}
+
+fn process_row(alloc: Global, line: &AuditLine, lines: &[AuditLine]) -> Result<Row, NoMemory>
+    ensures { IfOk result (λ row. row ≡ process_row line.now lines.now) }
+{
+    let mut row = Row::new(alloc);
+    row.push(number_value(line, "pid"))?;
+    row.push(text_value(alloc, line, "exe")?)?;
+    row.push(mode_of(alloc, lines)?)?;
+    row.push(Value::Text(command_line(alloc, lines)?))?;
+    row.push(cwd_of(alloc, lines)?)?;
+    row.push(number_value(line, "auid"))?;
+    row.push(number_value(line, "uid"))?;
+    row.push(number_value(line, "euid"))?;
+    row.push(number_value(line, "gid"))?;
+    row.push(number_value(line, "egid"))?;
+    row.push(number_value(line, "ppid"))?;
+    row.push(time_of(line))?;
+    Ok(row)
+}
+
+/// The text of `mode` in the line of the first path.
+fn mode_of(alloc: Global, lines: &[AuditLine]) -> Result<Value, NoMemory>
+    ensures { IfOk result (λ value. value ≡ mode_of lines.now) }
+{
+    match first_path(lines) {
+        None => Ok(Value::Null),
+        Some(line) => match field_of(line, "mode") {
+            None => Ok(Value::Null),
+            Some(field) => Ok(Value::Text(field.text.copy(alloc)?)),
+        },
+    }
+}
+
+fn first_path(lines: &[AuditLine]) -> Option<&AuditLine>
+    ensures { option_copied result ≡ find is_first_path lines.now }
+{
+    lines.iter().find(|line| is_first_path(line))
+}
+
+fn is_first_path(line: &AuditLine) -> bool
+    ensures { result ≡ is_first_path line.now }
+{
+    has_kind(line, "PATH") && has_text(line, "item", "0")
+}
+
+/// The string value of `cwd` in the first CWD line.
+fn cwd_of(alloc: Global, lines: &[AuditLine]) -> Result<Value, NoMemory>
+    ensures { IfOk result (λ value. value ≡ cwd_of lines.now) }
+{
+    match working_directory(lines) {
+        None => Ok(Value::Null),
+        Some(line) => text_value(alloc, line, "cwd"),
+    }
+}
+
+fn working_directory(lines: &[AuditLine]) -> Option<&AuditLine>
+    ensures { option_copied result ≡ find is_working_directory lines.now }
+{
+    lines.iter().find(|line| has_kind(line, "CWD"))
+}

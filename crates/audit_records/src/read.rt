@@ -1,0 +1,49 @@
+//! What a line of an audit log says.
+ghost use Rattle.std.specs.Prelude.{option_and_then, IfOk, IsErrOf};
+ghost use Rattle.audit_records.specs.declared.line.AuditLine.{AuditLine};
+ghost use Rattle.audit_records.specs.Grammar.{IsLine};
+ghost use Rattle.audit_records.specs.Lines.{head_of, line_of, with_fields};
+ghost use Rattle.audit_records.specs.Reads.{Reads};
+
+use crate::error::LineError;
+use crate::fields::read_fields;
+use crate::head::head_of;
+use crate::line::AuditLine;
+use osq_value::Str;
+use std::alloc::Global;
+use std::str;
+
+/// Reads a line of an audit log, without its line feed: UTF-8 text of the form `node=WORD type=T msg=audit(S.M:N): FIELDS`. The node
+/// may be missing, and the fields with the blank before them. A blank is a space or the byte 1D. T has capital letters, digits and
+/// `_`. S has 1 to 12 digits, M has 3, and N has 1 to 20 and is below 2^64.
+///
+/// A field is `key=value`, and fields are parted by blanks. A value that begins with `"` or `'` runs to the next one of its kind,
+/// behind which stands a blank or the end. Any other value runs to the next blank, and may be empty. A word without `=` is passed
+/// over; a word that begins with `=` is in no line.
+///
+/// BadLine exactly where the text isn't in this form.
+pub fn read_line(alloc: Global, text: &[u8]) -> Result<AuditLine, LineError>
+    ensures read { Reads (line_of text.now) result }
+    ensures line { IfOk result (λ line. IsLine text.now line) }
+    ensures bad { IsErrOf result LineError.BadLine → (line : AuditLine) → ¬ IsLine text.now line }
+{
+    match str::from_utf8(text) {
+        Ok(text) => read_text(alloc, text),
+        Err(_) => Err(LineError::BadLine),
+    }
+}
+
+fn read_text(alloc: Global, text: &str) -> Result<AuditLine, LineError>
+    ensures { Reads (option_and_then with_fields (head_of text.now)) result }
+{
+    let Some(head) = head_of(text) else {
+        return Err(LineError::BadLine);
+    };
+    let fields = read_fields(alloc, head.fields)?;
+    let kind = Str::of(alloc, head.kind)?;
+    Ok(AuditLine {
+        id: head.id,
+        kind,
+        fields,
+    })
+}
