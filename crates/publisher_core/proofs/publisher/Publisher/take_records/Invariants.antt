@@ -1,0 +1,20 @@
+use Rattle.std.proofs.Common.{◌≡◌, ◌≤◌, ◌+◌, ◌-◌, ℕ, List, [], true, length, if◌then◌else◌}
+use Rattle.publisher_core.specs.declared.record.Piece.{Piece}
+use Rattle.publisher_core.specs.Standing.{Stands}
+use Rattle.publisher_core.specs.Stepping.{GrowsBy, SameSource, UnderWay, STEP_BYTES, PIECE_BYTES}
+use Rattle.publisher_core.proofs.publisher.Publisher.take_records.Given as goal
+
+abbrev pub invariant-loop-self : goal.invariant-loop-self
+invariant-loop-self g l = record {
+  within : l.read ≤ STEP_BYTES + PIECE_BYTES;
+  few : length l.pieces ≤ l.most;
+  later : g.S.Source.faults l.fn.source ≤ g.S.Source.faults l.source;
+  end : (g.S.Source.tells → l.fn.self.is_ended ≡ true → g.S.Source.left l.fn.source ≡ []) → g.S.Source.tells → l.self.is_ended ≡ true → g.S.Source.left l.source ≡ [];
+  same : SameSource l.fn.self l.self;
+  grown : (given : List Piece) → (start : ℕ) → (stream : List ℕ) → Stands l.fn.self given start stream → GrowsBy l.fn.self.taken l.self.taken l.pieces;
+  way : (given : List Piece) → (start : ℕ) → (stream : List ℕ) → Stands l.fn.self given start stream
+      → UnderWay g.S.Source.tells (g.S.Source.left l.fn.source) (g.S.Source.left l.source) l.self given start stream l.pieces l.read;
+}
+
+abbrev pub decreases-loop-self : goal.decreases-loop-self
+decreases-loop-self g l = (l.most - length l.pieces) + (if l.self.is_ended then 0 else 1) + (STEP_BYTES - l.read)

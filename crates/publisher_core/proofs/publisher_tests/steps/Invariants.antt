@@ -1,0 +1,8 @@
+use Rattle.std.proofs.Common.{◌≡◌, true, false}
+use Rattle.publisher_core.proofs.publisher_tests.steps.Given as goal
+
+abbrev pub invariant-loop : goal.invariant-loop
+invariant-loop g l = record {
+  begun : l.publisher.is_begun ≡ true;
+  unspent : l.publisher.is_spent ≡ false;
+}

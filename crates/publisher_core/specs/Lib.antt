@@ -1,0 +1,7 @@
+pub mod Audit
+pub mod AuditParts
+pub mod Gathered
+pub mod Records
+pub mod Readings
+pub mod Standing
+pub mod Stepping

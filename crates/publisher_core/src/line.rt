@@ -1,0 +1,82 @@
+//! What one line of a source of changes or tables gives.
+
+ghost use Rattle.std.specs.Prelude.{◌≡◌, ℕ, List, IfOk};
+ghost use Rattle.record_lines.specs.Lines.{cut_of};
+ghost use Rattle.publisher_core.specs.Audit.{line_in};
+ghost use Rattle.publisher_core.specs.Records.{ChangeGives, TableGives, skipped_line, LINE_LIMIT, TABLE_LIMIT};
+
+use crate::record::{Gain, Record};
+use crate::subscription::{Callback, Subscription};
+use audit_records::{AuditLine, read_line};
+use change_records::{LineError, read_change, read_table};
+use osq_value::{NoMemory, Reading};
+use record_lines::Cut;
+use std::alloc::Global;
+
+/// A line of an audit log or of changes has at most so many bytes. A longer one is skipped.
+pub const LINE_LIMIT: u64 = 65_536;
+
+/// A table line has at most so many bytes.
+pub const TABLE_LIMIT: u64 = 16_777_216;
+
+/// A line that is skipped and counted.
+const SKIPPED: Gain = Gain::Event {
+    event: None,
+    skipped: 1,
+};
+
+/// What a line of a source of changes gives.
+pub fn change_gain<C: Callback>(
+    alloc: Global,
+    subscription: &Subscription<C>,
+    cut: &Cut,
+) -> Result<Gain, NoMemory>
+    ensures { (line : List ℕ) → (end : ℕ) → cut.now ≡ cut_of LINE_LIMIT end line → IfOk result (λ gain. ChangeGives subscription.now.paths line gain) }
+{
+    let Cut::Line(line) = cut else {
+        return Ok(SKIPPED);
+    };
+    match read_change(alloc, line.text.as_slice()) {
+        Err(LineError::NoMemory) => Err(NoMemory),
+        Err(LineError::BadLine) => Ok(SKIPPED),
+        Ok(change) => match subscription.event_of(alloc, &Record::Change(change)) {
+            Err(NoMemory) => Err(NoMemory),
+            Ok(event) => Ok(Gain::Event { event, skipped: 0 }),
+        },
+    }
+}
+
+/// What a line of a source of tables gives.
+pub fn table_gain(alloc: Global, cut: &Cut) -> Result<Gain, NoMemory>
+    ensures { (line : List ℕ) → (end : ℕ) → cut.now ≡ cut_of TABLE_LIMIT end line → IfOk result (λ gain. TableGives line gain) }
+{
+    let Cut::Line(line) = cut else {
+        return Ok(SKIPPED);
+    };
+    match read_table(alloc, line.text.as_slice()) {
+        Err(LineError::NoMemory) => Err(NoMemory),
+        Err(LineError::BadLine) => Ok(SKIPPED),
+        Ok(
+            Reading::Table {
+                taken: _,
+                table,
+                rows,
+            },
+        ) => Ok(Gain::Table { table, rows }),
+        Ok(Reading::Events { .. }) => Ok(SKIPPED),
+    }
+}
+
+/// The line of an audit log, or none where it is skipped.
+pub fn audit_line(alloc: Global, cut: &Cut) -> Result<Option<AuditLine>, NoMemory>
+    ensures { (line : List ℕ) → (end : ℕ) → cut.now ≡ cut_of LINE_LIMIT end line → IfOk result (λ found. found ≡ line_in line) }
+{
+    let Cut::Line(line) = cut else {
+        return Ok(None);
+    };
+    match read_line(alloc, line.text.as_slice()) {
+        Ok(line) => Ok(Some(line)),
+        Err(audit_records::LineError::BadLine) => Ok(None),
+        Err(audit_records::LineError::NoMemory) => Err(NoMemory),
+    }
+}

@@ -1,0 +1,52 @@
+//! The records of a source, and what each gives.
+
+use audit_records::AuditGroup;
+use change_records::Change;
+use osq_value::{Event, RowList, Sequence, TableId};
+
+/// What the lines of a source are.
+#[derive(Clone, Copy, PartialEq, Eq, Debug)]
+pub enum SourceKind {
+    /// Lines of an audit log, as auditd writes them.
+    Audit,
+    /// Changes of files, one JSON object a line.
+    Changes,
+    /// Recorded tables, one JSON object a line.
+    Tables,
+}
+
+/// What a callback is given: a group of audit lines, or a change of a file.
+#[derive(Drop)]
+pub enum Record {
+    Group(AuditGroup),
+    Change(Change),
+}
+
+/// What one record of a source gives.
+#[derive(Drop)]
+pub enum Gain {
+    /// An event or none, and how many lines of the record were skipped.
+    Event { event: Option<Event>, skipped: u64 },
+    /// A whole recorded table.
+    Table { table: TableId, rows: RowList },
+}
+
+/// What one record gave. `end` is the source's offset, in bytes, behind the record's last line.
+#[derive(Drop)]
+pub struct Piece {
+    pub gain: Gain,
+    pub end: u64,
+}
+
+pub type PieceList = Sequence<Piece>;
+
+/// What became of the lines that were read.
+#[derive(Drop)]
+pub enum Next {
+    /// A record is whole.
+    Whole(Piece),
+    /// A line was taken in.
+    More,
+    /// No line is left.
+    Nothing,
+}
