@@ -55,17 +55,17 @@ read_column d w ts mid whole n m f g e = subst (λ (x : Tree). IsRead atom (rule
   reads = leads_on (leads_name d w ts mid n m) (leads_past (optional.AfterName d (next ts).span.start w) mid (no_more_name d (next ts).span.start w (next mid).kind f g));
 })
 
-leads_dot : (d p : ℕ) (w : Word) (ts mid : List Token) → (next ts).kind ≡ kind.Dot → mid ≡ after ts → Leads (May (optional.AfterName d p w) ∷ []) (One expected.Name ∷ []) ts mid
+pub leads_dot : (d p : ℕ) (w : Word) (ts mid : List Token) → (next ts).kind ≡ kind.Dot → mid ≡ after ts → Leads (May (optional.AfterName d p w) ∷ []) (One expected.Name ∷ []) ts mid
 unfolding name_by fits found
 leads_dot d p w ts mid k m = leads_on (leads_in (optional.AfterName d p w) expected.Chosen (One expected.Name ∷ []) ts (ap (name_by d p w) k)) (leads_with (One expected.Name ∷ []) (leads_take expected.Chosen ts mid refl refl (λ e. cc) m))
 
-name_fits : (k : Kind) (w : Word) → IsNamed k w → fits expected.Name k ≡ true
+pub name_fits : (k : Kind) (w : Word) → IsNamed k w → fits expected.Name k ≡ true
 unfolding fits
 name_fits (kind.Name v) w h = refl
 name_fits (kind.QuotedName v) w h = refl
 name_fits other w h = absurd h
 
-name_misfit : (k : Kind) → ((w : Word) → IsNamed k w → ⊥) → fits expected.Name k ≡ false
+pub name_misfit : (k : Kind) → ((w : Word) → IsNamed k w → ⊥) → fits expected.Name k ≡ false
 unfolding fits
 name_misfit (kind.Name v) h = absurd (h v refl)
 name_misfit (kind.QuotedName v) h = absurd (h v refl)
@@ -86,7 +86,7 @@ member_descent d w ts mid here new (Err NoMemory) n m k g h = absurd h
 
 -- ---- a call
 
-leads_call : (d p : ℕ) (w : Word) (ts : List Token) → (next ts).kind ≡ kind.Open → Leads (May (optional.AfterName d p w) ∷ []) (call_parts d p w) ts ts
+pub leads_call : (d p : ℕ) (w : Word) (ts : List Token) → (next ts).kind ≡ kind.Open → Leads (May (optional.AfterName d p w) ∷ []) (call_parts d p w) ts ts
 unfolding name_by
 leads_call d p w ts k = leads_in (optional.AfterName d p w) (expected.Call d p w) (Must (rule.Arguments (deeper d) p w) ∷ []) ts (ap (name_by d p w) k)
 
@@ -125,7 +125,7 @@ pub record IsOpening (d p : ℕ) (w : Word) (ts mid : List Token) : Type 0 where
   pub room : d < 64
   pub takes : mid ≡ after ts
 
-leads_arguments : (d p : ℕ) (w : Word) (ts mid : List Token) → IsOpening d p w ts mid → Leads (call_parts d p w) (Must (rule.Arguments (d + 1) p w) ∷ []) ts mid
+pub leads_arguments : (d p : ℕ) (w : Word) (ts mid : List Token) → IsOpening d p w ts mid → Leads (call_parts d p w) (Must (rule.Arguments (d + 1) p w) ∷ []) ts mid
 unfolding fits found
 leads_arguments d p w ts mid o =
     let k = o.opened in
@@ -155,7 +155,7 @@ end_fault : (b : Bool) (p : ℕ) → b ≡ false → cond b [] (name_fault p ∷
 end_fault true p h = absurd (cc)
 end_fault false p h = λ e. cc
 
-fails_end : (p : ℕ) (w : Word) (s : Shape) (ts : List Token) → (next ts).kind ≡ kind.Close → is_allowed w s ≡ false → Fails (One (expected.EndOfCall p w s) ∷ []) ts
+pub fails_end : (p : ℕ) (w : Word) (s : Shape) (ts : List Token) → (next ts).kind ≡ kind.Close → is_allowed w s ≡ false → Fails (One (expected.EndOfCall p w s) ∷ []) ts
 unfolding fits found
 fails_end p w s ts k h = fails_found (expected.EndOfCall p w s) ts (ap (fits (expected.EndOfCall p w s)) k) (end_fault (is_allowed w s) p h)
 
@@ -186,7 +186,7 @@ found_allowed : (b : Bool) (p : ℕ) → b ≡ true → cond b [] (name_fault p 
 found_allowed true p h = refl
 found_allowed false p h = absurd (cc)
 
-leads_end : (p : ℕ) (w : Word) (s : Shape) (items : Trees) (tree : Tree) (ts mid : List Token) → IsClosed p w s items ts tree mid → Leads (One (expected.EndOfCall p w s) ∷ []) [] ts mid
+pub leads_end : (p : ℕ) (w : Word) (s : Shape) (items : Trees) (tree : Tree) (ts mid : List Token) → IsClosed p w s items ts tree mid → Leads (One (expected.EndOfCall p w s) ∷ []) [] ts mid
 unfolding fits found
 leads_end p w s items t ts mid h =
     let k = h.closed in
@@ -200,14 +200,14 @@ fails_empty_call d p w ts mid o c =
 
 -- ---- all rows
 
-leads_all : (d p : ℕ) (w : Word) (ts mid here : List Token) → IsOpening d p w ts mid → (next mid).kind ≡ kind.Star → here ≡ after mid → Leads (call_parts d p w) (One (expected.EndOfCall p w shape.All) ∷ []) ts here
+pub leads_all : (d p : ℕ) (w : Word) (ts mid here : List Token) → IsOpening d p w ts mid → (next mid).kind ≡ kind.Star → here ≡ after mid → Leads (call_parts d p w) (One (expected.EndOfCall p w shape.All) ∷ []) ts here
 unfolding arguments_by fits found
 leads_all d p w ts mid here o k m =
     leads_on (leads_arguments d p w ts mid o)
     (leads_on (leads_rule (rule.Arguments (d + 1) p w) expected.Chosen (One (expected.EndOfCall p w shape.All) ∷ []) mid (ap (arguments_by (d + 1) p w (next mid)) k))
     (leads_with (One (expected.EndOfCall p w shape.All) ∷ []) (leads_take expected.Chosen mid here refl refl (λ e. cc) m)))
 
-all_spelled : (ts mid here new : List Token) → (next ts).kind ≡ kind.Open → mid ≡ after ts → (next mid).kind ≡ kind.Star → here ≡ after mid → (next here).kind ≡ kind.Close → new ≡ after here → SpellsArguments ts shape.All no_trees new
+pub all_spelled : (ts mid here new : List Token) → (next ts).kind ≡ kind.Open → mid ≡ after ts → (next mid).kind ≡ kind.Star → here ≡ after mid → (next here).kind ≡ kind.Close → new ≡ after here → SpellsArguments ts shape.All no_trees new
 all_spelled ts mid here new o m k g c e =
     subst (λ (x : List Token). SpellsArguments ts shape.All no_trees x) (sym (e ∙ ap after (g ∙ ap after m)))
     (all_rows o (subst (λ (x : List Token). (next x).kind ≡ kind.Star) m k) (subst (λ (x : List Token). (next x).kind ≡ kind.Close) (g ∙ ap after m) c))
@@ -225,7 +225,7 @@ all_descent d p w ts mid here new items (Err s) o k g e h = stopped_later s (lea
 
 -- ---- counted arguments
 
-leads_distinct : (d p : ℕ) (w : Word) (ts mid here : List Token) → IsOpening d p w ts mid → (next mid).kind ≡ kind.Distinct → here ≡ after mid → Leads (call_parts d p w) (counted_parts (d + 1) p w (shape.Distinct 1)) ts here
+pub leads_distinct : (d p : ℕ) (w : Word) (ts mid here : List Token) → IsOpening d p w ts mid → (next mid).kind ≡ kind.Distinct → here ≡ after mid → Leads (call_parts d p w) (counted_parts (d + 1) p w (shape.Distinct 1)) ts here
 unfolding arguments_by fits found
 leads_distinct d p w ts mid here o k m =
     leads_on (leads_arguments d p w ts mid o)
@@ -249,7 +249,7 @@ plain_alternative d p w t kind.Star h i j = absurd (i refl)
 plain_alternative d p w t kind.Distinct h i j = absurd (j refl)
 plain_alternative d p w t other h i j = refl
 
-leads_plain : (d p : ℕ) (w : Word) (ts : List Token) → (next ts).kind ≢ kind.Close → (next ts).kind ≢ kind.Star → (next ts).kind ≢ kind.Distinct → Leads (Must (rule.Arguments d p w) ∷ []) (counted_parts d p w (shape.Plain 1)) ts ts
+pub leads_plain : (d p : ℕ) (w : Word) (ts : List Token) → (next ts).kind ≢ kind.Close → (next ts).kind ≢ kind.Star → (next ts).kind ≢ kind.Distinct → Leads (Must (rule.Arguments d p w) ∷ []) (counted_parts d p w (shape.Plain 1)) ts ts
 unfolding settled
 leads_plain d p w ts h i j = record {
   holds = λ parts. same_settled (Must (rule.Arguments d p w) ∷ parts) (Must (rule.Chain level.Or d) ∷ Must (rule.AfterArgument d p w (shape.Plain 1)) ∷ parts) ts
@@ -300,7 +300,7 @@ unfolding after_argument_by
 last_of d p w s kind.Comma h = absurd (h refl)
 last_of d p w s other h = refl
 
-leads_last : (d p : ℕ) (w : Word) (s : Shape) (ts : List Token) → (next ts).kind ≢ kind.Comma → Leads (Must (rule.AfterArgument d p w s) ∷ []) (One (expected.EndOfCall p w s) ∷ []) ts ts
+pub leads_last : (d p : ℕ) (w : Word) (s : Shape) (ts : List Token) → (next ts).kind ≢ kind.Comma → Leads (Must (rule.AfterArgument d p w s) ∷ []) (One (expected.EndOfCall p w s) ∷ []) ts ts
 leads_last d p w s ts h = leads_rule (rule.AfterArgument d p w s) (expected.EndOfCall p w s) [] ts (last_of d p w s (next ts).kind h)
 
 pub counted_end : (d p : ℕ) (w : Word) (one : Shape) (ts here new : List Token) (items : Trees) (s : Shape) (result : Result Node Stop) → IsCountedSoFar d p w one ts items s here → (next here).kind ≢ kind.Comma → CloseDescends p w s items here result new → CountedDescends d p w one ts result new
@@ -323,7 +323,7 @@ as_misfit other h = refl
 pub fails_as : (ts : List Token) → (next ts).kind ≢ kind.As → Fails type_parts ts
 fails_as ts h = fails_with (One expected.Type ∷ One expected.Close ∷ []) (fails_one expected.As ts (as_misfit (next ts).kind h))
 
-leads_as : (ts mid : List Token) → (next ts).kind ≡ kind.As → mid ≡ after ts → Leads type_parts (One expected.Type ∷ One expected.Close ∷ []) ts mid
+pub leads_as : (ts mid : List Token) → (next ts).kind ≡ kind.As → mid ≡ after ts → Leads type_parts (One expected.Type ∷ One expected.Close ∷ []) ts mid
 unfolding fits found
 leads_as ts mid k m = leads_with (One expected.Type ∷ One expected.Close ∷ []) (leads_take expected.As ts mid (ap (fits expected.As) k) refl (λ e. cc) m)
 
@@ -339,7 +339,7 @@ type_known t (kind.Name v) w is_text n h = rw (n, h) refl
 type_known t (kind.QuotedName v) w is_text n h = rw (n, h) refl
 type_known t other w is_text n h = absurd n
 
-leads_type : (ts mid : List Token) (w : Word) (is_text : Bool) → IsNamed (next ts).kind w → type_of w ≡ Some is_text → mid ≡ after ts → Leads (One expected.Type ∷ []) [] ts mid
+pub leads_type : (ts mid : List Token) (w : Word) (is_text : Bool) → IsNamed (next ts).kind w → type_of w ≡ Some is_text → mid ≡ after ts → Leads (One expected.Type ∷ []) [] ts mid
 unfolding found
 leads_type ts mid w is_text n h m = leads_take expected.Type ts mid (type_fits (next ts).kind w n) (type_known (next ts) (next ts).kind w is_text n h) (named_no_end (next ts).kind w n) m
 
@@ -347,7 +347,7 @@ untyped_some : (t : Token) (o : Option Bool) → o ≡ None → untyped t o ≢ 
 untyped_some t None h = λ e. cc
 untyped_some t (Some is_text) h = absurd (cc)
 
-fails_type : (ts : List Token) (k : Kind) → (next ts).kind ≡ k → ((w : Word) → IsNamed k w → type_of w ≡ None) → Fails (One expected.Type ∷ []) ts
+pub fails_type : (ts : List Token) (k : Kind) → (next ts).kind ≡ k → ((w : Word) → IsNamed k w → type_of w ≡ None) → Fails (One expected.Type ∷ []) ts
 unfolding fits found type_fault
 fails_type ts (kind.Name v) e h = fails_found expected.Type ts (ap (fits expected.Type) e) (subst (λ (x : Kind). type_fault (next ts) x ≢ []) (sym e) (untyped_some (next ts) (type_of v) (h v refl)))
 fails_type ts (kind.QuotedName v) e h = fails_found expected.Type ts (ap (fits expected.Type) e) (subst (λ (x : Kind). type_fault (next ts) x ≢ []) (sym e) (untyped_some (next ts) (type_of v) (h v refl)))
@@ -383,7 +383,7 @@ pub fails_deep_cast : (d : ℕ) (ts : List Token) → (next ts).kind ≡ kind.Op
 unfolding fits found
 fails_deep_cast d ts k le = fails_with (Must (rule.Chain level.Or (deeper d)) ∷ type_parts) (fails_found (expected.Parenthesis d) ts (ap (fits (expected.Parenthesis d)) k) (past_limit d 64 (next ts) le))
 
-leads_cast : (d : ℕ) (ts mid : List Token) → (next ts).kind ≡ kind.Open → d < 64 → mid ≡ after ts → Leads (cast_parts d) (Must (rule.Chain level.Or (d + 1)) ∷ type_parts) ts mid
+pub leads_cast : (d : ℕ) (ts mid : List Token) → (next ts).kind ≡ kind.Open → d < 64 → mid ≡ after ts → Leads (cast_parts d) (Must (rule.Chain level.Or (d + 1)) ∷ type_parts) ts mid
 unfolding fits found
 leads_cast d ts mid k lt m =
     subst (λ (n : ℕ). Leads (cast_parts d) (Must (rule.Chain level.Or n) ∷ type_parts) ts mid) (deeper_is d lt)
@@ -408,7 +408,7 @@ cast_read d ts mid here new inner whole is_text k lt m h g e = record {
   reads = leads_on (leads_cast d ts mid k lt m) (leads_on (leads_with type_parts h.reads) g.reads);
 }
 
-leads_cast_word : (d : ℕ) (ts mid : List Token) → (next ts).kind ≡ kind.Cast → mid ≡ after ts → Leads (Must (rule.Atom d) ∷ []) (cast_parts d) ts mid
+pub leads_cast_word : (d : ℕ) (ts mid : List Token) → (next ts).kind ≡ kind.Cast → mid ≡ after ts → Leads (Must (rule.Atom d) ∷ []) (cast_parts d) ts mid
 unfolding atom_by fits found
 leads_cast_word d ts mid k m = leads_on (leads_rule (rule.Atom d) expected.Chosen (cast_parts d) ts (ap (atom_by d (next ts)) k)) (leads_with (cast_parts d) (leads_take expected.Chosen ts mid refl refl (λ e. cc) m))
 

@@ -10,3 +10,8 @@ pub mod Calls
 pub mod ReadSpelled
 pub mod Blanks
 pub mod Lexed
+pub mod SelectLists
+pub mod SelectArms
+pub mod Told
+pub mod SelectTold
+pub mod WholeTold

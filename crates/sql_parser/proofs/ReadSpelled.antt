@@ -41,7 +41,7 @@ above (chain level.Joined) = 7
 above signed = 8
 above atom = 9
 
-above_operand : (l : Level) → above (operand l) ≡ suc (above (chain l))
+pub above_operand : (l : Level) → above (operand l) ≡ suc (above (chain l))
 above_operand level.Or = refl
 above_operand level.And = refl
 above_operand level.Equal = refl
@@ -50,7 +50,7 @@ above_operand level.Sum = refl
 above_operand level.Product = refl
 above_operand level.Joined = refl
 
-above_small : (c : Class) → above c ≤ 9
+pub above_small : (c : Class) → above c ≤ 9
 above_small (chain level.Or) = omega arith
 above_small (chain level.And) = omega arith
 above_small negated = omega arith

@@ -1,11 +1,11 @@
 -- A whole expression, and the end behind it.
-use Rattle.std.proofs.Common.{◌≡◌, ◌≢◌, List, [], ◌∷◌, Bool, true, false, cond, ltb, Option, Some, None, refl, sym, subst, ◌∙◌}
+use Rattle.std.proofs.Common.{◌≡◌, ◌≢◌, List, [], ◌∷◌, Bool, true, false, cond, ltb, Option, Some, None, refl, sym, ap, subst, ◌∙◌}
 use Rattle.sql_parser.specs.declared.token.Token.{Token}
 use Rattle.sql_parser.specs.declared.error.ParseError.{ParseError}
 use Rattle.sql_parser.specs.declared.token.Kind.{Kind}
 use Rattle.sql_parser.specs.declared.token.Kind.TheVariants as kind
 use Rattle.sql_parser.specs.declared.level.Level.TheVariants as level
-use Rattle.sql_parser.specs.declared.part.Part.TheVariants.{One, Must}
+use Rattle.sql_parser.specs.declared.part.Part.TheVariants.{One, Must, May}
 use Rattle.sql_parser.specs.declared.part.Expected.TheVariants as expected
 use Rattle.sql_parser.specs.declared.part.Rule.TheVariants as rule
 use Rattle.sql_parser.specs.Tokens.{next}
@@ -14,7 +14,15 @@ use Rattle.sql_parser.specs.Grammar.{chain}
 use Rattle.sql_parser.specs.Reading.{faults, settled, fits, found, whole, least_from}
 use Rattle.sql_parser.specs.Descent.{Fails, IsRead}
 use Rattle.sql_parser.specs.Whole.{IsWhole}
-use Rattle.sql_parser.proofs.Laws.{leads_with, fails_later, fails_one}
+use Rattle.sql_parser.specs.declared.part.Optional.TheVariants as optional
+use Rattle.sql_parser.specs.Tokens.{after, is_end}
+use Rattle.sql_parser.specs.Select.{SelectTree}
+use Rattle.sql_parser.specs.SelectRead.{select_of_tokens, select_at, closing, closing_by, end_by}
+use Rattle.sql_parser.specs.SelectDescent.{IsFound, EndTold, select_parts, end_parts}
+use Rattle.sql_parser.specs.Descent.{Leads}
+use Rattle.sql_parser.specs.Reading.{whole_select, semicolon_by}
+use Rattle.sql_parser.proofs.SelectArms.{leads_word}
+use Rattle.sql_parser.proofs.Laws.{leads_with, leads_past, fails_later, fails_one}
 
 nothing_more : (ts : List Token) → faults [] ts ≡ []
 unfolding faults settled
@@ -54,3 +62,66 @@ some_least f (g ∷ gs) = let p = is_lesser (ltb g.place f.place) f g in subst (
 pub no_least : (fs : List ParseError) → least_from None fs ≡ None → fs ≡ []
 no_least [] e = refl
 no_least (f ∷ fs) e = absurd (some_least f fs e)
+
+-- ---- a whole select
+
+pub is_end_yes : (k : Kind) → is_end k ≡ true → k ≡ kind.End
+is_end_yes kind.End h = refl
+is_end_yes other h = absurd (cc)
+
+pub is_end_no : (k : Kind) → is_end k ≡ false → k ≢ kind.End
+is_end_no k h e = let p : is_end kind.End ≡ false = subst (λ (x : Kind). is_end x ≡ false) e h in cc
+
+end_at : (s : SelectTree) (k : Kind) → is_end k ≡ true → end_by s k ≡ Some s
+end_at s kind.End h = refl
+end_at s other h = absurd (cc)
+
+unclosed_out : (k : Kind) → k ≢ kind.Semicolon → semicolon_by k ≡ None
+unfolding semicolon_by
+unclosed_out kind.Semicolon h = absurd (h refl)
+unclosed_out other h = refl
+
+closing_out : (s : SelectTree) (ts : List Token) (k : Kind) → k ≢ kind.Semicolon → closing_by s ts k ≡ end_by s k
+closing_out s ts kind.Semicolon h = absurd (h refl)
+closing_out s ts other h = refl
+
+leads_semicolon : (ts mid : List Token) → (next ts).kind ≡ kind.Semicolon → mid ≡ after ts → Leads (May optional.Semicolon ∷ []) [] ts mid
+unfolding semicolon_by
+leads_semicolon ts mid h m = leads_word optional.Semicolon kind.Semicolon [] ts mid h (λ j. cc) refl m
+
+no_semicolon : (ts : List Token) → (next ts).kind ≢ kind.Semicolon → Leads (May optional.Semicolon ∷ []) [] ts ts
+no_semicolon ts h = leads_past optional.Semicolon ts (unclosed_out (next ts).kind h)
+
+no_end : (ts : List Token) → (next ts).kind ≢ kind.End → faults (One expected.End ∷ []) ts ≢ []
+no_end ts h = (fails_one expected.End ts (end_misfit (next ts).kind h)).holds []
+
+pub told_behind : (b : Bool) (ts mid : List Token) → (next ts).kind ≡ kind.Semicolon → mid ≡ after ts → b ≡ is_end (next mid).kind → EndTold ts b
+told_behind true ts mid h m e = (
+  (λ s. ap (closing_by s ts) h ∙ end_at s (next (after ts)).kind (subst (λ (x : List Token). is_end (next x).kind ≡ true) m (sym e))),
+  (leads_with (One expected.End ∷ []) (leads_semicolon ts mid h m)).holds [] ∙ ends mid (is_end_yes (next mid).kind (sym e)),
+)
+told_behind false ts mid h m e = λ f. no_end mid (is_end_no (next mid).kind (sym e)) (sym ((leads_with (One expected.End ∷ []) (leads_semicolon ts mid h m)).holds []) ∙ f)
+
+pub told_here : (b : Bool) (ts : List Token) → (next ts).kind ≢ kind.Semicolon → b ≡ is_end (next ts).kind → EndTold ts b
+told_here true ts h e = (
+  (λ s. closing_out s ts (next ts).kind h ∙ end_at s (next ts).kind (sym e)),
+  (leads_with (One expected.End ∷ []) (no_semicolon ts h)).holds [] ∙ ends ts (is_end_yes (next ts).kind (sym e)),
+)
+told_here false ts h e = λ f. no_end ts (is_end_no (next ts).kind (sym e)) (sym ((leads_with (One expected.End ∷ []) (no_semicolon ts h)).holds []) ∙ f)
+
+pub whole_select_read : (tokens rest : List Token) (tree : SelectTree) (b : Bool) → IsFound select_at select_parts [] tokens tree rest → EndTold rest b → b ≡ true → (select_of_tokens tokens ≡ Some tree) × (faults whole_select tokens ≡ [])
+unfolding select_of_tokens
+whole_select_read tokens rest tree true h t e = (ap closing h.read ∙ t.0 tree, h.leads.holds end_parts ∙ t.1)
+whole_select_read tokens rest tree false h t e = absurd (cc)
+
+pub whole_select_unended : (tokens rest : List Token) (tree : SelectTree) (b : Bool) → IsFound select_at select_parts [] tokens tree rest → EndTold rest b → b ≡ false → faults whole_select tokens ≢ []
+whole_select_unended tokens rest tree true h t e = absurd (cc)
+whole_select_unended tokens rest tree false h t e = λ f. t (sym (h.leads.holds end_parts) ∙ f)
+
+pub whole_select_stopped : (tokens : List Token) → Fails select_parts tokens → faults whole_select tokens ≢ []
+whole_select_stopped tokens h = h.holds end_parts
+
+-- a text within its bound that has no fault has none among its tokens
+pub no_fault : (b : Bool) (f : ParseError) (fs : List ParseError) → cond b (Some f) (least_from None fs) ≡ None → fs ≡ []
+no_fault true f fs e = absurd (cc)
+no_fault false f fs e = no_least fs e

@@ -12,4 +12,7 @@ pub mod Whole
 pub mod Read
 pub mod Words
 pub mod Lexing
+pub mod Select
+pub mod SelectRead
+pub mod SelectDescent
 pub mod Text

@@ -28,6 +28,10 @@ abbrev pub is_star : Kind → Bool
 is_star kind.Star = true
 is_star other = false
 
+abbrev pub is_end : Kind → Bool
+is_end kind.End = true
+is_end other = false
+
 -- the next three tokens are a name, a dot and `*`
 abbrev pub is_all_of : List Token → Bool
 is_all_of ts = is_name (next ts).kind && (is_dot (next (after ts)).kind && is_star (next (after (after ts))).kind)

@@ -305,7 +305,8 @@ fn list(alloc: Global, reader: &mut Reader<'_>, depth: usize) -> Result<Vec<Node
     Ok(items)
 }
 
-fn name_of(token: Token) -> Name
+/// The name that a token is.
+pub(crate) fn name_of(token: Token) -> Name
     ensures { result ≡ token_name token }
 {
     Name {

@@ -2,17 +2,22 @@
 #![tactic(auto)]
 
 pub mod arguments;
+mod clauses;
 pub mod copy;
+mod copy_select;
 mod descent;
 pub mod error;
 pub mod level;
 mod lexer;
+pub mod list;
 mod making;
-pub mod node_list;
 pub mod parse;
 pub mod part;
 mod reader;
 mod recognizer;
+pub mod select;
+#[cfg(test)]
+mod select_tests;
 mod stop;
 #[cfg(test)]
 mod tests;

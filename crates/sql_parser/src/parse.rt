@@ -1,23 +1,27 @@
 //! The tree of a text, or its least fault.
 
-ghost use Rattle.std.specs.Prelude.{List, ◌≡◌, ◌≢◌, OnOk, IfOk, Some, None};
+ghost use Rattle.std.specs.Prelude.{List, ℕ, ◌≡◌, ◌≢◌, OnOk, IfOk, Some, None};
 ghost use Rattle.sql_parser.specs.View.{tree_of};
-ghost use Rattle.sql_parser.specs.Reading.{first_fault, whole as whole_expression};
+ghost use Rattle.sql_parser.specs.Reading.{first_fault, whole as whole_expression, whole_select};
 ghost use Rattle.sql_parser.specs.Read.{tree_of_tokens};
 ghost use Rattle.sql_parser.specs.Tree.{Tree};
 ghost use Rattle.sql_parser.specs.Lexing.{tokens_of};
-ghost use Rattle.sql_parser.specs.Text.{expression_of, expression_fault, select_fault, too_long};
+ghost use Rattle.sql_parser.specs.Text.{expression_of, expression_fault, select_of_text, select_fault, too_long};
 ghost use Rattle.sql_parser.specs.Whole.{IsTree, WholeDescends};
+ghost use Rattle.sql_parser.specs.Select.{SelectTree, select_of};
+ghost use Rattle.sql_parser.specs.SelectRead.{select_of_tokens};
+ghost use Rattle.sql_parser.specs.SelectDescent.{SelectDescends};
 ghost use Rattle.sql_parser.specs.declared.error.ParseKind.TheVariants.{NoMemory};
 
 use crate::error::{ParseError, ParseKind};
 use crate::level::Level;
 use crate::reader::Reader;
+use crate::select::Select;
 use crate::stop::Stop;
 use crate::token::{Kind, Token};
 use crate::tree::Node;
-use crate::{descent, lexer, recognizer};
-use std::alloc::{AllocError, Global};
+use crate::{clauses, descent, lexer, recognizer};
+use std::alloc::Global;
 
 /// How many bytes a text may have.
 pub const MAX_BYTES: usize = 65536;
@@ -67,15 +71,50 @@ pub fn parse_expression(alloc: Global, text: &str) -> Result<Node, ParseError>
     parse_tokens(alloc, &tokens)
 }
 
-/// The least fault of a select's text, where it has one.
-pub fn fault_of_select(alloc: Global, text: &str) -> Result<Option<ParseError>, AllocError>
-    ensures { IfOk result (λ fault. fault ≡ select_fault text.now) }
+fn whole_select(alloc: Global, tokens: &[Token]) -> Result<Select, Stop>
+    ensures { SelectDescends tokens.now result }
+{
+    let mut reader = Reader::new(tokens);
+    let select = clauses::select(alloc, &mut reader)?;
+    if clauses::is_ended(&mut reader) {
+        Ok(select)
+    } else {
+        Err(Stop::Refused)
+    }
+}
+
+/// The tree that the grammar gives for the tokens of a select.
+fn parse_select(alloc: Global, tokens: &[Token]) -> Result<Select, ParseError>
+    ensures tree { IfOk result (λ select. select_of_tokens tokens.now ≡ Some (select_of select)) }
+    ensures accepted { OnOk result (first_fault whole_select tokens.now ≡ None) }
+    // The error is the least fault.
+    ensures refused { (error : ParseError) → result ≡ Err error → error.kind ≢ NoMemory → first_fault whole_select tokens.now ≡ Some error }
+{
+    match whole_select(alloc, tokens) {
+        Ok(select) => Ok(select),
+        Err(Stop::NoMemory) => Err(ParseError {
+            place: 0,
+            kind: ParseKind::NoMemory,
+        }),
+        Err(Stop::Refused) => match recognizer::select_fault(alloc, tokens)? {
+            Some(fault) => Err(fault),
+            None => unreachable!(),
+        },
+    }
+}
+
+/// The tree of a select's text, or its least fault.
+pub fn parse(alloc: Global, text: &str) -> Result<Select, ParseError>
+    ensures tree { IfOk result (λ select. select_of_text text.now ≡ Some (select_of select)) }
+    ensures accepted { OnOk result (select_fault text.now ≡ None) }
+    // The error is the least fault.
+    ensures refused { (error : ParseError) → result ≡ Err error → error.kind ≢ NoMemory → select_fault text.now ≡ Some error }
 {
     if text.len() > MAX_BYTES {
-        return Ok(Some(too_long()));
+        return Err(too_long());
     }
     let tokens = lexer::tokens_of(alloc, text.as_bytes())?;
-    recognizer::select_fault(alloc, &tokens)
+    parse_select(alloc, &tokens)
 }
 
 fn too_long() -> ParseError
@@ -95,4 +134,14 @@ pub fn one_tree()
 /// The tree of the tokens is the one that the reading computes.
 pub fn computed_tree()
     ensures { (tokens : List Token) → (tree : Tree) → IsTree tokens tree → tree_of_tokens tokens ≡ Some tree }
+{}
+
+/// A text that has no fault as an expression has a tree.
+pub fn faultless_expression()
+    ensures { (text : List ℕ) → expression_fault text ≡ None → (tree : Tree) × (expression_of text ≡ Some tree) }
+{}
+
+/// A text that has no fault as a select has a tree.
+pub fn faultless_select()
+    ensures { (text : List ℕ) → select_fault text ≡ None → (tree : SelectTree) × (select_of_text text ≡ Some tree) }
 {}

@@ -6,7 +6,8 @@ ghost use Rattle.sql_parser.specs.Tokens.{next, after, is_all_of, is_name, is_do
 use crate::token::{Kind, Span, Token};
 use std::marker::Model;
 
-fn is_name_kind(kind: Kind) -> bool
+/// Whether a token is a name.
+pub(crate) fn is_name_kind(kind: Kind) -> bool
     ensures { result ≡ is_name kind }
 {
     matches!(kind, Kind::Name(_) | Kind::QuotedName(_))

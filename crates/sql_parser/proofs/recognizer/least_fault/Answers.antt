@@ -1,4 +1,4 @@
-use Rattle.std.proofs.Common.{rules, ◌≡◌, ◌∙◌, ap, arith, take, drop, length, ◌-◌}
+use Rattle.std.proofs.Common.{◌∙◌, ap, arith, take, drop, length, ◌-◌}
 use Rattle.std.proofs.lemmas.List.{nil_from_length}
 use Rattle.sql_parser.specs.Stack.{expects}
 use Rattle.sql_parser.specs.Tokens.{is_all_of}

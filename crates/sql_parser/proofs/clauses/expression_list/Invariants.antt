@@ -1,0 +1,15 @@
+use Rattle.std.proofs.Common.{length, map, [], ◌∷◌}
+use Rattle.sql_parser.specs.declared.part.Part.TheVariants.{Must, May}
+use Rattle.sql_parser.specs.declared.part.Rule.TheVariants as rule
+use Rattle.sql_parser.specs.declared.part.Optional.TheVariants as optional
+use Rattle.sql_parser.specs.declared.level.Level.TheVariants as level
+use Rattle.sql_parser.specs.View.{tree_of}
+use Rattle.sql_parser.specs.SelectRead as read
+use Rattle.sql_parser.proofs.SelectLists.{IsSoFar}
+use Rattle.sql_parser.proofs.clauses.expression_list.Given as goal
+
+abbrev pub invariant-loop-reader : goal.invariant-loop-reader
+invariant-loop-reader l = IsSoFar (read.comma read.expression) (read.with_commas read.expression) (Must (rule.Chain level.Or 0) ∷ May (optional.Item 0) ∷ []) (May (optional.Item 0) ∷ []) l.fn.reader (map tree_of l.nodes) l.reader
+
+abbrev pub decreases-loop-reader : goal.decreases-loop-reader
+decreases-loop-reader l = length l.reader

@@ -1,0 +1,10 @@
+use Rattle.std.proofs.Common.{sym, ◌∙◌}
+use Rattle.sql_parser.specs.Reading.{faults, whole_select}
+use Rattle.sql_parser.proofs.Whole.{no_least}
+use Rattle.sql_parser.proofs.parse.parse_select.Goals as goal
+
+pub unreachable-requires : goal.unreachable-requires
+unreachable-requires c =
+    let none = no_least (faults whole_select c.args.tokens.now) (sym c.in_ok-fault-in-Err-Refused.ensures ∙ c.in-None.is) in
+    let h = rw c.in-Err-Refused.field-0-is at c.in-Err-Refused.ensures in
+    h none

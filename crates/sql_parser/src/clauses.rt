@@ -1,0 +1,525 @@
+//! The descent over the clauses of a select, with one token of look-ahead.
+
+ghost use Rattle.std.specs.Prelude.{◌≡◌, [], ◌∷◌, ◌++◌, map, option_map};
+ghost use Rattle.sql_parser.specs.declared.part.Part.TheVariants.{One, Must, May};
+ghost use Rattle.sql_parser.specs.declared.part.Expected.TheVariants as expected;
+ghost use Rattle.sql_parser.specs.declared.part.Rule.TheVariants as rule;
+ghost use Rattle.sql_parser.specs.declared.part.Optional.TheVariants as optional;
+ghost use Rattle.sql_parser.specs.declared.token.Kind.TheVariants as kind;
+ghost use Rattle.sql_parser.specs.declared.level.Level.TheVariants as level;
+ghost use Rattle.sql_parser.specs.View.{tree_of};
+ghost use Rattle.sql_parser.specs.Reading.{names_parts, source_parts, term_parts};
+ghost use Rattle.sql_parser.specs.Tokens.{next, is_end};
+ghost use Rattle.sql_parser.specs.Select.{item_of, ref_of, having_of, term_of, select_of};
+ghost use Rattle.sql_parser.specs.SelectRead as read;
+ghost use Rattle.sql_parser.specs.SelectDescent.{Took, IsFound, Finds, FormFound, form_parts, condition_parts, condition_tree, select_parts, EndTold};
+
+use crate::descent::{self, name_of};
+use crate::level::Level;
+use crate::reader::{Reader, is_name_kind};
+use crate::select::{
+    Having, Item, ItemList, NameList, NodeList, Select, TableRef, TableRefList, Term, TermList,
+};
+use crate::stop::Stop;
+use crate::token::{Clause, Kind, Span};
+use crate::tree::{Name, Node};
+use std::alloc::Global;
+
+/// How a further table is brought in.
+#[derive(Clone, Copy, Debug, PartialEq, Eq)]
+pub enum Form {
+    /// By FROM, a comma or CROSS JOIN: without a condition.
+    Plain,
+    /// By JOIN.
+    Inner,
+    /// By LEFT JOIN.
+    Outer,
+}
+
+/// Takes the next token where it is this word.
+fn take(reader: &mut Reader<'_>, word: Clause) -> bool
+    ensures { Took (kind.Clause word) reader.old result reader.new }
+{
+    match reader.peek().kind {
+        Kind::Clause(found) if found == word => {
+            reader.advance();
+            true
+        }
+        _ => false,
+    }
+}
+
+/// The name that stands next.
+fn name(reader: &mut Reader<'_>) -> Result<Name, Stop>
+    ensures { Finds (λ n. n) read.name (One expected.Name ∷ []) reader.old result reader.new }
+{
+    let token = reader.peek();
+    if !is_name_kind(token.kind) {
+        return Err(Stop::Refused);
+    }
+    reader.advance();
+    Ok(name_of(token))
+}
+
+/// What AS or a name alone calls an item or a table.
+fn alias(reader: &mut Reader<'_>) -> Result<Option<Name>, Stop>
+    ensures { Finds (λ n. n) read.alias (May optional.Alias ∷ []) reader.old result reader.new }
+{
+    let token = reader.peek();
+    if is_name_kind(token.kind) {
+        reader.advance();
+        return Ok(Some(name_of(token)));
+    }
+    let Kind::As = token.kind else {
+        return Ok(None);
+    };
+    reader.advance();
+    let alias = name(reader)?;
+    Ok(Some(alias))
+}
+
+/// An expression outside every parenthesis.
+fn expression(alloc: Global, reader: &mut Reader<'_>) -> Result<Node, Stop>
+    ensures { Finds tree_of read.expression (Must (rule.Chain level.Or 0) ∷ []) reader.old result reader.new }
+{
+    descent::chain(alloc, reader, Level::Or, 0)
+}
+
+/// SELECT, and whether DISTINCT follows.
+fn opening(reader: &mut Reader<'_>) -> Result<bool, Stop>
+    ensures { Finds (λ b. b) read.opening (One expected.Select ∷ May optional.Distinct ∷ []) reader.old result reader.new }
+{
+    if !take(reader, Clause::Select) {
+        return Err(Stop::Refused);
+    }
+    match reader.peek().kind {
+        Kind::Distinct => {
+            reader.advance();
+            Ok(true)
+        }
+        _ => Ok(false),
+    }
+}
+
+/// An item that is an expression.
+fn expression_item(alloc: Global, reader: &mut Reader<'_>) -> Result<Item, Stop>
+    ensures { Finds item_of read.expression_item (Must (rule.Chain level.Or 0) ∷ May optional.Alias ∷ []) reader.old result reader.new }
+{
+    let start = reader.peek().span.start;
+    let node = expression(alloc, reader)?;
+    let end = reader.peek().previous_end;
+    let alias = alias(reader)?;
+    Ok(Item::One {
+        node,
+        span: Span { start, end },
+        alias,
+    })
+}
+
+fn item(alloc: Global, reader: &mut Reader<'_>) -> Result<Item, Stop>
+    ensures { Finds item_of read.item (Must rule.SelectItem ∷ []) reader.old result reader.new }
+{
+    let token = reader.peek();
+    if reader.is_at_all_of() {
+        reader.advance();
+        reader.advance();
+        reader.advance();
+        return Ok(Item::AllOf {
+            table: name_of(token),
+        });
+    }
+    match token.kind {
+        Kind::Star => {
+            reader.advance();
+            Ok(Item::All {
+                place: token.span.start,
+            })
+        }
+        _ => expression_item(alloc, reader),
+    }
+}
+
+fn items(alloc: Global, reader: &mut Reader<'_>) -> Result<ItemList, Stop>
+    ensures { Finds (map item_of) (read.with_commas read.item) (Must rule.SelectItem ∷ May optional.SelectItems ∷ []) reader.old result reader.new }
+{
+    let mut items = ItemList::new(alloc);
+    let first = item(alloc, reader)?;
+    items.push(first)?;
+    while let Kind::Comma = reader.peek().kind {
+        reader.advance();
+        let further = item(alloc, reader)?;
+        items.push(further)?;
+    }
+    Ok(items)
+}
+
+/// JOIN, by which a table is brought in so.
+fn join(reader: &mut Reader<'_>, form: Form) -> Result<Option<Form>, Stop>
+    ensures { Finds (λ f. f) (read.join form) (One expected.Join ∷ []) reader.old result reader.new }
+{
+    if take(reader, Clause::Join) {
+        Ok(Some(form))
+    } else {
+        Err(Stop::Refused)
+    }
+}
+
+/// What follows LEFT.
+fn outer(reader: &mut Reader<'_>) -> Result<Option<Form>, Stop>
+    ensures { Finds (λ f. f) read.outer (Must rule.LeftJoin ∷ []) reader.old result reader.new }
+{
+    take(reader, Clause::Outer);
+    join(reader, Form::Outer)
+}
+
+/// How the word that stands next brings a further table in.
+fn form_of_word(reader: &mut Reader<'_>, word: Clause) -> Result<Option<Form>, Stop>
+    requires { (next reader.old).kind ≡ kind.Clause word }
+    ensures { FormFound reader.old result reader.new }
+{
+    match word {
+        Clause::Cross => {
+            reader.advance();
+            join(reader, Form::Plain)
+        }
+        Clause::Join => {
+            reader.advance();
+            Ok(Some(Form::Inner))
+        }
+        Clause::Inner => {
+            reader.advance();
+            join(reader, Form::Inner)
+        }
+        Clause::Left => {
+            reader.advance();
+            outer(reader)
+        }
+        _ => Ok(None),
+    }
+}
+
+/// How a further table is brought in, where there is one.
+fn join_form(reader: &mut Reader<'_>) -> Result<Option<Form>, Stop>
+    ensures { FormFound reader.old result reader.new }
+{
+    match reader.peek().kind {
+        Kind::Comma => {
+            reader.advance();
+            Ok(Some(Form::Plain))
+        }
+        Kind::Clause(word) => form_of_word(reader, word),
+        _ => Ok(None),
+    }
+}
+
+fn name_list(alloc: Global, reader: &mut Reader<'_>) -> Result<NameList, Stop>
+    ensures { Finds (λ n. n) (read.with_commas read.name) (One expected.Name ∷ May optional.Names ∷ []) reader.old result reader.new }
+{
+    let mut names = NameList::new(alloc);
+    let first = name(reader)?;
+    names.push(first)?;
+    while let Kind::Comma = reader.peek().kind {
+        reader.advance();
+        let further = name(reader)?;
+        names.push(further)?;
+    }
+    Ok(names)
+}
+
+/// The names of USING in their parentheses.
+fn names(alloc: Global, reader: &mut Reader<'_>) -> Result<NameList, Stop>
+    ensures { Finds (λ n. n) read.names names_parts reader.old result reader.new }
+{
+    let Kind::Open = reader.peek().kind else {
+        return Err(Stop::Refused);
+    };
+    reader.advance();
+    let names = name_list(alloc, reader)?;
+    let Kind::Close = reader.peek().kind else {
+        return Err(Stop::Refused);
+    };
+    reader.advance();
+    Ok(names)
+}
+
+/// ON or USING.
+fn condition(alloc: Global, reader: &mut Reader<'_>) -> Result<(Option<Node>, NameList), Stop>
+    ensures { Finds condition_tree read.condition (May optional.Condition ∷ []) reader.old result reader.new }
+{
+    if take(reader, Clause::On) {
+        let node = expression(alloc, reader)?;
+        return Ok((Some(node), NameList::new(alloc)));
+    }
+    if take(reader, Clause::Using) {
+        let names = names(alloc, reader)?;
+        return Ok((None, names));
+    }
+    Ok((None, NameList::new(alloc)))
+}
+
+/// The condition of a table that is brought in so.
+fn condition_of(
+    alloc: Global,
+    reader: &mut Reader<'_>,
+    form: Form,
+) -> Result<(Option<Node>, NameList), Stop>
+    ensures { Finds condition_tree (read.condition_of form) (condition_parts form) reader.old result reader.new }
+{
+    match form {
+        Form::Plain => Ok((None, NameList::new(alloc))),
+        Form::Inner | Form::Outer => condition(alloc, reader),
+    }
+}
+
+fn is_outer(form: Form) -> bool
+    ensures { result ≡ read.is_outer form }
+{
+    matches!(form, Form::Outer)
+}
+
+/// A table that is brought in so.
+fn source(alloc: Global, reader: &mut Reader<'_>, form: Form) -> Result<TableRef, Stop>
+    ensures { Finds ref_of (read.source form) (form_parts form) reader.old result reader.new }
+{
+    let table = name(reader)?;
+    let alias = alias(reader)?;
+    let (on, using) = condition_of(alloc, reader, form)?;
+    Ok(TableRef {
+        table,
+        alias,
+        is_outer: is_outer(form),
+        on,
+        using,
+    })
+}
+
+fn source_list(alloc: Global, reader: &mut Reader<'_>) -> Result<TableRefList, Stop>
+    ensures { Finds (map ref_of) (read.listed (read.source Form.Plain) read.further_source) (source_parts ++ May optional.Sources ∷ []) reader.old result reader.new }
+{
+    let mut sources = TableRefList::new(alloc);
+    let first = source(alloc, reader, Form::Plain)?;
+    sources.push(first)?;
+    while let Some(form) = join_form(reader)? {
+        let further = source(alloc, reader, form)?;
+        sources.push(further)?;
+    }
+    Ok(sources)
+}
+
+/// The tables of FROM.
+fn sources(alloc: Global, reader: &mut Reader<'_>) -> Result<TableRefList, Stop>
+    ensures { Finds (map ref_of) read.sources (May optional.From ∷ []) reader.old result reader.new }
+{
+    if take(reader, Clause::From) {
+        source_list(alloc, reader)
+    } else {
+        Ok(TableRefList::new(alloc))
+    }
+}
+
+/// The condition of WHERE.
+fn filter(alloc: Global, reader: &mut Reader<'_>) -> Result<Option<Node>, Stop>
+    ensures { Finds (option_map tree_of) read.filter (May optional.Where ∷ []) reader.old result reader.new }
+{
+    if !take(reader, Clause::Where) {
+        return Ok(None);
+    }
+    let node = expression(alloc, reader)?;
+    Ok(Some(node))
+}
+
+fn expression_list(alloc: Global, reader: &mut Reader<'_>) -> Result<NodeList, Stop>
+    ensures { Finds (map tree_of) (read.with_commas read.expression) (Must (rule.Chain level.Or 0) ∷ May (optional.Item 0) ∷ []) reader.old result reader.new }
+{
+    let mut nodes = NodeList::new(alloc);
+    let first = expression(alloc, reader)?;
+    nodes.push(first)?;
+    while let Kind::Comma = reader.peek().kind {
+        reader.advance();
+        let further = expression(alloc, reader)?;
+        nodes.push(further)?;
+    }
+    Ok(nodes)
+}
+
+/// The expressions of GROUP BY.
+fn keys(alloc: Global, reader: &mut Reader<'_>) -> Result<NodeList, Stop>
+    ensures { Finds (map tree_of) read.keys (May optional.Group ∷ []) reader.old result reader.new }
+{
+    if !take(reader, Clause::Group) {
+        return Ok(NodeList::new(alloc));
+    }
+    if !take(reader, Clause::By) {
+        return Err(Stop::Refused);
+    }
+    expression_list(alloc, reader)
+}
+
+/// The condition of HAVING.
+fn having(alloc: Global, reader: &mut Reader<'_>) -> Result<Option<Having>, Stop>
+    ensures { Finds (option_map having_of) read.having (May optional.Having ∷ []) reader.old result reader.new }
+{
+    let place = reader.peek().span.start;
+    if !take(reader, Clause::Having) {
+        return Ok(None);
+    }
+    let node = expression(alloc, reader)?;
+    Ok(Some(Having { place, node }))
+}
+
+/// Whether a term is descending.
+fn direction(reader: &mut Reader<'_>) -> bool
+    ensures { IsFound read.direction (May optional.Direction ∷ []) [] reader.old result reader.new }
+{
+    if take(reader, Clause::Asc) {
+        return false;
+    }
+    take(reader, Clause::Desc)
+}
+
+fn term(alloc: Global, reader: &mut Reader<'_>) -> Result<Term, Stop>
+    ensures { Finds term_of read.term term_parts reader.old result reader.new }
+{
+    let node = expression(alloc, reader)?;
+    let is_descending = direction(reader);
+    Ok(Term {
+        node,
+        is_descending,
+    })
+}
+
+fn term_list(alloc: Global, reader: &mut Reader<'_>) -> Result<TermList, Stop>
+    ensures { Finds (map term_of) (read.with_commas read.term) (term_parts ++ May optional.Terms ∷ []) reader.old result reader.new }
+{
+    let mut terms = TermList::new(alloc);
+    let first = term(alloc, reader)?;
+    terms.push(first)?;
+    while let Kind::Comma = reader.peek().kind {
+        reader.advance();
+        let further = term(alloc, reader)?;
+        terms.push(further)?;
+    }
+    Ok(terms)
+}
+
+/// The terms of ORDER BY.
+fn terms(alloc: Global, reader: &mut Reader<'_>) -> Result<TermList, Stop>
+    ensures { Finds (map term_of) read.terms (May optional.Order ∷ []) reader.old result reader.new }
+{
+    if !take(reader, Clause::Order) {
+        return Ok(TermList::new(alloc));
+    }
+    if !take(reader, Clause::By) {
+        return Err(Stop::Refused);
+    }
+    term_list(alloc, reader)
+}
+
+/// A number without a sign.
+fn number(reader: &mut Reader<'_>) -> Result<i64, Stop>
+    ensures { Finds (λ n. n) read.number (One expected.Number ∷ []) reader.old result reader.new }
+{
+    let Kind::Number(value) = reader.peek().kind else {
+        return Err(Stop::Refused);
+    };
+    match value {
+        Some(number) => {
+            reader.advance();
+            Ok(number)
+        }
+        None => Err(Stop::Refused),
+    }
+}
+
+/// Minus the size of a number. A token's number has no sign, so that this is its negative.
+fn minus(number: i64) -> i64
+    ensures { result ≡ read.minus number }
+{
+    if number > 0 { -number } else { number }
+}
+
+/// A number with or without a sign.
+fn integer(reader: &mut Reader<'_>) -> Result<i64, Stop>
+    ensures { Finds (λ n. n) read.integer (Must rule.Integer ∷ []) reader.old result reader.new }
+{
+    match reader.peek().kind {
+        Kind::Plus => {
+            reader.advance();
+            number(reader)
+        }
+        Kind::Minus => {
+            reader.advance();
+            let size = number(reader)?;
+            Ok(minus(size))
+        }
+        _ => number(reader),
+    }
+}
+
+/// The number of OFFSET.
+fn offset(reader: &mut Reader<'_>) -> Result<Option<i64>, Stop>
+    ensures { Finds (λ n. n) read.offset (May optional.Offset ∷ []) reader.old result reader.new }
+{
+    if !take(reader, Clause::Offset) {
+        return Ok(None);
+    }
+    let skip = integer(reader)?;
+    Ok(Some(skip))
+}
+
+/// The numbers of LIMIT and OFFSET.
+fn limits(reader: &mut Reader<'_>) -> Result<(Option<i64>, Option<i64>), Stop>
+    ensures { Finds (λ n. n) read.limits (May optional.Limit ∷ []) reader.old result reader.new }
+{
+    if !take(reader, Clause::Limit) {
+        return Ok((None, None));
+    }
+    let limit = integer(reader)?;
+    let skip = offset(reader)?;
+    Ok((Some(limit), skip))
+}
+
+/// A whole select, before what may end its text.
+pub(crate) fn select(alloc: Global, reader: &mut Reader<'_>) -> Result<Select, Stop>
+    ensures { Finds select_of read.select_at select_parts reader.old result reader.new }
+{
+    let is_distinct = opening(reader)?;
+    let items = items(alloc, reader)?;
+    let sources = sources(alloc, reader)?;
+    let filter = filter(alloc, reader)?;
+    let keys = keys(alloc, reader)?;
+    let having = having(alloc, reader)?;
+    let terms = terms(alloc, reader)?;
+    let (limit, skip) = limits(reader)?;
+    Ok(Select {
+        is_distinct,
+        items,
+        sources,
+        filter,
+        keys,
+        having,
+        terms,
+        limit,
+        skip,
+    })
+}
+
+fn is_end_kind(kind: Kind) -> bool
+    ensures { result ≡ is_end kind }
+{
+    matches!(kind, Kind::End)
+}
+
+/// Whether the text ends here, with or without a semicolon.
+pub(crate) fn is_ended(reader: &mut Reader<'_>) -> bool
+    ensures { EndTold reader.old result }
+{
+    let kind = reader.peek().kind;
+    match kind {
+        Kind::Semicolon => {
+            reader.advance();
+            is_end_kind(reader.peek().kind)
+        }
+        _ => is_end_kind(kind),
+    }
+}
