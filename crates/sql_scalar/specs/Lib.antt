@@ -1,0 +1,11 @@
+pub mod Arithmetic
+pub mod Choices
+pub mod Comparison
+pub mod Finds
+pub mod Functions
+pub mod Likeness
+pub mod Operators
+pub mod Texts
+pub mod Truth
+pub mod Turns
+pub mod Windows

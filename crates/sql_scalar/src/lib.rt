@@ -1,0 +1,22 @@
+//! The operators and the scalar functions of SQL on values.
+#![tactic(auto)]
+
+mod arithmetic;
+mod characters;
+mod choices;
+mod comparison;
+mod finds;
+mod functions;
+mod like;
+mod logic;
+mod operators;
+mod texts;
+mod windows;
+
+pub use arithmetic::minus;
+pub use functions::call;
+pub use logic::{negation, truth};
+pub use operators::apply;
+
+#[cfg(test)]
+mod tests;
