@@ -1,0 +1,52 @@
+-- How wide the tables of the catalogue are, and where the columns of FROM stand.
+use Rattle.std.proofs.Common.{◌≡◌, ℕ, ◌≤◌, ◌+◌, ◌*◌, ◌<◌, ◌^◌, ◌++◌, List, [], ◌∷◌, length, map, arith, append_assoc, refl, suc, zero, take, get_or, sym, subst}
+use Rattle.std.specs.Prelude.{slice_get}
+use Rattle.std.specs.Option.{option_map_or}
+use Rattle.osq_value.specs.Catalogue.{Table, tables, columns_of}
+use Rattle.sql_parser.specs.Select.{RefTree}
+use Rattle.sql_names.specs.declared.scope.Seen.{Seen}
+use Rattle.sql_names.specs.Scope.{columns_seen, source_column, seen_at, scope_from, IsNarrow, AreNarrow, table_number}
+use Rattle.sql_names.specs.Spelling.{name_text}
+use Rattle.std.proofs.lemmas.List.{length-map}
+
+columns_in : List Table → ℕ → ℕ
+columns_in known id = length (option_map_or (λ (found : Table). found.columns) (slice_get known id) [])
+
+AreFew : List Table → Type 0
+AreFew [] = Unit {0}
+AreFew (table ∷ rest) = (length table.columns ≤ 13) × AreFew rest
+
+few_in : (known : List Table) → AreFew known → (id : ℕ) → columns_in known id ≤ 13
+unfolding columns_in AreFew
+few_in [] few id = omega arith
+few_in (table ∷ rest) few zero = few.0
+few_in (table ∷ rest) few (suc id) = few_in rest few.1 id
+
+all_few : AreFew tables
+unfolding tables AreFew
+all_few = (omega arith, (omega arith, (omega arith, (omega arith, (omega arith, (omega arith, (omega arith, (omega arith, (omega arith, (omega arith, (omega arith, (omega arith, (omega arith, (omega arith, (omega arith, tt)))))))))))))))
+
+pub columns_few : (id : ℕ) → length (columns_of id) ≤ 13
+unfolding columns_of columns_in
+columns_few id = few_in tables all_few id
+
+pub seen_few : (text : List ℕ) (ref : RefTree) → length (columns_seen text ref) ≤ 13
+seen_few text ref = let few = columns_few (table_number (name_text text ref.table)) in rw (length-map) few
+
+pub scope_step : (text : List ℕ) (before : List Seen) (source at width : ℕ) (ref : RefTree) (refs : List RefTree) → width ≡ length (columns_seen text ref) → (before ++ seen_at text source at ref ∷ []) ++ scope_from text (source + 1) (at + width) refs ≡ before ++ scope_from text source at (ref ∷ refs)
+scope_step text before source at width ref refs e = rw (e, append_assoc) refl
+
+pub scope_narrow : (text : List ℕ) (source at : ℕ) (refs : List RefTree) → at + 13 * length refs < 2 ^ 32 → AreNarrow (scope_from text source at refs)
+scope_narrow text source at [] small = tt
+scope_narrow text source at (ref ∷ refs) small = let few = seen_few text ref in (omega arith, scope_narrow text (source + 1) (at + length (columns_seen text ref)) refs (omega arith))
+
+pub narrow_take : (scope : List Seen) (n : ℕ) → AreNarrow scope → AreNarrow (take n scope)
+narrow_take [] zero narrow = tt
+narrow_take [] (suc n) narrow = tt
+narrow_take (seen ∷ scope) zero narrow = tt
+narrow_take (seen ∷ scope) (suc n) narrow = (narrow.0, narrow_take scope n narrow.1)
+
+pub narrow_at : (scope : List Seen) (n : ℕ) (seen : Seen) → AreNarrow scope → n < length scope → seen ≡ get_or scope n seen → IsNarrow seen
+narrow_at [] n seen narrow within at = absurd (omega arith)
+narrow_at (first ∷ scope) zero seen narrow within at = subst IsNarrow (sym at) narrow.0
+narrow_at (first ∷ scope) (suc n) seen narrow within at = narrow_at scope n seen narrow.1 (omega arith) at

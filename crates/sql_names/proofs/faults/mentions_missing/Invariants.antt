@@ -1,0 +1,9 @@
+use Rattle.std.proofs.Common.{◌≡◌, drop, map, length}
+use Rattle.sql_names.specs.declared.mention.Mention.{Mention}
+use Rattle.sql_names.specs.Kinds.{names_in, mentioned_missing}
+use Rattle.sql_names.specs.Least.{lesser, least}
+use Rattle.sql_names.specs.Shown.{names_of}
+use Rattle.sql_names.proofs.faults.mentions_missing.Given as goal
+
+abbrev pub invariant-loop-mention : goal.invariant-loop-mention
+invariant-loop-mention l = lesser l.place (least (map (λ (m : Mention). mentioned_missing (names_in (names_of l.names) m.clause) m.what) (drop l.mention-index l.found))) ≡ least (map (λ (m : Mention). mentioned_missing (names_in (names_of l.names) m.clause) m.what) l.found)

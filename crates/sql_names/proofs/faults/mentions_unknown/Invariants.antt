@@ -1,0 +1,9 @@
+use Rattle.std.proofs.Common.{◌≡◌, drop, map}
+use Rattle.sql_names.specs.declared.mention.Mention.{Mention}
+use Rattle.sql_names.specs.Kinds.{mentioned_unknown}
+use Rattle.sql_names.specs.Least.{lesser, least}
+use Rattle.sql_names.specs.Shown.{names_of}
+use Rattle.sql_names.proofs.faults.mentions_unknown.Given as goal
+
+abbrev pub invariant-loop-mention : goal.invariant-loop-mention
+invariant-loop-mention l = lesser l.place (least (map (λ (m : Mention). mentioned_unknown (names_of l.names) m.what) ((drop l.mention-index l.found)))) ≡ least (map (λ (m : Mention). mentioned_unknown (names_of l.names) m.what) (l.found))

@@ -1,0 +1,7 @@
+use Rattle.std.proofs.Common.{◌≡◌, ◌++◌, drop, take, map, length}
+use Rattle.sql_names.specs.Resolved.{result_of, result_tree}
+use Rattle.sql_names.specs.Shown.{shown_of}
+use Rattle.sql_names.proofs.making.items_of.Given as goal
+
+abbrev pub invariant-loop-column : goal.invariant-loop-column
+invariant-loop-column l = map result_of l.items ≡ map result_tree (map shown_of l.yielded)

@@ -1,0 +1,8 @@
+use Rattle.std.proofs.Common.{◌≡◌, ◌++◌, drop, take, map, length}
+use Rattle.sql_names.specs.Resolved.{joined_name}
+use Rattle.sql_names.specs.Shown.{names_of}
+use Rattle.sql_names.specs.View.{expr_of}
+use Rattle.sql_names.proofs.making.push_equalities.Given as goal
+
+abbrev pub invariant-loop-name : goal.invariant-loop-name
+invariant-loop-name l = map expr_of l.parts.items ≡ map expr_of l.initial.parts.items ++ map (joined_name (names_of l.names) l.number) (take l.name-index l.joined)

@@ -1,0 +1,15 @@
+pub mod Spelling
+pub mod Scope
+pub mod Exprs
+pub mod Mentions
+pub mod View
+pub mod Shown
+pub mod Naming
+pub mod Least
+pub mod Results
+pub mod Kinds
+pub mod Resolved
+pub mod Same
+pub mod Bare
+pub mod Resolve
+pub mod Answers
