@@ -2,11 +2,12 @@
 use Rattle.std.proofs.Common.{◌≡◌, ◌⊎◌, inl, inr, ℕ, Bool, true, false, List, [], ◌∷◌, ◌++◌, length, take, refl, sym, ap, ◌∙◌, subst, append-nil, Some, Ok, Err}
 use Rattle.std.specs.Prelude.{Result}
 use Rattle.std.proofs.Math.Seq.{take-length}
-use Rattle.osq_value.specs.declared.value.Event.{Event}
 use Rattle.entry_model.specs.declared.entry.Entry.{Entry}
 use Rattle.entry_model.specs.Values.{commits, last_number}
 use Rattle.result_batches.specs.Lines.{AreResults}
-use Rattle.osq_program.specs.Lines.{IsStep, IsWhole, IsFull}
+use Rattle.publisher_core.specs.declared.record.SourceKind.{SourceKind}
+use Rattle.osq_program.specs.declared.intake.Intake.{Intake}
+use Rattle.osq_program.specs.Intake.{IsStep, IsWhole, IsFull}
 use Rattle.osq_program.specs.Session.{IsFirstSession}
 use Rattle.osq_program.specs.Run.{Ran, HasTotals, IsPartlyWritten}
 use Rattle.osq_program.specs.Report.{final_text, final_line, spent_line}
@@ -44,22 +45,22 @@ all_written host keeper_tells kept entries before after lines same results writt
     front_written host keeper_tells kept entries before after lines (length lines) same results (written ∙ ap (λ (l : List ℕ). before ++ l) (sym (take-length lines)))
 
 -- a step, whether it came to the end or was full before
-step_by_end : (bytes : List ℕ) (taken : ℕ) (events : List Event) (is_end : Bool) → (is_end ≡ true → IsWhole bytes taken events) → (is_end ≡ false → IsFull bytes taken events) → IsStep bytes taken events
-step_by_end bytes taken events true whole full = (whole refl).step
-step_by_end bytes taken events false whole full = (full refl).step
+step_by_end : (kind : SourceKind) (bytes : List ℕ) (intake : Intake) (is_end : Bool) → (is_end ≡ true → IsWhole kind bytes intake) → (is_end ≡ false → IsFull kind bytes intake) → IsStep kind bytes intake
+step_by_end kind bytes intake true whole full = (whole refl).step
+step_by_end kind bytes intake false whole full = (full refl).step
 
-pub ran : (source_tells : Type 0) (bytes source : List ℕ) (moment taken : ℕ) (events : List Event) (is_end : Bool) (entries kept : List Entry) → kept ≡ entries
-    → IsFirstSession entries source moment taken events → (source_tells → is_end ≡ true → IsWhole bytes taken events) → (source_tells → is_end ≡ false → IsFull bytes taken events)
-    → Ran source_tells bytes source moment kept
-ran source_tells bytes source moment taken events is_end entries kept same session whole full =
-    subst (Ran source_tells bytes source moment) (sym same)
-    (record { taken = taken; events = events; session = session; step = λ told. step_by_end bytes taken events is_end (whole told) (full told) })
+pub ran : (kind : SourceKind) (source_tells : Type 0) (bytes source : List ℕ) (moment : ℕ) (intake : Intake) (is_end : Bool) (entries kept : List Entry) → kept ≡ entries
+    → IsFirstSession entries source moment intake → (source_tells → is_end ≡ true → IsWhole kind bytes intake) → (source_tells → is_end ≡ false → IsFull kind bytes intake)
+    → Ran kind source_tells bytes source moment kept
+ran kind source_tells bytes source moment intake is_end entries kept same session whole full =
+    subst (Ran kind source_tells bytes source moment) (sym same)
+    (record { intake = intake; session = session; step = λ told. step_by_end kind bytes intake is_end (whole told) (full told) })
 
 -- the numbers of a session's list
-pub totals : (entries : List Entry) (source : List ℕ) (moment taken : ℕ) (events : List Event) (count : ℕ) → IsFirstSession entries source moment taken events
-    → (taken ≡ 0 → events ≡ []) → count ≡ length events → HasTotals entries count 1
-totals entries source moment taken events count session nothing count_is =
-    let one = one_batch moment source taken events nothing in
+pub totals : (entries : List Entry) (source : List ℕ) (moment : ℕ) (intake : Intake) (count : ℕ) → IsFirstSession entries source moment intake
+    → (intake.taken ≡ 0 → intake.events ≡ []) → count ≡ length intake.events → HasTotals entries count 1
+totals entries source moment intake count session nothing count_is =
+    let one = one_batch moment source intake nothing in
     subst (λ (es : List Entry). HasTotals es count 1) (sym session.exact) (record { last = one.last ∙ sym count_is; count = ap length one.batches; acked = one.acked })
 
 -- a text was written, or by a fault a front part of it

@@ -39,7 +39,6 @@ pub record Causes : Type 1 where
   pub kept : Type 0  -- a kept list that isn't empty
   pub moment : ℕ → Type 0  -- this moment of the clock
   pub source : List ℕ → Type 0  -- a fault of the source of this name
-  pub line : Type 0  -- a line in another form
   pub sink : Type 0  -- a fault of a sink
 
 abbrev pub no_causes : Causes
@@ -51,7 +50,6 @@ no_causes = record {
   kept = ⊥;
   moment = λ moment. ⊥;
   source = λ name. ⊥;
-  line = ⊥;
   sink = ⊥;
 }
 
@@ -67,7 +65,7 @@ IsCaused c (SourceFault name) = c.source name
 IsCaused c SinkFault = c.sink
 IsCaused c TicksSpent = ⊥
 IsCaused c OutOfMemory = Unit {0}
-IsCaused c (NotBuilt what) = ((what ≡ codes "config") × c.config) ⊎ ((what ≡ codes "kept") × c.kept) ⊎ ((what ≡ codes "line") × c.line)
+IsCaused c (NotBuilt what) = ((what ≡ codes "config") × c.config) ⊎ ((what ≡ codes "kept") × c.kept)
 
 -- the run ended before its session was done
 abbrev pub IsRefusal : Status → Type 0
@@ -87,8 +85,8 @@ abbrev pub IsRead : (ℕ → Type 0) → Type 0
 IsRead reads = (moment : ℕ) × reads moment × (moment ≤ LAST_MOMENT)
 
 -- the causes of a replay, in the order in which the run meets them: each carries what was passed before it
-abbrev pub replay_causes : (files missing config known keeper kept empty : Type 0) (reads : ℕ → Type 0) (name : List ℕ) (source line sink : Type 0) → Causes
-replay_causes files missing config known keeper kept empty reads name source line sink =
+abbrev pub replay_causes : (files missing config known keeper kept empty : Type 0) (reads : ℕ → Type 0) (name : List ℕ) (source sink : Type 0) → Causes
+replay_causes files missing config known keeper kept empty reads name source sink =
     record {
       files = files;
       missing = missing;
@@ -97,6 +95,5 @@ replay_causes files missing config known keeper kept empty reads name source lin
       kept = known × kept;
       moment = λ moment. known × empty × reads moment × (LAST_MOMENT < moment);
       source = λ told. known × empty × IsRead reads × (told ≡ name) × source;
-      line = known × empty × IsRead reads × line;
       sink = known × empty × IsRead reads × sink;
     }

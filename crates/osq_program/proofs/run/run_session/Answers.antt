@@ -1,4 +1,5 @@
 use Rattle.std.proofs.Common.{◌≡◌, ◌⊎◌, inl, inr, ◌∙◌, ◌++◌, ap, List, ℕ}
+use Rattle.osq_program.specs.Kinds.{kind_of}
 use Rattle.osq_program.specs.Run.{Ran}
 use Rattle.osq_program.proofs.Ended.{unwritten, ran, totals}
 use Rattle.osq_program.proofs.run.run_session.Goals as goal
@@ -16,7 +17,7 @@ pub returns-in-Err-keep-clause-kept : goal.returns-in-Err-keep-clause-kept
 returns-in-Err-keep-clause-kept g c = λ told. by_case (c.in-Err-keep.ensures.whole told) where
   by_case : (g.K.Keeper.kept c.keep.new.keeper ≡ g.K.Keeper.kept c.args.keeper.now) ⊎ (g.K.Keeper.kept c.keep.new.keeper ≡ c.in-Ok-prepare.prepared.entries)
       → (g.K.Keeper.kept c.keep.new.keeper ≡ g.K.Keeper.kept c.args.keeper.now)
-      ⊎ Ran g.S.Source.tells (g.S.Source.left c.args.source.now) c.args.words.now.source.now c.args.moment (g.K.Keeper.kept c.keep.new.keeper)
+      ⊎ Ran (kind_of c.args.words.now.is_audit) g.S.Source.tells (g.S.Source.left c.args.source.now) c.args.words.now.source.now c.args.moment (g.K.Keeper.kept c.keep.new.keeper)
   by_case (inl same) = inl same
   by_case (inr grown) = inr (ran _ _ _ _ _ _ _ _ _ grown c.in-Ok-prepare.ensures.session c.in-Ok.ensures.whole c.in-Ok.ensures.full)
 
@@ -24,8 +25,7 @@ pub returns-in-Ok-write_all-clause-done : goal.returns-in-Ok-write_all-clause-do
 returns-in-Ok-write_all-clause-done g c = (
   c.in-Ok-prepare.prepared.entries,
   record {
-    taken = c.in-Ok.intake.taken;
-    events = c.in-Ok.intake.events;
+    intake = c.in-Ok.intake;
     session = c.in-Ok-prepare.ensures.session;
     whole = c.in-Ok.ensures.whole;
     full = c.in-Ok.ensures.full;
@@ -35,7 +35,7 @@ returns-in-Ok-write_all-clause-done g c = (
     results = c.in-Ok-prepare.ensures.lines;
     written = λ told. c.in-Ok-write_all.ensures.bytes told ∙ ap (λ (l : List ℕ). g.O.Sink.written c.args.results.now ++ l) c.as_slice.ensures;
   },
-  totals _ _ _ _ _ _ c.in-Ok-prepare.ensures.session c.in-Ok.ensures.shape.nothing c.len-events.ensures,
+  totals _ _ _ _ _ c.in-Ok-prepare.ensures.session c.in-Ok.ensures.shape.nothing c.len-events.ensures,
 )
 
 pub returns-in-Ok-write_all-clause-kept : goal.returns-in-Ok-write_all-clause-kept
