@@ -1,17 +1,16 @@
 -- What is given of the lines of a stream, as more of them are taken.
-use Rattle.std.proofs.Common.{◌≡◌, ◌⊎◌, inl, inr, ℕ, zero, suc, ◌+◌, ◌<◌, ◌≤◌, Bool, true, false, List, [], ◌∷◌, ◌++◌, length, take, drop, flat_map, refl, sym, ap, subst, ◌∙◌, arith, append_assoc, length-append, Option, Some, None}
+use Rattle.std.proofs.Common.{◌≡◌, ℕ, zero, suc, ◌+◌, ◌<◌, List, [], ◌∷◌, ◌++◌, length, take, flat_map, refl, sym, ap, subst, ◌∙◌, arith, append_assoc, length-append, Option, Some, None}
 use Rattle.std.specs.List.{AllZip}
-use Rattle.std.proofs.lemmas.List.{append-nil, take-append-drop, nil_from_length}
+use Rattle.std.proofs.lemmas.List.{append-nil, nil_from_length}
 use Rattle.std.proofs.lemmas.Grind.{flat_map-append}
 use Rattle.std.proofs.Math.Seq.{take-append_seam}
-use Rattle.osq_value.specs.declared.reading.Category.{Category}
 use Rattle.record_lines.specs.Lines.{HasNoFeed}
 use Rattle.audit_records.specs.declared.line.AuditLine.{AuditLine}
 use Rattle.publisher_core.specs.declared.gathering.AuditRecord.{AuditRecord}
 use Rattle.publisher_core.specs.declared.record.Gain.{Gain}
 use Rattle.publisher_core.specs.declared.record.Piece.{Piece}
 use Rattle.publisher_core.specs.AuditParts.{Item, lines_in, skipped_in, IsPart, IsPartBy, AreRecordsOf}
-use Rattle.publisher_core.specs.Audit.{items_of, line_in, IsPieceOf}
+use Rattle.publisher_core.specs.Audit.{items_of, line_in}
 use Rattle.publisher_core.specs.Records.{ended, HaveNoFeed, LinesGive}
 
 -- the bytes of lines

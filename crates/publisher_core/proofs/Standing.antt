@@ -1,13 +1,12 @@
 -- What a publisher stands for, as more lines are taken.
-use Rattle.std.proofs.Common.{◌≡◌, ◌⊎◌, inl, inr, ℕ, zero, suc, ◌+◌, ◌<◌, ◌≤◌, ◌==◌, ◌&&◌, Bool, true, false, List, [], ◌∷◌, ◌++◌, length, map, take, drop, refl, sym, ap, subst, ◌∙◌, arith, append_assoc, length-append, Option, Some, None}
-use Rattle.std.specs.List.{AllZip}
+use Rattle.std.proofs.Common.{◌≡◌, ◌⊎◌, inl, inr, ℕ, ◌+◌, ◌<◌, ◌==◌, ◌&&◌, Bool, true, false, List, [], ◌∷◌, ◌++◌, length, map, take, drop, refl, sym, ap, subst, ◌∙◌, arith, append_assoc, length-append}
 use Rattle.std.proofs.lemmas.List.{append-nil, append_cancel_left, take-append-drop, nil_from_length}
 use Rattle.std.proofs.Math.Seq.{take-append_seam}
 use Rattle.std.proofs.lemmas.Bool.{true≢false, eqb-true}
 use Rattle.osq_value.specs.declared.reading.Category.{Category}
 use Rattle.record_lines.specs.declared.line.Cut.{Cut}
 use Rattle.record_lines.specs.Cutting as cutting
-use Rattle.record_lines.specs.Lines.{HasNoFeed, cut_of}
+use Rattle.record_lines.specs.Lines.{HasNoFeed}
 use Rattle.publisher_core.specs.declared.gathering.AuditRecord.{AuditRecord}
 use Rattle.publisher_core.specs.declared.gathering.Gathering.{Gathering}
 use Rattle.publisher_core.specs.declared.record.SourceKind.{SourceKind}
@@ -20,7 +19,7 @@ use Rattle.publisher_core.specs.AuditParts.{Item, AreRecordsOf, groups_in, lines
 use Rattle.publisher_core.proofs.Only.{groups_of_log}
 use Rattle.publisher_core.specs.Gathered as gathered
 use Rattle.publisher_core.specs.Audit.{items_of, line_in, IsPieceOf}
-use Rattle.publisher_core.specs.Records.{LINE_LIMIT, TABLE_LIMIT, ended, HaveNoFeed, LinesGive, ChangeGives, TableGives}
+use Rattle.publisher_core.specs.Records.{ended, HaveNoFeed, LinesGive, ChangeGives, TableGives}
 use Rattle.publisher_core.specs.Standing.{Reader, Stands, Gives, Waits, AuditWaits, NoneWaits, HasGathered, is_at_end, limit_of}
 use Rattle.publisher_core.specs.Stepping.{HoldsLast, IsDry, TakesCut}
 use Rattle.publisher_core.proofs.Parts.{records_split, records_none, records_end, lines_in-append, lines_in-skipped}

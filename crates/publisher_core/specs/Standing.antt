@@ -1,5 +1,5 @@
 -- What a publisher stands for.
-use Rattle.std.specs.Prelude.{◌≡◌, ℕ, ◌+◌, Bool, true, false, ◌&&◌, ◌==◌, List, [], ◌∷◌, ◌++◌, length}
+use Rattle.std.specs.Prelude.{◌≡◌, ℕ, ◌+◌, Bool, true, false, ◌&&◌, ◌==◌, List, [], ◌++◌, length}
 use Rattle.std.specs.List.{AllZip}
 use Rattle.osq_value.specs.declared.reading.Category.{Category}
 use Rattle.record_lines.specs.Cutting.{Cutter}

@@ -1,6 +1,5 @@
 -- What a step of a publisher does.
-use Rattle.std.specs.Prelude.{◌≡◌, ◌⊎◌, ℕ, ◌+◌, ◌≤◌, ◌<◌, Bool, true, List, [], ◌∷◌, ◌++◌, length}
-use Rattle.osq_value.specs.declared.reading.Reading.{Reading}
+use Rattle.std.specs.Prelude.{◌≡◌, ◌⊎◌, ℕ, ◌+◌, ◌≤◌, ◌<◌, true, List, [], ◌∷◌, ◌++◌, length}
 use Rattle.record_lines.specs.Lines.{HasNoFeed}
 use Rattle.record_lines.specs.Cutting.{TakesLine}
 use Rattle.record_lines.specs.declared.line.Cut.{Cut}
@@ -14,7 +13,6 @@ use Rattle.publisher_core.specs.Records.{ended}
 use Rattle.publisher_core.specs.declared.record.Piece.{Piece}
 use Rattle.publisher_core.specs.declared.record.Next.{Next}
 use Rattle.publisher_core.specs.declared.record.Next.TheVariants as next
-use Rattle.publisher_core.specs.Readings.{readings_of}
 use Rattle.publisher_core.specs.Standing.{Reader, Stands}
 
 -- a step ends once it has read so many bytes

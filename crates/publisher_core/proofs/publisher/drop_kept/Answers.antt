@@ -1,4 +1,4 @@
-use Rattle.std.proofs.Common.{◌≡◌, ◌∙◌, ℕ, ◌+◌, ◌-◌, ◌≤◌, List, ◌++◌, length, length-append, take, min, sym, ap, arith, append_assoc}
+use Rattle.std.proofs.Common.{◌∙◌, ℕ, List, ◌++◌, length-append, take, sym, ap, arith, append_assoc}
 use Rattle.std.proofs.lemmas.List.{length-take-le}
 use Rattle.publisher_core.proofs.publisher.drop_kept.Goals as goal
 

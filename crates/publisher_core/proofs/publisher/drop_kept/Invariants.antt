@@ -1,5 +1,4 @@
 use Rattle.std.proofs.Common.{◌≡◌, ◌≤◌, ◌-◌, ◌++◌, ℕ, List, length}
-use Rattle.publisher_core.specs.Stepping.{PIECE_BYTES}
 use Rattle.publisher_core.proofs.publisher.drop_kept.Given as goal
 
 abbrev pub invariant-loop-found : goal.invariant-loop-found

@@ -1,5 +1,5 @@
-use Rattle.std.proofs.Common.{◌≡◌, ℕ, ◌+◌, List, ◌++◌, ap, sym, ◌∙◌, arith}
-use Rattle.publisher_core.specs.Readings.{events_in, skipped_in, events_of, skipped_of}
+use Rattle.std.proofs.Common.{List, ◌++◌, ap, sym, ◌∙◌, arith}
+use Rattle.publisher_core.specs.Readings.{events_in}
 use Rattle.osq_value.specs.declared.value.Event.{Event}
 use Rattle.publisher_core.proofs.Joining.{events_more, skipped_more}
 use Rattle.publisher_core.proofs.readings.join.Goals as goal

@@ -1,4 +1,4 @@
-use Rattle.std.proofs.Common.{◌≡◌, ◌∙◌, sym}
+use Rattle.std.proofs.Common.{◌∙◌, sym}
 use Rattle.publisher_core.proofs.Standing.{over_dry}
 use Rattle.publisher_core.proofs.publisher.Publisher.at_end.Goals as goal
 

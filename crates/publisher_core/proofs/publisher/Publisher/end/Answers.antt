@@ -1,6 +1,6 @@
-use Rattle.std.proofs.Common.{◌≡◌, ◌∙◌, sym, ap, subst, refl, inl, inr, true, false}
-use Rattle.publisher_core.specs.declared.record.SourceKind.TheVariants.{Audit, Changes, Tables}
-use Rattle.publisher_core.specs.Standing.{Reader, Stands}
+use Rattle.std.proofs.Common.{◌∙◌, sym, ap, subst, refl, inl}
+use Rattle.publisher_core.specs.declared.record.SourceKind.TheVariants.{Changes}
+use Rattle.publisher_core.specs.Standing.{Reader}
 use Rattle.publisher_core.specs.Stepping.{IsDry}
 use Rattle.publisher_core.proofs.Standing.{ended_by_lines, ended_audit}
 use Rattle.publisher_core.proofs.publisher.Publisher.end.Goals as goal

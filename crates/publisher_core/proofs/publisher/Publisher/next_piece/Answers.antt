@@ -1,4 +1,4 @@
-use Rattle.std.proofs.Common.{subst, ◌∙◌, ◌≡◌, ◌<◌, arith}
+use Rattle.std.proofs.Common.{subst, ◌∙◌, arith}
 use Rattle.publisher_core.specs.declared.record.Next.{Next}
 use Rattle.publisher_core.specs.Stepping.{Goes, Grows}
 use Rattle.publisher_core.proofs.Stepping.{same_piece}

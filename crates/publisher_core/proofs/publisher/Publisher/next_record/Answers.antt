@@ -1,9 +1,9 @@
-use Rattle.std.proofs.Common.{◌≡◌, ◌∙◌, ℕ, ◌+◌, length, sym, ap, subst, arith, [], ◌∷◌, ◌++◌, List}
+use Rattle.std.proofs.Common.{◌≡◌, ◌∙◌, ℕ, ◌+◌, length, sym, ap, subst, arith, [], ◌++◌, List}
 use Rattle.record_lines.specs.Cutting as cutting
 use Rattle.publisher_core.specs.declared.gathering.AuditRecord.{AuditRecord}
 use Rattle.publisher_core.specs.Records.{ended}
 use Rattle.publisher_core.specs.Standing.{Reader, Stands}
-use Rattle.publisher_core.specs.Stepping.{Grows, IsDry, TakesCut}
+use Rattle.publisher_core.specs.Stepping.{Grows, IsDry}
 use Rattle.publisher_core.proofs.Standing.{popped, popped_grows, dry, same_reader, no_front}
 use Rattle.publisher_core.proofs.publisher.Publisher.next_record.Goals as goal
 

@@ -1,4 +1,4 @@
-use Rattle.std.proofs.Common.{refl, ap, subst, sym}
+use Rattle.std.proofs.Common.{refl, subst, sym}
 use Rattle.publisher_core.specs.Standing.{Reader, Stands}
 use Rattle.publisher_core.proofs.Standing.{begins}
 use Rattle.publisher_core.proofs.publisher.Publisher.start.Goals as goal

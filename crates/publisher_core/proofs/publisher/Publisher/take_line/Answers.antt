@@ -1,8 +1,7 @@
-use Rattle.std.proofs.Common.{rules, ◌≡◌, ◌∙◌, ap, sym, subst, ℕ, ◌+◌, List, ◌∷◌, [], length, ◌++◌, arith}
-use Rattle.record_lines.specs.declared.line.Cut.{Cut}
+use Rattle.std.proofs.Common.{◌≡◌, ◌∙◌, ap, sym, subst, ℕ, ◌+◌, length, ◌++◌}
 use Rattle.record_lines.specs.Lines.{cut_of}
 use Rattle.publisher_core.specs.Records.{ended, LINE_LIMIT, TABLE_LIMIT, ChangeGives, TableGives}
-use Rattle.publisher_core.specs.Standing.{Reader, limit_of, Stands}
+use Rattle.publisher_core.specs.Standing.{Reader, limit_of}
 use Rattle.publisher_core.specs.Stepping.{Goes}
 use Rattle.publisher_core.specs.declared.record.Next.{Next}
 use Rattle.publisher_core.specs.declared.record.SourceKind.TheVariants.{Audit, Changes, Tables}

@@ -1,8 +1,8 @@
-use Rattle.std.proofs.Common.{◌≡◌, ◌⊎◌, ◌∙◌, ℕ, ◌+◌, ◌≤◌, ◌<◌, List, [], ◌∷◌, ◌++◌, length, length-append, sym, ap, subst, refl, true, false, inl, inr, arith, Option, MatchOption, Ok}
+use Rattle.std.proofs.Common.{◌≡◌, ◌⊎◌, ◌∙◌, ◌≤◌, ◌<◌, List, [], ◌∷◌, ◌++◌, length, length-append, sym, ap, subst, true, inl, inr, arith, Option, MatchOption, Ok}
 use Rattle.publisher_core.specs.declared.record.Piece.{Piece}
 use Rattle.publisher_core.specs.Standing.{Reader, Stands}
-use Rattle.publisher_core.specs.Stepping.{GrowsBy, IsDry, UnderWay, Steps, STEP_BYTES}
-use Rattle.publisher_core.proofs.Stepping.{begun, more_given, more_read, dry_steps, full_steps, next_same, read_same, end_read, grows_more, grows_same}
+use Rattle.publisher_core.specs.Stepping.{GrowsBy, IsDry, UnderWay, STEP_BYTES}
+use Rattle.publisher_core.proofs.Stepping.{more_given, more_read, dry_steps, full_steps, next_same, read_same, end_read, grows_more, grows_same}
 use Rattle.publisher_core.proofs.publisher.Publisher.take_records.Goals as goal
 use Rattle.publisher_core.proofs.publisher.Publisher.take_records.Goals.{then-self-via-then-self, then-self-via-else-self+then-read-ge-STEP_BYTES}
 
