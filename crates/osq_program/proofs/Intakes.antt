@@ -1,6 +1,6 @@
 -- What a step of a publisher takes, as a session keeps it.
-use Rattle.std.proofs.Common.{◌≡◌, ◌⊎◌, inl, inr, ℕ, ◌+◌, ◌-◌, ◌<◌, ◌≤◌, ◌==◌, ◌&&◌, Bool, true, false, List, [], ◌∷◌, ◌++◌, length, flat_map, slice_get, refl, sym, ap, subst, ◌∙◌, arith, append_assoc, length-append, Option, Some, None, option_map, option_and_then, find}
-use Rattle.std.specs.Prelude.{All, Result}
+use Rattle.std.proofs.Common.{◌≡◌, ◌⊎◌, inl, inr, ℕ, ◌+◌, ◌-◌, ◌≤◌, ◌==◌, ◌&&◌, Bool, true, false, List, [], ◌∷◌, ◌++◌, length, slice_get, refl, sym, ap, subst, ◌∙◌, arith, length-append, Option, Some, None, option_map, option_and_then, find}
+use Rattle.std.specs.Prelude.{All}
 use Rattle.std.specs.List.{AllZip}
 use Rattle.std.specs.Option.{option_to_list, option_map_or}
 use Rattle.std.proofs.lemmas.Bool.{true≢false}
@@ -19,7 +19,7 @@ use Rattle.audit_records.specs.declared.event.Call.{Call}
 use Rattle.audit_records.specs.declared.event.Call.TheVariants.{Execution, Connect, Bind, Accept}
 use Rattle.audit_records.specs.declared.line.AuditLine.{AuditLine}
 use Rattle.audit_records.specs.Addresses.{address_in}
-use Rattle.audit_records.specs.Events.{event_of, line_event, call_event, call_of, is_system_call, execution_event, process_event, located_event, socket_event}
+use Rattle.audit_records.specs.Events.{event_of, line_event, call_event, call_of, is_system_call, execution_event, process_event, located_event}
 use Rattle.audit_records.specs.FieldValues.{has_succeeded}
 use Rattle.change_records.specs.declared.change.Change.{Change}
 use Rattle.change_records.specs.Events.{IsEventOf}

@@ -1,4 +1,4 @@
-use Rattle.std.proofs.Common.{◌≡◌, ◌∙◌, sym}
+use Rattle.std.proofs.Common.{◌∙◌, sym}
 use Rattle.osq_program.proofs.Intakes.{none_joined}
 use Rattle.osq_program.proofs.intake.join.Goals as goal
 

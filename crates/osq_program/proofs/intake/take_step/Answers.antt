@@ -1,7 +1,6 @@
-use Rattle.std.proofs.Common.{◌≡◌, ◌∙◌, ℕ, List, [], ◌++◌, length, sym, ap, subst, true, false, Bool}
+use Rattle.std.proofs.Common.{◌∙◌, ℕ, List, [], sym, ap, subst}
 use Rattle.std.proofs.lemmas.Bool.{true≢false}
-use Rattle.publisher_core.specs.Standing.{Reader, Stands, is_at_end}
-use Rattle.publisher_core.specs.declared.record.SourceKind.{SourceKind}
+use Rattle.publisher_core.specs.Standing.{Reader}
 use Rattle.osq_program.specs.declared.intake.Intake.{Intake}
 use Rattle.osq_program.specs.Intake.{IsFull}
 use Rattle.osq_program.specs.Kinds.{kind_of}

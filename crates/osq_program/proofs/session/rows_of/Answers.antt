@@ -1,4 +1,4 @@
-use Rattle.std.proofs.Common.{◌≡◌, ◌∙◌, ◌+◌, ap, sym, take, get_or, List, ◌++◌}
+use Rattle.std.proofs.Common.{◌∙◌, ap, sym, List, ◌++◌}
 use Rattle.std.proofs.lemmas.List.{take_all}
 use Rattle.osq_value.specs.declared.value.Value.{Value}
 use Rattle.osq_program.specs.Opening.{file_rows, rows_in}
