@@ -22,7 +22,7 @@ import typing
 
 TOP = pathlib.Path(__file__).resolve().parent.parent
 CRATES = {
-    "osq_value": "",
+    "osq_value": "arrayvec",
     "osq_outside": "osq_value",
     "record_lines": "memchr osq_value",
     "audit_records": "hex memchr osq_value",

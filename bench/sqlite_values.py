@@ -26,7 +26,7 @@ except ImportError:
 
 TOP = pathlib.Path(__file__).resolve().parent.parent
 CRATES = {
-    "osq_value": "",
+    "osq_value": "arrayvec",
     "sql_parser": "",
     "sql_scalar": "osq_value sql_parser",
 }

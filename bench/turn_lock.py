@@ -13,7 +13,7 @@ import sys
 import tempfile
 
 TOP = pathlib.Path(__file__).resolve().parent.parent
-CRATES = {"osq_value": "", "turn_lock": "osq_value atomic_table"}
+CRATES = {"osq_value": "arrayvec", "turn_lock": "osq_value atomic_table"}
 THREADS = (1, 2, 4)
 TURNS = 1_000_000
 

@@ -82,7 +82,7 @@ fn local_address(alloc: Global, bytes: &[u8]) -> Result<Address, NoMemory>
     let (_family, behind) = bytes.split_at(2);
     Ok(Address {
         family: AF_UNIX,
-        address: Str::empty(alloc),
+        address: Str::empty(),
         port: 0,
         socket: path_text(alloc, before_zero(behind))?,
     })
@@ -96,7 +96,7 @@ fn inet_address(alloc: Global, bytes: &[u8]) -> Result<Address, NoMemory>
         family: AF_INET,
         address: Str::from_string(inet_text(alloc, bytes)?),
         port: pair(bytes[2], bytes[3]),
-        socket: Str::empty(alloc),
+        socket: Str::empty(),
     })
 }
 
@@ -108,7 +108,7 @@ fn inet6_address(alloc: Global, bytes: &[u8]) -> Result<Address, NoMemory>
         family: AF_INET6,
         address: Str::from_string(inet6_text(alloc, bytes)?),
         port: pair(bytes[2], bytes[3]),
-        socket: Str::empty(alloc),
+        socket: Str::empty(),
     })
 }
 

@@ -33,7 +33,7 @@ pub fn process_event(
 fn process_row(alloc: Global, line: &AuditLine, lines: &[AuditLine]) -> Result<Row, NoMemory>
     ensures { IfOk result (λ row. row ≡ process_row line.now lines.now) }
 {
-    let mut row = Row::new(alloc);
+    let mut row = Row::with_capacity(alloc, 12)?;
     row.push(number_value(line, "pid"))?;
     row.push(text_value(alloc, line, "exe")?)?;
     row.push(mode_of(alloc, lines)?)?;

@@ -43,13 +43,13 @@ fn row(
     ensures { IfOk result (λ row. row ≡ (located_event action.now is_local line.now found).row) }
 {
     let port = i64::from(found.port);
-    let empty = Str::empty(alloc);
+    let empty = Str::empty();
     let (local_address, remote_address, local_port, remote_port) = if is_local {
         (found.address, empty, port, 0)
     } else {
         (empty, found.address, 0, port)
     };
-    let mut row = Row::new(alloc);
+    let mut row = Row::with_capacity(alloc, 13)?;
     row.push(Value::Text(Str::of(alloc, action)?))?;
     row.push(number_value(line, "pid"))?;
     row.push(text_value(alloc, line, "exe")?)?;

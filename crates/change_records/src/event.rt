@@ -69,7 +69,7 @@ fn row(alloc: Global, change: &Change, category: &Str) -> Result<Row, NoMemory>
     ensures { IfOk result (λ row. row ≡ file_row change.now category.now) }
 {
     let numbers = &change.numbers;
-    let mut row = Row::new(alloc);
+    let mut row = Row::with_capacity(alloc, 10)?;
     row.push(Value::Text(change.path.copy(alloc)?))?;
     row.push(Value::Text(category.copy(alloc)?))?;
     row.push(Value::Text(change.action.copy(alloc)?))?;

@@ -68,7 +68,7 @@ fn numbers(alloc: Global, line: &Json) -> Result<Row, LineError>
     let gid = number_at(line, "gid")?;
     let size = number_at(line, "size")?;
     let mtime = number_at(line, "mtime")?;
-    let mut numbers = Row::new(alloc);
+    let mut numbers = Row::with_capacity(alloc, 5)?;
     numbers.push(inode)?;
     numbers.push(uid)?;
     numbers.push(gid)?;

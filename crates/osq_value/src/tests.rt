@@ -8,8 +8,12 @@ fn texts_and_bytes(rt: HostRuntime) -> Result<(), Failed> {
     let copied = text.copy(alloc)?;
     assert_eq!(rt; (copied.as_str(), copied.len()), ("añb", 4));
     assert!(rt; text == copied);
-    assert!(rt; text != Str::empty(alloc));
+    assert!(rt; text != Str::empty());
     assert!(rt; !text.is(&Str::from_string(String::from_str(alloc, "anbc")?)));
+    for text in ["", "a text of 16 byt", "a text of 17 byte"] {
+        let kept = Str::of(alloc, text)?;
+        assert_eq!(rt; (kept.as_str(), kept.copy(alloc)?.as_str()), (text, text));
+    }
     let mut bytes = Bytes::of(alloc, b"ab".as_slice())?;
     bytes.extend(b"cd".as_slice())?;
     assert_eq!(rt; bytes.copy(alloc)?.as_slice(), b"abcd".as_slice());

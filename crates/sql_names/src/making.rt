@@ -98,7 +98,7 @@ fn table_name(alloc: Global, table: TableId) -> Result<Str, NoMemory>
 {
     match table_desc(table) {
         Some(found) => Str::of(alloc, found.name),
-        None => Ok(Str::empty(alloc)),
+        None => Ok(Str::empty()),
     }
 }
 

@@ -128,11 +128,11 @@ fn column_name(alloc: Global, scope: &[Seen], place: Place) -> Result<Str, NoMem
     ensures { IfOk result (λ name. name ≡ name_of_column scope.now place) }
 {
     let Some(seen) = scope.get(place.source as usize) else {
-        return Ok(Str::empty(alloc));
+        return Ok(Str::empty());
     };
     match seen.columns.get(place.column as usize) {
         Some(column) => column.name.copy(alloc),
-        None => Ok(Str::empty(alloc)),
+        None => Ok(Str::empty()),
     }
 }
 
