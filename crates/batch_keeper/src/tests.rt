@@ -2,9 +2,9 @@ use crate::{Keeper, KeeperError, MemoryKeeper};
 use entry_model::entry::{Batch, Entry, EntryList};
 use entry_model::reserved::ReservedRuns;
 use entry_model::restored::{Restored, RunList};
-use entry_model::schedule::{Form, Mode, QueryKey, Schedule, ScheduledList};
 use osq_outside::{Fail, FailList};
 use osq_value::{Event, EventList, NoMemory, Row, RowList, Str, TableId, TextList, Value};
+use pack_rules::schedule::{Form, Mode, QueryKey, Schedule, ScheduledList};
 use std::alloc::Global;
 use std::test::Fail as Failed;
 

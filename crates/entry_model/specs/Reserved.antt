@@ -1,9 +1,9 @@
 -- Runs with room for more.
 use Rattle.std.specs.Prelude.{◌≡◌, ℕ, ◌-◌, Bool, if◌then◌else◌, List}
 use Rattle.std.specs.List.{list_any}
-use Rattle.entry_model.specs.declared.schedule.QueryKey.{QueryKey}
+use Rattle.pack_rules.specs.declared.schedule.QueryKey.{QueryKey}
 use Rattle.entry_model.specs.declared.restored.Run.{Run}
-use Rattle.entry_model.specs.Keys.{same_key}
+use Rattle.pack_rules.specs.Keys.{same_key}
 use Rattle.entry_model.specs.Runs.{with_batch}
 
 -- the runs, and for how many more there is room

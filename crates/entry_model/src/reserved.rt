@@ -4,8 +4,8 @@ ghost use Rattle.std.specs.Prelude.{◌≡◌, ◌<◌, ◌^◌, All, OnOk, OnEr
 ghost use Rattle.entry_model.specs.Reserved.{has_run, noted};
 
 use crate::restored::{Run, RunList, change_run};
-use crate::schedule::QueryKey;
 use osq_value::NoMemory;
+use pack_rules::schedule::QueryKey;
 use std::marker::Model;
 
 /// Runs, and for how many more there is room.

@@ -1,5 +1,5 @@
 -- What a session leaves, however it ends.
-use Rattle.std.proofs.Common.{◌≡◌, ◌⊎◌, inl, inr, ℕ, Bool, true, false, List, [], ◌∷◌, ◌++◌, length, take, refl, sym, ap, ◌∙◌, subst, append-nil, Some, Ok, Err}
+use Rattle.std.proofs.Common.{◌≡◌, ◌⊎◌, inl, inr, ℕ, Bool, true, false, List, [], ◌++◌, length, take, refl, sym, ap, ◌∙◌, subst, append-nil, Ok, Err}
 use Rattle.std.specs.Prelude.{Result}
 use Rattle.std.proofs.Math.Seq.{take-length}
 use Rattle.entry_model.specs.declared.entry.Entry.{Entry}
@@ -11,7 +11,6 @@ use Rattle.osq_program.specs.Intake.{IsStep, IsWhole, IsFull}
 use Rattle.osq_program.specs.Session.{IsFirstSession}
 use Rattle.osq_program.specs.Run.{Ran, HasTotals, IsPartlyWritten}
 use Rattle.osq_program.specs.Report.{final_text, final_line, spent_line}
-use Rattle.osq_program.specs.Words.{Replay}
 use Rattle.osq_outside.specs.Causes.{Rose, HasCause}
 use Rattle.osq_outside.specs.Writing.{WritesAll}
 use Rattle.osq_program.proofs.FirstSession.{one_batch}
@@ -75,17 +74,6 @@ final_is number entries events batches h =
     ap (λ (n : ℕ). final_text number n batches 0 0) (sym h.last)
     ∙ ap (λ (n : ℕ). final_text number (last_number entries) n 0 0) (sym h.count)
     ∙ ap (λ (n : ℕ). final_text number (last_number entries) (length (commits entries)) n 0) (sym h.acked)
-
-pub same_words : (a b : Replay) → Some a ≡ Some b → a ≡ b
-same_words a b e = cc
-
-pub same_source : {S : Type 0} (xs : List S) (x y : S) → xs ≡ x ∷ [] → xs ≡ y ∷ [] → x ≡ y
-same_source xs x y p q = let e = sym p ∙ q in cc
-
--- what holds of the words that were read, of the one source and of the end of its step
-pub for_words : {S : Type 0} (P : Replay → S → Bool → Type 0) (read words : Replay) (first source : S) (is_end end : Bool) → read ≡ words → first ≡ source → is_end ≡ end
-    → P read first is_end → P words source end
-for_words P read words first source is_end end a b c holds = subst (P words source) c (subst (λ s. P words s is_end) b (subst (λ w. P w first is_end) a holds))
 
 -- the last lines of a session that was full before the end of its source
 pub told_end : (before after : List ℕ) (entries : List Entry) (events batches : ℕ) (rose : Type 0) → HasTotals entries events batches

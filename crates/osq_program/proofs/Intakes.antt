@@ -49,7 +49,7 @@ width-socket : width_of 1 ≡ 13
 unfolding width_of columns_of tables
 width-socket = refl
 
-width-files : width_of 2 ≡ 10
+pub width-files : width_of 2 ≡ 10
 unfolding width_of columns_of tables
 width-files = refl
 
@@ -234,7 +234,7 @@ whole_of kind bytes fresh unread reader pieces intake is d over none kind_is pat
       read = none;
     }
 
-not_over : (reader : Reader) → reader.is_ended ≡ true → reader.ready ≡ [] → is_at_end reader ≡ false → ⊥
+pub not_over : (reader : Reader) → reader.is_ended ≡ true → reader.ready ≡ [] → is_at_end reader ≡ false → ⊥
 not_over reader over none still =
     let both : is_at_end reader ≡ true = rw (over, none) refl in
     true≢false (sym both ∙ still)

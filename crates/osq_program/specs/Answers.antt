@@ -2,7 +2,7 @@
 use Rattle.std.specs.Prelude.{◌≡◌, ◌⊎◌, ◌<◌, ◌≤◌, ℕ, List, [], codes}
 use Rattle.osq_program.specs.FirstPath.{LAST_MOMENT}
 use Rattle.osq_program.specs.declared.status.Status.{Status}
-use Rattle.osq_program.specs.declared.status.Status.TheVariants.{Ok as Done, Usage, FilesFault, ConfigRefused, KeeperFault, MomentTooLarge, SourceFault, SinkFault, TicksSpent, OutOfMemory, NotBuilt}
+use Rattle.osq_program.specs.declared.status.Status.TheVariants.{Ok as Done, Usage, FilesFault, ConfigRefused, KeeperFault, MomentTooLarge, SourceFault, SinkFault, TicksSpent, QueryRefused, OutOfMemory, NotBuilt}
 
 -- the number that the process ends with
 abbrev pub status_number : Status → ℕ
@@ -14,6 +14,7 @@ status_number (SourceFault source) = 7
 status_number SinkFault = 8
 status_number (MomentTooLarge moment) = 9
 status_number TicksSpent = 11
+status_number (QueryRefused place kind) = 12
 status_number OutOfMemory = 20
 status_number (NotBuilt what) = 30
 status_number Usage = 64
@@ -32,9 +33,10 @@ IsUsageStatus status = ⊥
 
 -- what may stand behind each refusal
 pub record Causes : Type 1 where
+  pub query : ℕ → List ℕ → Type 0  -- a text that is no query, by a fault at this place and of this kind
   pub files : Type 0  -- a fault of the files
-  pub missing : Type 0  -- no configuration
-  pub config : Type 0  -- another configuration
+  pub refused : List ℕ → List ℕ → Type 0  -- a configuration that is refused by a fault of this kind at this key
+  pub config : Type 0  -- another configuration than the known one
   pub keeper : Type 0  -- a fault of the keeper
   pub kept : Type 0  -- a kept list that isn't empty
   pub moment : ℕ → Type 0  -- this moment of the clock
@@ -43,8 +45,9 @@ pub record Causes : Type 1 where
 
 abbrev pub no_causes : Causes
 no_causes = record {
+  query = λ place kind. ⊥;
   files = ⊥;
-  missing = ⊥;
+  refused = λ kind key. ⊥;
   config = ⊥;
   keeper = ⊥;
   kept = ⊥;
@@ -58,12 +61,13 @@ abbrev pub IsCaused : Causes → Status → Type 0
 IsCaused c Done = ⊥
 IsCaused c Usage = ⊥
 IsCaused c FilesFault = c.files
-IsCaused c (ConfigRefused kind key) = (kind.now ≡ codes "Missing") × (key ≡ []) × c.missing
+IsCaused c (ConfigRefused kind key) = c.refused kind.now key
 IsCaused c KeeperFault = c.keeper
 IsCaused c (MomentTooLarge moment) = c.moment moment
 IsCaused c (SourceFault name) = c.source name
 IsCaused c SinkFault = c.sink
 IsCaused c TicksSpent = ⊥
+IsCaused c (QueryRefused place kind) = c.query place kind.now
 IsCaused c OutOfMemory = Unit {0}
 IsCaused c (NotBuilt what) = ((what ≡ codes "config") × c.config) ⊎ ((what ≡ codes "kept") × c.kept)
 
@@ -84,12 +88,16 @@ NotBuiltYet what status = ⊥
 abbrev pub IsRead : (ℕ → Type 0) → Type 0
 IsRead reads = (moment : ℕ) × reads moment × (moment ≤ LAST_MOMENT)
 
+-- there is no configuration
+abbrev pub IsMissing : Type 0 → List ℕ → List ℕ → Type 0
+IsMissing none kind key = (kind ≡ codes "Missing") × (key ≡ []) × none
+
 -- the causes of a replay, in the order in which the run meets them: each carries what was passed before it
 abbrev pub replay_causes : (files missing config known keeper kept empty : Type 0) (reads : ℕ → Type 0) (name : List ℕ) (source sink : Type 0) → Causes
 replay_causes files missing config known keeper kept empty reads name source sink =
-    record {
+    record no_causes {
       files = files;
-      missing = missing;
+      refused = IsMissing missing;
       config = config;
       keeper = known × keeper;
       kept = known × kept;

@@ -65,6 +65,7 @@ fn name_of(status: &Status) -> &'static str {
         Status::SourceFault { source: _ } => "SourceFault",
         Status::SinkFault => "SinkFault",
         Status::TicksSpent => "TicksSpent",
+        Status::QueryRefused { place: _, kind: _ } => "QueryRefused",
         Status::OutOfMemory => "OutOfMemory",
         Status::NotBuilt { what: _ } => "NotBuilt",
     }
@@ -80,6 +81,11 @@ fn push_fields(alloc: Global, line: &mut Bytes, status: &Status) -> Result<(), N
             line.extend(key.as_str().as_bytes())
         }
         Status::MomentTooLarge { moment } => push_field(alloc, line, " moment=", *moment),
+        Status::QueryRefused { place, kind } => {
+            push_field(alloc, line, " place=", *place)?;
+            line.extend(b" kind=")?;
+            line.extend(kind.as_bytes())
+        }
         Status::SourceFault { source } => {
             line.extend(b" source=")?;
             line.extend(source.as_str().as_bytes())

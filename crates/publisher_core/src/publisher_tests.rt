@@ -326,6 +326,8 @@ fn limits_lines(rt: HostRuntime) -> Result<(), Fail> {
     let alloc = rt.alloc();
     let head = b"type=CWD msg=audit(1.000:1):".as_slice();
     let field = b" cwd=\"/\"\n".as_slice();
+    let inside = b"type=CWD msg=audit(1.000:1):\ntype=CWD msg=audit(1.000:1):".as_slice();
+    let ended = b"\ntype=EOE msg=audit(1.000:1):\n".as_slice();
     let rows = [
         (
             SourceKind::Changes,
@@ -345,6 +347,23 @@ fn limits_lines(rt: HostRuntime) -> Result<(), Fail> {
         ),
         (SourceKind::Audit, head, 65500, field, 1, "65537+0 =65537! "),
         (SourceKind::Audit, head, 65501, field, 1, "65538+1 =65538! "),
+        // between two lines of one group
+        (
+            SourceKind::Audit,
+            inside,
+            65508,
+            ended,
+            1,
+            "65595+0 =65595! ",
+        ),
+        (
+            SourceKind::Audit,
+            inside,
+            65509,
+            ended,
+            1,
+            "65596+1 =65596! ",
+        ),
         (
             SourceKind::Tables,
             b"",

@@ -5,10 +5,10 @@ use Rattle.sha2.specs.Sha256.{sha256}
 use Rattle.osq_value.specs.declared.value.Value.{Value}
 use Rattle.osq_value.specs.declared.value.Value.TheVariants.{Null, Int, Text}
 use Rattle.sql_meaning.specs.Meaning.{names_of}
-use Rattle.entry_model.specs.declared.schedule.Mode.{Mode}
-use Rattle.entry_model.specs.declared.schedule.Mode.TheVariants.{Evented, Snapshot}
+use Rattle.pack_rules.specs.declared.schedule.Mode.{Mode}
+use Rattle.pack_rules.specs.declared.schedule.Mode.TheVariants.{Evented, Snapshot}
 use Rattle.entry_model.specs.declared.entry.Batch.{Batch}
-use Rattle.result_batches.specs.Json.{hex_digit, quoted, joined}
+use Rattle.result_batches.specs.Json.{hex_digit, quoted, array}
 
 abbrev pub mode_text : Mode → List ℕ
 mode_text Evented = codes "evented"
@@ -18,10 +18,6 @@ abbrev pub json_value : Value → List ℕ
 json_value Null = codes "null"
 json_value (Int n) = signed_decimal n
 json_value (Text text) = quoted text
-
--- the texts in brackets
-abbrev pub array : List (List ℕ) → List ℕ
-array texts = 91 ∷ (joined texts ++ 93 ∷ [])
 
 abbrev pub hexadecimal : List ℕ → List ℕ
 hexadecimal bytes = flat_map (λ b. hex_digit (b / 16) ∷ hex_digit (b % 16) ∷ []) bytes

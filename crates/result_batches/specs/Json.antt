@@ -30,6 +30,6 @@ abbrev pub joined : List (List ℕ) → List ℕ
 joined [] = []
 joined (text ∷ rest) = text ++ each_behind_comma rest
 
--- what stands before the next of texts with a comma between any two, where so many stand before it
-abbrev pub separator : ℕ → List ℕ
-separator count = if count == 0 then [] else 44 ∷ []
+-- the texts in brackets
+abbrev pub array : List (List ℕ) → List ℕ
+array texts = 91 ∷ (joined texts ++ 93 ∷ [])

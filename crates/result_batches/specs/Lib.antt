@@ -1,3 +1,4 @@
 pub mod Frames
 pub mod Json
+pub mod Labels
 pub mod Lines

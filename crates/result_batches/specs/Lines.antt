@@ -1,12 +1,17 @@
 -- The result lines of a batch.
-use Rattle.std.specs.Prelude.{◌≡◌, ℕ, List, [], ◌∷◌, ◌++◌, flat_map, codes}
+use Rattle.std.specs.Prelude.{◌≡◌, ℕ, if◌then◌else◌, List, [], ◌∷◌, ◌++◌, map, flat_map, bytes_eq, codes}
+use Rattle.std.specs.List.{list_any}
 use Rattle.std.specs.Fmt.{decimal, signed_decimal}
 use Rattle.calendar_text.specs.Calendar.{IsCalendarText}
 use Rattle.osq_value.specs.declared.value.Value.{Value}
 use Rattle.osq_value.specs.declared.value.Value.TheVariants.{Null, Int, Text}
 use Rattle.sql_meaning.specs.Meaning.{names_of}
+use Rattle.pack_rules.specs.declared.schedule.Mode.{Mode}
+use Rattle.pack_rules.specs.declared.schedule.Mode.TheVariants.{Evented, Snapshot}
+use Rattle.pack_rules.specs.declared.schedule.Form.{Form}
+use Rattle.pack_rules.specs.declared.schedule.Form.TheVariants as form
 use Rattle.entry_model.specs.declared.entry.Batch.{Batch}
-use Rattle.result_batches.specs.Json.{quoted, joined}
+use Rattle.result_batches.specs.Json.{quoted, joined, array}
 
 -- a value as a text: Null as the empty one
 abbrev pub value_text : Value → List ℕ
@@ -18,15 +23,19 @@ value_text (Text text) = text
 abbrev pub member : List ℕ → Value → List ℕ
 member name value = quoted name ++ 58 ∷ quoted (value_text value)
 
--- the columns in order
+-- the columns in order, and of equal names the last alone
 abbrev pub members : List (List ℕ) → List Value → List (List ℕ)
 members [] row = []
 members (name ∷ names) [] = []
-members (name ∷ names) (value ∷ row) = member name value ∷ members names row
+members (name ∷ names) (value ∷ row) =
+    if list_any (bytes_eq name) names then members names row else member name value ∷ members names row
 
 -- the object of a row
 abbrev pub object : List (List ℕ) → List Value → List ℕ
 object names row = 123 ∷ (joined (members names row) ++ 125 ∷ [])
+
+abbrev pub objects : List (List ℕ) → List (List Value) → List (List ℕ)
+objects names rows = map (object names) rows
 
 -- what each line of a batch begins with
 abbrev pub head_text : List ℕ → List ℕ → Batch → List ℕ
@@ -34,19 +43,45 @@ head_text host calendar batch =
     codes "{\"name\":" ++ quoted batch.query.name ++ codes ",\"hostIdentifier\":" ++ quoted host ++ codes ",\"calendarTime\":" ++ quoted calendar
     ++ codes ",\"unixTime\":" ++ decimal batch.moment ++ codes ",\"batch\":" ++ decimal batch.number
 
--- the line of an added row
-abbrev pub added_line : List ℕ → List (List ℕ) → List Value → List ℕ
-added_line head names row = head ++ codes ",\"action\":\"added\",\"columns\":" ++ object names row ++ codes "}\n"
+-- the line of an added row's object
+abbrev pub added_line : List ℕ → List ℕ → List ℕ
+added_line head row = head ++ codes ",\"action\":\"added\",\"columns\":" ++ row ++ codes "}\n"
 
--- a line for each row
-abbrev pub added_lines : List ℕ → List (List ℕ) → List (List Value) → List ℕ
-added_lines head names rows = flat_map (added_line head names) rows
+-- a line for each object
+abbrev pub added_lines : List ℕ → List (List ℕ) → List ℕ
+added_lines head rows = flat_map (added_line head) rows
 
--- these are the lines of a batch of an evented query, whose moment is shown at UTC
+-- one line with the objects that were added
+abbrev pub difference_text : List ℕ → List (List ℕ) → List ℕ
+difference_text head rows = head ++ codes ",\"diffResults\":{\"added\":" ++ array rows ++ codes ",\"removed\":[]}}\n"
+
+-- the same, where there are some
+abbrev pub difference_line : List ℕ → List (List ℕ) → List ℕ
+difference_line head [] = []
+difference_line head (row ∷ rows) = difference_text head (row ∷ rows)
+
+-- one line with all objects
+abbrev pub snapshot_line : List ℕ → List (List ℕ) → List ℕ
+snapshot_line head rows = head ++ codes ",\"action\":\"snapshot\",\"snapshot\":" ++ array rows ++ codes "}\n"
+
+-- the lines by mode and form
+abbrev pub lines_text : Mode → Form → List ℕ → List (List ℕ) → List ℕ
+lines_text Evented form.Event head rows = added_lines head rows
+lines_text Evented form.Batch head rows = difference_line head rows
+lines_text Snapshot form.Event head rows = snapshot_line head rows
+lines_text Snapshot form.Batch head rows = snapshot_line head rows
+
+-- these are the lines of a batch in a form. Its moment is shown at UTC
+pub record AreLines (form : Form) (host : List ℕ) (names : List (List ℕ)) (batch : Batch) (lines : List ℕ) : Type 0 where
+  pub calendar : List ℕ
+  pub shown : IsCalendarText batch.moment calendar
+  pub text : lines ≡ lines_text batch.query.mode form (head_text host calendar batch) (objects names batch.rows)
+
+-- these are the lines of a batch of an evented query, a line for each row
 pub record AreAddedLines (host : List ℕ) (names : List (List ℕ)) (batch : Batch) (lines : List ℕ) : Type 0 where
   pub calendar : List ℕ
   pub shown : IsCalendarText batch.moment calendar
-  pub text : lines ≡ added_lines (head_text host calendar batch) names batch.rows
+  pub text : lines ≡ added_lines (head_text host calendar batch) (objects names batch.rows)
 
 -- the lines of batches, one batch after another, each with the names that its query gives
 abbrev pub AreResults : List ℕ → List Batch → List ℕ → Type 0

@@ -47,8 +47,8 @@ fn plain_front(text: &[u8]) -> (&[u8], &[u8])
     text.split_at(text.len())
 }
 
-/// Adds the inside of a string, run by run.
-fn push_inside(line: &mut Bytes, text: &[u8]) -> Result<(), NoMemory>
+/// Adds the inside of a JSON string, run by run. At want of memory a front part of it may stand in the line.
+pub fn push_inside(line: &mut Bytes, text: &[u8]) -> Result<(), NoMemory>
     ensures { OnOk result (line.new ≡ line.old ++ flat_map escaped text.now) }
 {
     let (plain, mut rest) = plain_front(text);

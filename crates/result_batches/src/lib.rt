@@ -2,6 +2,12 @@
 #![tactic(auto)]
 
 pub mod escape;
+pub mod labels;
 pub mod lines;
+pub mod object;
 
 pub use lines::result_lines;
+pub use object::row_object;
+
+#[cfg(test)]
+mod tests;

@@ -1,74 +1,26 @@
 //! Result lines, as osquery's filesystem logger writes them.
 
-ghost use Rattle.std.specs.Prelude.{◌≡◌, ◌≤◌, ℕ, [], ◌∷◌, ◌++◌, length, List, flat_map, IfOk, OnOk, codes};
+ghost use Rattle.std.specs.Prelude.{◌≡◌, ◌≤◌, ◌++◌, IfOk, OnOk};
 ghost use Rattle.std.specs.Fmt.{decimal};
-ghost use Rattle.result_batches.specs.Json.{quoted, separator};
-ghost use Rattle.result_batches.specs.Lines.{value_text, member, object, head_text, added_line, added_lines, AreAddedLines};
+ghost use Rattle.result_batches.specs.Labels.{labelled, labelled_rows};
+ghost use Rattle.result_batches.specs.Lines.{AreLines, added_line, added_lines, difference_line, difference_text, head_text, lines_text, snapshot_line};
 
 use crate::escape::push_quoted;
+use crate::labels::{Labels, labels_of};
+use crate::object::{push_array, push_object};
 use calendar_text::calendar_of;
 use entry_model::entry::Batch;
-use osq_value::{Bytes, NoMemory, Row, RowList, TextList, Value};
+use itoa::Buffer;
+use osq_value::{Bytes, NoMemory, Row, TextList};
+use pack_rules::schedule::{Form, Mode};
 use std::alloc::Global;
 
-/// Adds a value as a JSON string, Null as the empty one.
-fn push_value(alloc: Global, line: &mut Bytes, value: &Value) -> Result<(), NoMemory>
-    ensures { OnOk result (line.new ≡ line.old ++ quoted (value_text value.now)) }
-{
-    match value {
-        Value::Null => push_quoted(line, b""),
-        Value::Int(number) => {
-            let text = number.to_string(alloc)?;
-            push_quoted(line, text.as_bytes())
-        }
-        Value::Text(text) => push_quoted(line, text.as_str().as_bytes()),
-    }
-}
-
-/// Adds a column's name and its value.
-fn push_member(alloc: Global, line: &mut Bytes, name: &str, value: &Value) -> Result<(), NoMemory>
-    ensures { OnOk result (line.new ≡ line.old ++ member name.now value.now) }
-{
-    push_quoted(line, name.as_bytes())?;
-    line.extend(b":")?;
-    push_value(alloc, line, value)
-}
-
 /// Adds a decimal number.
-fn push_number(alloc: Global, line: &mut Bytes, number: u64) -> Result<(), NoMemory>
+fn push_number(line: &mut Bytes, number: u64) -> Result<(), NoMemory>
     ensures { OnOk result (line.new ≡ line.old ++ decimal number) }
 {
-    let text = number.to_string(alloc)?;
-    line.extend(text.as_bytes())
-}
-
-/// Adds the comma before a member, where others stand before it.
-fn push_separator(line: &mut Bytes, count: usize) -> Result<(), NoMemory>
-    ensures { OnOk result (line.new ≡ line.old ++ separator count) }
-{
-    if count == 0 {
-        Ok(())
-    } else {
-        line.extend(b",")
-    }
-}
-
-/// Adds the object of a row.
-fn push_object(alloc: Global, line: &mut Bytes, names: &TextList, row: &Row) -> Result<(), NoMemory>
-    ensures { OnOk result (line.new ≡ line.old ++ object names.now row.now) }
-{
-    line.extend(b"{")?;
-    let count = names.len().min(row.len());
-    for at in 0..count {
-        push_separator(line, at)?;
-        push_member(
-            alloc,
-            line,
-            names.as_slice()[at].as_str(),
-            &row.as_slice()[at],
-        )?;
-    }
-    line.extend(b"}")
+    let mut buffer = Buffer::new();
+    line.extend(buffer.format(number).as_bytes())
 }
 
 /// What each line of a batch begins with.
@@ -83,56 +35,117 @@ fn head_of(alloc: Global, batch: &Batch, host: &str, calendar: &str) -> Result<B
     head.extend(b",\"calendarTime\":")?;
     push_quoted(&mut head, calendar.as_bytes())?;
     head.extend(b",\"unixTime\":")?;
-    push_number(alloc, &mut head, batch.moment)?;
+    push_number(&mut head, batch.moment)?;
     head.extend(b",\"batch\":")?;
-    push_number(alloc, &mut head, batch.number)?;
+    push_number(&mut head, batch.number)?;
     Ok(head)
 }
 
 /// Adds the line of an added row.
-fn push_line(
-    alloc: Global,
-    lines: &mut Bytes,
-    head: &Bytes,
-    names: &TextList,
-    row: &Row,
-) -> Result<(), NoMemory>
-    ensures { OnOk result (lines.new ≡ lines.old ++ added_line head.now names.now row.now) }
+fn push_line(lines: &mut Bytes, head: &Bytes, labels: &Labels, row: &Row) -> Result<(), NoMemory>
+    ensures { OnOk result (lines.new ≡ lines.old ++ added_line head.now (labelled labels.now row.now)) }
 {
     lines.extend(head.as_slice())?;
     lines.extend(b",\"action\":\"added\",\"columns\":")?;
-    push_object(alloc, lines, names, row)?;
+    push_object(lines, labels, row)?;
     lines.extend(b"}\n")
 }
 
-/// A line for each row.
-fn lines_of(
-    alloc: Global,
-    head: &Bytes,
-    names: &TextList,
-    rows: &RowList,
-) -> Result<Bytes, NoMemory>
-    ensures { IfOk result (λ lines. lines ≡ added_lines head.now names.now rows.now) }
+/// A line for each added row.
+fn added(alloc: Global, head: &Bytes, labels: &Labels, rows: &[Row]) -> Result<Bytes, NoMemory>
+    ensures { IfOk result (λ lines. lines ≡ added_lines head.now (labelled_rows labels.now rows.now)) }
 {
     let mut lines = Bytes::new(alloc);
-    for row in rows.as_slice() {
-        push_line(alloc, &mut lines, head, names, row)?;
+    for row in rows {
+        push_line(&mut lines, head, labels, row)?;
     }
     Ok(lines)
 }
 
-/// The lines of a batch of an evented query, one for each row: `names` are the names of the result's columns, which
-/// differ from each other, and `host` is the host's identifier. The moment is shown in UTC.
+/// One line for the added rows.
+fn difference(alloc: Global, head: &Bytes, labels: &Labels, rows: &[Row]) -> Result<Bytes, NoMemory>
+    ensures { IfOk result (λ line. line ≡ difference_text head.now (labelled_rows labels.now rows.now)) }
+{
+    let mut line = Bytes::new(alloc);
+    line.extend(head.as_slice())?;
+    line.extend(b",\"diffResults\":{\"added\":")?;
+    push_array(&mut line, labels, rows)?;
+    line.extend(b",\"removed\":[]}}\n")?;
+    Ok(line)
+}
+
+/// One line for the added rows, where there are some.
+fn difference_of_some(
+    alloc: Global,
+    head: &Bytes,
+    labels: &Labels,
+    rows: &[Row],
+) -> Result<Bytes, NoMemory>
+    ensures { IfOk result (λ line. line ≡ difference_line head.now (labelled_rows labels.now rows.now)) }
+{
+    if rows.is_empty() {
+        Ok(Bytes::new(alloc))
+    } else {
+        difference(alloc, head, labels, rows)
+    }
+}
+
+/// One line for all rows.
+fn snapshot(alloc: Global, head: &Bytes, labels: &Labels, rows: &[Row]) -> Result<Bytes, NoMemory>
+    ensures { IfOk result (λ line. line ≡ snapshot_line head.now (labelled_rows labels.now rows.now)) }
+{
+    let mut line = Bytes::new(alloc);
+    line.extend(head.as_slice())?;
+    line.extend(b",\"action\":\"snapshot\",\"snapshot\":")?;
+    push_array(&mut line, labels, rows)?;
+    line.extend(b"}\n")?;
+    Ok(line)
+}
+
+/// The lines by mode and form.
+fn lines_of(
+    alloc: Global,
+    mode: Mode,
+    form: Form,
+    head: &Bytes,
+    labels: &Labels,
+    rows: &[Row],
+) -> Result<Bytes, NoMemory>
+    ensures { IfOk result (λ lines. lines ≡ lines_text mode form head.now (labelled_rows labels.now rows.now)) }
+{
+    match mode {
+        Mode::Evented => match form {
+            Form::Event => added(alloc, head, labels, rows),
+            Form::Batch => difference_of_some(alloc, head, labels, rows),
+        },
+        Mode::Snapshot => snapshot(alloc, head, labels, rows),
+    }
+}
+
+/// The lines of a batch, each ended by a line feed. `names` are the names of the result's columns, and `host` is the host's
+/// identifier. A batch of an evented query has a line for each row, or in the form `Batch` one line for all its rows where it
+/// has some; a batch of a snapshot always has one line. Each value is a string and Null the empty one, and of equal names the
+/// last alone is written. The moment is shown in UTC. The rows are as wide as the names: a name or a value that has no
+/// partner isn't written.
 pub fn result_lines(
     alloc: Global,
     batch: &Batch,
     names: &TextList,
     host: &str,
+    form: Form,
 ) -> Result<Bytes, NoMemory>
     requires { batch.now.moment ≤ 253402300799 }
-    ensures { IfOk result (AreAddedLines host.now names.now batch.now) }
+    ensures { IfOk result (AreLines form host.now names.now batch.now) }
 {
     let calendar = calendar_of(alloc, batch.moment)?;
     let head = head_of(alloc, batch, host, calendar.as_str())?;
-    lines_of(alloc, &head, names, &batch.rows)
+    let labels = labels_of(alloc, names)?;
+    lines_of(
+        alloc,
+        batch.query.mode,
+        form,
+        &head,
+        &labels,
+        batch.rows.as_slice(),
+    )
 }

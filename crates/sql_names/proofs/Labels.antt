@@ -1,5 +1,5 @@
 -- The name of a table, by what tells it apart.
-use Rattle.std.proofs.Common.{◌≡◌, ℕ, List, [], Option, Some, None, ap, refl}
+use Rattle.std.proofs.Common.{◌≡◌, ℕ, [], Option, Some, None, ap, refl}
 use Rattle.std.specs.Option.{option_map, option_map_or}
 use Rattle.osq_value.specs.Catalogue.{Table, Heading, table_at, table_name, heading_at, heading_of}
 

@@ -6,3 +6,13 @@ pub mod Labels
 pub mod Sames
 pub mod Bares
 pub mod Answered
+pub mod TextAnswers
+pub mod Places
+pub mod Fines
+pub mod Standings
+pub mod ItemsStand
+pub mod PartsStand
+pub mod QueryStands
+pub mod StandingLaws
+pub mod StandingRows
+pub mod NamesLength

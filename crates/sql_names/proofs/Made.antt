@@ -8,7 +8,7 @@ use Rattle.sql_parser.specs.View.{steps_of as step_trees}
 use Rattle.sql_parser.specs.View.{trees_of}
 use Rattle.sql_names.specs.declared.tree.Expr.{Expr}
 use Rattle.sql_names.specs.declared.tree.ExprStep.{ExprStep}
-use Rattle.sql_names.specs.Exprs.{ExprTree, OneExprStep, ExprSteps, no_steps, then, Exprs, no_exprs, and_expr}
+use Rattle.sql_names.specs.Exprs.{ExprSteps, no_steps, then, Exprs, no_exprs, and_expr}
 use Rattle.sql_names.specs.View.{expr_of, step_of, steps_of, exprs_of, steps_after, exprs_after}
 use Rattle.sql_names.specs.Shown.{Names}
 use Rattle.sql_names.specs.Naming.{expr_steps_of, expr_step_of}

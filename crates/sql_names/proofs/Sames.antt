@@ -5,7 +5,7 @@ use Rattle.std.proofs.lemmas.Bool.{false_from_ne_true}
 use Rattle.std.proofs.lemmas.List.{take_more, take-append-drop}
 use Rattle.sql_names.specs.declared.tree.Expr.{Expr}
 use Rattle.sql_names.specs.declared.tree.ExprStep.{ExprStep}
-use Rattle.sql_names.specs.Exprs.{ExprTree, OneExprStep, ExprSteps, no_steps, then, Exprs, no_exprs, and_expr}
+use Rattle.sql_names.specs.Exprs.{ExprSteps, no_steps, then, Exprs, no_exprs, and_expr}
 use Rattle.sql_names.specs.View.{expr_of, step_of, steps_of, exprs_of, steps_after, exprs_after}
 use Rattle.sql_names.specs.Same.{same_expr, same_step, same_steps, same_exprs}
 use Rattle.sql_names.proofs.Made.{steps_after-push, exprs_after-push}

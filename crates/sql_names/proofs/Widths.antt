@@ -1,11 +1,11 @@
 -- How wide the tables of the catalogue are, and where the columns of FROM stand.
-use Rattle.std.proofs.Common.{◌≡◌, ℕ, ◌≤◌, ◌+◌, ◌*◌, ◌<◌, ◌^◌, ◌++◌, List, [], ◌∷◌, length, map, arith, append_assoc, refl, suc, zero, take, get_or, sym, subst}
+use Rattle.std.proofs.Common.{◌≡◌, ℕ, ◌≤◌, ◌+◌, ◌*◌, ◌<◌, ◌^◌, ◌++◌, List, [], ◌∷◌, length, arith, append_assoc, refl, suc, zero, take, get_or, sym, subst}
 use Rattle.std.specs.Prelude.{slice_get}
 use Rattle.std.specs.Option.{option_map_or}
 use Rattle.osq_value.specs.Catalogue.{Table, tables, columns_of}
 use Rattle.sql_parser.specs.Select.{RefTree}
 use Rattle.sql_names.specs.declared.scope.Seen.{Seen}
-use Rattle.sql_names.specs.Scope.{columns_seen, source_column, seen_at, scope_from, IsNarrow, AreNarrow, table_number}
+use Rattle.sql_names.specs.Scope.{columns_seen, seen_at, scope_from, IsNarrow, AreNarrow, table_number}
 use Rattle.sql_names.specs.Spelling.{name_text}
 use Rattle.std.proofs.lemmas.List.{length-map}
 

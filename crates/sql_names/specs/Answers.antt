@@ -1,5 +1,5 @@
 -- What a query says of its tables and of its result.
-use Rattle.std.specs.Prelude.{ℕ, Bool, true, false, if◌then◌else◌, List, [], ◌∷◌, map, Option, Some, None}
+use Rattle.std.specs.Prelude.{ℕ, Bool, true, false, if◌then◌else◌, List, [], ◌∷◌, Option, Some, None}
 use Rattle.osq_value.specs.declared.catalogue.TableKind.{TableKind}
 use Rattle.osq_value.specs.declared.catalogue.TableKind.TheVariants.{Evented, Recorded, Computed}
 use Rattle.osq_value.specs.Catalogue.{Heading, heading_at}

@@ -1,7 +1,5 @@
 -- Columns outside every aggregate and every expression of GROUP BY, beside MIN or MAX.
-use Rattle.std.specs.Prelude.{ℕ, ◌==◌, ◌&&◌, ◌||◌, Bool, true, false, not, if◌then◌else◌, List, [], ◌∷◌, map, Option, Some, None}
-use Rattle.osq_value.specs.declared.value.Value.{Value}
-use Rattle.osq_value.specs.declared.value.Value.TheVariants as value
+use Rattle.std.specs.Prelude.{ℕ, ◌&&◌, Bool, true, false, not, if◌then◌else◌, List, [], ◌∷◌, map, Option, Some, None}
 use Rattle.sql_parser.specs.declared.token.Fold.{Fold}
 use Rattle.sql_parser.specs.declared.token.Fold.TheVariants as fold
 use Rattle.sql_parser.specs.declared.tree.Name.{Name}
@@ -19,7 +17,7 @@ use Rattle.sql_names.specs.Exprs.{ExprTree}
 use Rattle.sql_names.specs.Shown.{ShownTree, Names}
 use Rattle.sql_names.specs.Naming.{meaning_of, expr_of}
 use Rattle.sql_names.specs.Results.{all_columns, known_columns}
-use Rattle.sql_names.specs.Kinds.{names_in, forbids, place_of, place_if}
+use Rattle.sql_names.specs.Kinds.{names_in, forbids, place_of}
 use Rattle.sql_names.specs.Least.{lesser, least}
 use Rattle.sql_names.specs.Same.{same_expr}
 

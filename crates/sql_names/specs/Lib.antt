@@ -9,7 +9,10 @@ pub mod Least
 pub mod Results
 pub mod Kinds
 pub mod Resolved
+pub mod Standing
 pub mod Same
 pub mod Bare
 pub mod Resolve
 pub mod Answers
+pub mod Texts
+pub mod TextFaults

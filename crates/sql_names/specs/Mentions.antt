@@ -1,6 +1,5 @@
 -- The columns and aggregates that a select mentions, each with the clause in which it stands.
 use Rattle.std.specs.Prelude.{ℕ, ◌+◌, Bool, true, false, List, [], ◌∷◌, ◌++◌, Option, Some, None}
-use Rattle.std.specs.Option.{option_map_or}
 use Rattle.sql_parser.specs.Tree.{Tree, OneStep, Steps, no_steps, then, Trees, no_trees, and_tree}
 use Rattle.sql_parser.specs.Tree as tree
 use Rattle.sql_parser.specs.Select.{ItemTree, RefTree, HavingTree, TermTree, SelectTree, all, all_of, one}

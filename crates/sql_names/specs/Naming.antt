@@ -1,10 +1,9 @@
 -- What a name without a table stands for, and the tree of an expression whose names stand for columns.
-use Rattle.std.specs.Prelude.{ℕ, ℤ, ◌+◌, Bool, true, false, ◌&&◌, if◌then◌else◌, List, [], ◌∷◌, Option, Some, None, slice_get}
+use Rattle.std.specs.Prelude.{ℕ, ◌+◌, Bool, true, false, ◌&&◌, if◌then◌else◌, List, [], ◌∷◌, Option, Some, None, slice_get}
 use Rattle.std.specs.Option.{option_map_or}
 use Rattle.osq_value.specs.declared.value.Value.TheVariants as value
 use Rattle.osq_value.specs.declared.catalogue.Affinity.{Affinity}
 use Rattle.osq_value.specs.declared.catalogue.Affinity.TheVariants as affinity
-use Rattle.sql_parser.specs.declared.token.Span.{Span}
 use Rattle.sql_parser.specs.declared.tree.Name.{Name}
 use Rattle.sql_parser.specs.Tree.{Tree, OneStep, Steps, Trees}
 use Rattle.sql_parser.specs.Tree as tree

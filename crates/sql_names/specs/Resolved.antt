@@ -1,7 +1,5 @@
 -- The query that a select stands for.
-use Rattle.std.specs.Prelude.{ℕ, ℤ, ◌+◌, Bool, List, [], ◌∷◌, ◌++◌, map, take, Option, Some, None, option_map}
-use Rattle.std.specs.Option.{option_map_or}
-use Rattle.osq_value.specs.declared.value.TableId.{TableId}
+use Rattle.std.specs.Prelude.{ℕ, ℤ, ◌+◌, Bool, List, [], ◌∷◌, ◌++◌, map, take, Option, Some, None}
 use Rattle.osq_value.specs.Catalogue.{table_name}
 use Rattle.sql_parser.specs.declared.tree.Name.{Name}
 use Rattle.sql_parser.specs.declared.tree.Operator.TheVariants as operator

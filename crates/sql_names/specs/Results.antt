@@ -23,7 +23,7 @@ use Rattle.sql_names.specs.Mentions.{mentions}
 use Rattle.sql_names.specs.Exprs.{ExprTree}
 use Rattle.sql_names.specs.Exprs as expr
 use Rattle.sql_names.specs.Shown.{ShownTree, Names}
-use Rattle.sql_names.specs.Naming.{expr_of, shown_expr}
+use Rattle.sql_names.specs.Naming.{expr_of}
 use Rattle.sql_names.specs.Least.{least}
 
 -- a column of a table, which is the table's column of that number

@@ -1,8 +1,7 @@
 -- The FROM tables as names see them, and which column a name is.
 use Rattle.std.specs.Prelude.{ℕ, ◌+◌, ◌^◌, ◌<◌, ◌&&◌, if◌then◌else◌, Bool, true, false, not, List, [], ◌∷◌, length, map, Option, Some, None}
 use Rattle.std.specs.Option.{option_map_or}
-use Rattle.osq_value.specs.Catalogue.{Column, id_of, table_name, columns_of}
-use Rattle.sql_parser.specs.declared.tree.Name.{Name}
+use Rattle.osq_value.specs.Catalogue.{Column, id_of, columns_of}
 use Rattle.sql_parser.specs.Select.{RefTree}
 use Rattle.sql_names.specs.declared.query.SourceColumn.{SourceColumn}
 use Rattle.sql_names.specs.declared.scope.Seen.{Seen}

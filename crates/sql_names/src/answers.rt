@@ -1,6 +1,6 @@
 //! What a query says of its tables and of its result.
 
-ghost use Rattle.std.specs.Prelude.{◌≡◌, map, IfOk};
+ghost use Rattle.std.specs.Prelude.{◌≡◌, map, length, IfOk};
 ghost use Rattle.osq_value.specs.Catalogue.{heading_at};
 ghost use Rattle.sql_names.specs.Answers.{is_evented_kind as is_evented, is_evented_heading, is_evented_query, result_names};
 ghost use Rattle.sql_names.specs.Resolved.{query_of};
@@ -42,7 +42,8 @@ pub fn is_evented(query: &Query) -> bool
 
 /// The names of the columns of the result, in their order.
 pub fn names_of(alloc: Global, query: &Query) -> Result<TextList, NoMemory>
-    ensures { IfOk result (λ names. names ≡ result_names (query_of query.now)) }
+    ensures names { IfOk result (λ names. names ≡ result_names (query_of query.now)) }
+    ensures count { IfOk result (λ names. length names ≡ length query.now.items) }
 {
     let mut names = Sequence::new(alloc);
     for item in query.items.as_slice() {

@@ -21,4 +21,7 @@ mod spelling;
 mod tables;
 #[cfg(test)]
 mod tests;
+pub mod text;
+#[cfg(test)]
+mod text_tests;
 pub mod tree;

@@ -9,6 +9,7 @@ ghost use Rattle.sql_names.specs.Resolve.{fault_of as fault_at, fault_among, fau
 ghost use Rattle.sql_names.specs.Resolved.{query_of, query_tree};
 ghost use Rattle.sql_names.specs.Scope.{AreNarrow};
 ghost use Rattle.sql_names.specs.Shown.{shown_of, names_of};
+ghost use Rattle.sql_names.specs.Standing.{IsStanding};
 ghost use Rattle.sql_names.specs.View.{expr_of};
 
 use crate::aggregates::bad_aggregate;
@@ -124,6 +125,7 @@ fn resolve_within(
 #[tactic(auto, unfolding(crate::specs::Resolve::name_fault, crate::specs::Resolve::resolved))]
 pub fn resolve(alloc: Global, text: &str, select: &Select) -> Result<Query, NameError>
     ensures ok { IfOk result (λ q. resolved text.now (select_of select.now) ≡ Some (query_of q)) }
+    ensures standing { IfOk result (λ q. IsStanding (query_of q)) }
     ensures sound { OnOk result (name_fault text.now (select_of select.now) ≡ None) }
     ensures fault { IfErr result (λ e. e.kind ≢ WantOfMemory → name_fault text.now (select_of select.now) ≡ Some e) }
 {

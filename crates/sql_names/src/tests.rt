@@ -346,7 +346,11 @@ fn faults(rt: HostRuntime) -> Result<(), Fail> {
     Ok(())
 }
 
-const NAMES: [(&str, &[&str], bool); 8] = [
+const SIXTEEN: &str =
+    "SELECT p.* FROM time AS a JOIN time AS b JOIN time AS c JOIN time AS d JOIN time AS e JOIN time AS f JOIN time AS g JOIN time AS h JOIN time AS i JOIN time AS j JOIN time AS k JOIN time AS l JOIN time AS m JOIN time AS n JOIN time AS o JOIN time AS p";
+
+const NAMES: [(&str, &[&str], bool); 9] = [
+    (SIXTEEN, &["unix_time"], false),
     (
         "SELECT 1 + 2, 'a b', \"x\" AS \"y \"\"z\"",
         &["1 + 2", "'a b'", "y \"z"],

@@ -220,14 +220,60 @@ type Limit = (
     Option<(usize, ParseKind)>,
 );
 
-const LIMITS: [Limit; 11] = [
+const LIMITS: [Limit; 19] = [
     ("SELECT ", "NOT ", 64, "1", None),
     ("SELECT ", "NOT ", 65, "1", Some((263, ParseKind::TooDeep))),
+    (
+        "SELECT ",
+        "(",
+        64,
+        "1))))))))))))))))))))))))))))))))))))))))))))))))))))))))))))))))",
+        None,
+    ),
     ("SELECT ", "(", 65, "1", Some((71, ParseKind::TooDeep))),
+    // The parentheses of calls, CAST and IN count too, each at itself.
+    (
+        "SELECT ",
+        "lower(",
+        64,
+        "1))))))))))))))))))))))))))))))))))))))))))))))))))))))))))))))))",
+        None,
+    ),
+    (
+        "SELECT ",
+        "lower(",
+        65,
+        "1",
+        Some((396, ParseKind::TooDeep)),
+    ),
+    ("SELECT ", "CAST(", 65, "1", Some((331, ParseKind::TooDeep))),
+    (
+        "SELECT ",
+        "1 IN (",
+        65,
+        "1",
+        Some((396, ParseKind::TooDeep)),
+    ),
     ("SELECT ", "+", 64, "1", None),
     ("SELECT ", "+", 65, "1", Some((71, ParseKind::TooDeep))),
     ("SELECT 1", "+1", 1000, "", None),
     ("SELECT 1", "+1", 1001, "", Some((2008, ParseKind::TooDeep))),
+    // An operator of two words is one operator, at its first word, also where the reading stops behind it.
+    ("SELECT 1", " IS NOT 1", 1000, "", None),
+    (
+        "SELECT 1",
+        " IS NOT 1",
+        1001,
+        "",
+        Some((9009, ParseKind::TooDeep)),
+    ),
+    (
+        "SELECT 1",
+        " NOT IN ()",
+        1000,
+        " NOT",
+        Some((10009, ParseKind::TooDeep)),
+    ),
     // The earlier of two faults, in either order.
     (
         "SELECT 9223372036854775808",

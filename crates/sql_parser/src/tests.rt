@@ -157,3 +157,112 @@ fn select_faults(rt: HostRuntime) -> Result<(), Fail> {
     }
     Ok(())
 }
+
+/// Each function with a number of arguments that it doesn't take, and with `*` and DISTINCT where these may not stand.
+const WRONG_CALLS: [&str; 38] = [
+    "length()",
+    "length(1, 2)",
+    "lower()",
+    "lower(1, 2)",
+    "upper()",
+    "upper(1, 2)",
+    "trim()",
+    "trim(1, 2)",
+    "substr()",
+    "substr(1)",
+    "substr(1, 2, 3, 4)",
+    "instr()",
+    "instr(1)",
+    "instr(1, 2, 3)",
+    "replace()",
+    "replace(1, 2)",
+    "replace(1, 2, 3, 4)",
+    "abs()",
+    "abs(1, 2)",
+    "typeof()",
+    "typeof(1, 2)",
+    "coalesce()",
+    "coalesce(1)",
+    "ifnull()",
+    "ifnull(1)",
+    "ifnull(1, 2, 3)",
+    "nullif()",
+    "nullif(1)",
+    "nullif(1, 2, 3)",
+    "COUNT()",
+    "COUNT(1, 2)",
+    "COUNT(DISTINCT 1, 2)",
+    "SUM()",
+    "SUM(*)",
+    "MIN(1, 2)",
+    "MAX(DISTINCT 1)",
+    "upper(*)",
+    "coalesce(DISTINCT 1, 2)",
+];
+
+#[test]
+fn wrong_calls(rt: HostRuntime) -> Result<(), Fail> {
+    for text in WRONG_CALLS {
+        let error = parse_expression(rt.alloc(), text).err();
+        let wanted = ParseError {
+            place: 0,
+            kind: ParseKind::NotInGrammar,
+        };
+        assert_eq!(rt; error, Some(wanted));
+    }
+    Ok(())
+}
+
+/// Each function with each number of arguments that it takes.
+const RIGHT_CALLS: [&str; 19] = [
+    "length(1)",
+    "LOWER(1)",
+    "Upper(1)",
+    "trim(1)",
+    "substr(1, 2)",
+    "substr(1, 2, 3)",
+    "instr(1, 2)",
+    "replace(1, 2, 3)",
+    "abs(1)",
+    "typeof(1)",
+    "coalesce(1, 2)",
+    "coalesce(1, 2, 3, 4)",
+    "ifnull(1, 2)",
+    "nullif(1, 2)",
+    "COUNT(*)",
+    "COUNT(DISTINCT 1)",
+    "SUM(1)",
+    "MIN(1)",
+    "MAX(1)",
+];
+
+#[test]
+fn right_calls(rt: HostRuntime) -> Result<(), Fail> {
+    for text in RIGHT_CALLS {
+        assert_eq!(rt; parse_expression(rt.alloc(), text).err(), None);
+    }
+    Ok(())
+}
+
+const KEYWORDS: [&str; 29] = [
+    "SELECT", "Distinct", "AS", "FROM", "WHERE", "group", "BY", "HAVING", "ORDER", "ASC", "DESC",
+    "LIMIT", "OFFSET", "JOIN", "INNER", "CROSS", "LEFT", "OUTER", "ON", "USING", "AND", "OR",
+    "not", "IS", "IN", "LIKE", "BETWEEN", "NULL", "CAST",
+];
+
+/// A keyword is a name between quotes alone, and its longer forms are names.
+#[test]
+fn keywords_as_names(rt: HostRuntime) -> Result<(), Fail> {
+    let alloc = rt.alloc();
+    for word in KEYWORDS {
+        let plain = format!(in alloc; "SELECT 1 AS {word}")?;
+        let wanted = ParseError {
+            place: 12,
+            kind: ParseKind::NotInGrammar,
+        };
+        assert_eq!(rt; parse(alloc, plain.as_str()).err(), Some(wanted));
+        let quoted = format!(in alloc; "SELECT 1 AS \"{word}\", 1 AS {word}_")?;
+        assert_eq!(rt; parse(alloc, quoted.as_str()).err(), None);
+    }
+    Ok(())
+}

@@ -63,7 +63,7 @@ pub(crate) fn remainder(left: &Value, right: &Value) -> Value
 }
 
 /// The whole number of a value, none for Null.
-pub(crate) fn whole(value: &Value) -> Option<i64>
+pub fn whole(value: &Value) -> Option<i64>
     ensures { result ≡ whole value.now }
 {
     match cast_int(value) {

@@ -13,7 +13,7 @@ mod operators;
 mod texts;
 mod windows;
 
-pub use arithmetic::minus;
+pub use arithmetic::{minus, whole};
 pub use functions::call;
 pub use logic::{negation, truth};
 pub use operators::apply;

@@ -16,4 +16,8 @@ pub type Memory = Outside<
 >;
 
 #[cfg(test)]
+mod check_tests;
+#[cfg(test)]
+mod query_tests;
+#[cfg(test)]
 mod tests;

@@ -1,4 +1,4 @@
-use Rattle.std.proofs.Common.{◌≡◌, ◌++◌, drop, take, map, length}
+use Rattle.std.proofs.Common.{◌≡◌, drop}
 use Rattle.sql_names.specs.Kinds.{has_aggregate}
 use Rattle.sql_names.proofs.aggregates.has_aggregate.Given as goal
 

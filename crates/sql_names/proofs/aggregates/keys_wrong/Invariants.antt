@@ -1,4 +1,4 @@
-use Rattle.std.proofs.Common.{◌≡◌, ◌++◌, drop, take, map, length}
+use Rattle.std.proofs.Common.{◌≡◌, drop, map}
 use Rattle.sql_parser.specs.View.{tree_of}
 use Rattle.sql_names.specs.Kinds.{key_wrong}
 use Rattle.sql_names.specs.Least.{lesser, least}

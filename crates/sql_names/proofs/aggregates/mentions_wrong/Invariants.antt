@@ -1,4 +1,4 @@
-use Rattle.std.proofs.Common.{◌≡◌, ◌++◌, drop, take, map, length}
+use Rattle.std.proofs.Common.{◌≡◌, drop, map}
 use Rattle.sql_names.specs.Kinds.{mentioned_wrong}
 use Rattle.sql_names.specs.Least.{lesser, least}
 use Rattle.sql_names.specs.Shown.{names_of}

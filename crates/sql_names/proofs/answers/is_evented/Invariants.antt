@@ -1,4 +1,4 @@
-use Rattle.std.proofs.Common.{◌≡◌, ◌++◌, drop, take, map, length}
+use Rattle.std.proofs.Common.{◌≡◌, drop, map}
 use Rattle.sql_names.specs.Answers.{is_evented_among}
 use Rattle.sql_names.specs.Resolved.{source_of}
 use Rattle.sql_names.proofs.answers.is_evented.Given as goal

@@ -1,4 +1,4 @@
-use Rattle.std.proofs.Common.{◌≡◌, ◌++◌, drop, take, map, length}
+use Rattle.std.proofs.Common.{◌≡◌, ◌++◌, drop, map}
 use Rattle.sql_names.specs.Answers.{names_in_result}
 use Rattle.sql_names.specs.Resolved.{result_of}
 use Rattle.sql_names.proofs.answers.names_of.Given as goal

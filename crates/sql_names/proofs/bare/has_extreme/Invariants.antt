@@ -1,4 +1,4 @@
-use Rattle.std.proofs.Common.{◌≡◌, ◌++◌, drop, take, map, length}
+use Rattle.std.proofs.Common.{◌≡◌, drop}
 use Rattle.sql_names.specs.Bare.{has_extreme}
 use Rattle.sql_names.proofs.bare.has_extreme.Given as goal
 

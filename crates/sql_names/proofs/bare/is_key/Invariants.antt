@@ -1,4 +1,4 @@
-use Rattle.std.proofs.Common.{◌≡◌, ◌++◌, drop, take, map, length}
+use Rattle.std.proofs.Common.{◌≡◌, drop, map}
 use Rattle.sql_names.specs.Bare.{is_key}
 use Rattle.sql_names.specs.View.{expr_of}
 use Rattle.sql_names.proofs.bare.is_key.Given as goal

@@ -1,4 +1,4 @@
-use Rattle.std.proofs.Common.{◌≡◌, ◌++◌, drop, take, map, length}
+use Rattle.std.proofs.Common.{◌≡◌, drop, map}
 use Rattle.sql_parser.specs.Select.{term_of}
 use Rattle.sql_names.specs.Bare.{term_bare}
 use Rattle.sql_names.specs.Least.{lesser, least}

@@ -1,4 +1,4 @@
-use Rattle.std.proofs.Common.{◌≡◌, ◌++◌, drop, take, map, length}
+use Rattle.std.proofs.Common.{◌≡◌, ◌++◌, take, map}
 use Rattle.sql_parser.specs.View.{steps_of}
 use Rattle.sql_names.specs.Naming.{expr_of as expr_among}
 use Rattle.sql_names.specs.Results.{rights_of}

@@ -1,4 +1,4 @@
-use Rattle.std.proofs.Common.{◌≡◌, ◌++◌, drop, take, map, length}
+use Rattle.std.proofs.Common.{◌≡◌, take, map}
 use Rattle.sql_names.specs.Resolved.{order_of}
 use Rattle.sql_names.proofs.copy.copy_orders.Given as goal
 

@@ -1,4 +1,4 @@
-use Rattle.std.proofs.Common.{◌≡◌, ◌++◌, drop, take, map, length}
+use Rattle.std.proofs.Common.{◌≡◌, take, map}
 use Rattle.sql_names.specs.Resolved.{source_of}
 use Rattle.sql_names.proofs.copy.copy_sources.Given as goal
 

@@ -1,4 +1,4 @@
-use Rattle.std.proofs.Common.{◌≡◌, drop, map, length}
+use Rattle.std.proofs.Common.{◌≡◌, drop, map}
 use Rattle.sql_names.specs.declared.mention.Mention.{Mention}
 use Rattle.sql_names.specs.Kinds.{names_in, mentioned_missing}
 use Rattle.sql_names.specs.Least.{lesser, least}

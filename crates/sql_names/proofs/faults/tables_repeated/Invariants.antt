@@ -1,8 +1,7 @@
-use Rattle.std.proofs.Common.{◌≡◌, drop, map, length}
+use Rattle.std.proofs.Common.{◌≡◌, drop, map}
 use Rattle.sql_parser.specs.Select.{ref_of}
 use Rattle.sql_names.specs.Kinds.{tables_repeated}
-use Rattle.sql_names.specs.Least.{lesser, least}
-use Rattle.sql_names.specs.Shown.{names_of}
+use Rattle.sql_names.specs.Least.{lesser}
 use Rattle.sql_names.proofs.faults.tables_repeated.Given as goal
 
 abbrev pub invariant-loop-source : goal.invariant-loop-source

@@ -1,7 +1,7 @@
-use Rattle.std.proofs.Common.{◌≡◌, drop, map, length}
+use Rattle.std.proofs.Common.{◌≡◌, drop, map}
 use Rattle.sql_parser.specs.Select.{ref_of}
 use Rattle.sql_names.specs.Kinds.{usings_missing}
-use Rattle.sql_names.specs.Least.{lesser, least}
+use Rattle.sql_names.specs.Least.{lesser}
 use Rattle.sql_names.specs.Shown.{names_of}
 use Rattle.sql_names.proofs.faults.usings_missing.Given as goal
 

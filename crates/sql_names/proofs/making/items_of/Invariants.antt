@@ -1,4 +1,4 @@
-use Rattle.std.proofs.Common.{◌≡◌, ◌++◌, drop, take, map, length}
+use Rattle.std.proofs.Common.{◌≡◌, map}
 use Rattle.sql_names.specs.Resolved.{result_of, result_tree}
 use Rattle.sql_names.specs.Shown.{shown_of}
 use Rattle.sql_names.proofs.making.items_of.Given as goal

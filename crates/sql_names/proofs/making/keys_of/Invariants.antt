@@ -1,4 +1,4 @@
-use Rattle.std.proofs.Common.{◌≡◌, ◌++◌, drop, take, map, length}
+use Rattle.std.proofs.Common.{◌≡◌, take, map}
 use Rattle.sql_parser.specs.View.{tree_of}
 use Rattle.sql_names.specs.Results.{term_expr}
 use Rattle.sql_names.specs.Shown.{names_of}

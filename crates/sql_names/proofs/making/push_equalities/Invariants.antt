@@ -1,4 +1,4 @@
-use Rattle.std.proofs.Common.{◌≡◌, ◌++◌, drop, take, map, length}
+use Rattle.std.proofs.Common.{◌≡◌, ◌++◌, take, map}
 use Rattle.sql_names.specs.Resolved.{joined_name}
 use Rattle.sql_names.specs.Shown.{names_of}
 use Rattle.sql_names.specs.View.{expr_of}

@@ -1,4 +1,4 @@
-use Rattle.std.proofs.Common.{◌≡◌, ◌++◌, drop, take, map, length}
+use Rattle.std.proofs.Common.{◌≡◌, ◌++◌, drop, map}
 use Rattle.sql_parser.specs.Select.{ref_of}
 use Rattle.sql_names.specs.Resolved.{source_of, source_trees}
 use Rattle.sql_names.specs.Shown.{names_of}

@@ -1,4 +1,4 @@
-use Rattle.std.proofs.Common.{◌≡◌, ◌++◌, drop, take, map, length}
+use Rattle.std.proofs.Common.{◌≡◌, take, map}
 use Rattle.sql_parser.specs.Select.{term_of}
 use Rattle.sql_names.specs.Resolved.{order_of, order_by}
 use Rattle.sql_names.specs.Shown.{names_of}

@@ -1,4 +1,4 @@
-use Rattle.std.proofs.Common.{length, map, ap, arith}
+use Rattle.std.proofs.Common.{length, ap, arith}
 use Rattle.std.proofs.lemmas.List.{length-map}
 use Rattle.osq_value.specs.Catalogue.{columns_of}
 use Rattle.sql_names.specs.Scope.{source_column}

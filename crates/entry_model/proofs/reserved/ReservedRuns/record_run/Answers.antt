@@ -1,7 +1,7 @@
 use Rattle.std.proofs.Common.{◌≡◌, ◌<◌, ◌-◌, ◌∙◌, ℕ, Bool, if◌then◌else◌, List, [], ◌∷◌, ◌++◌, map, length, false, sym, ap, arith}
 use Rattle.std.specs.List.{list_any}
 use Rattle.entry_model.specs.declared.restored.Run.{Run}
-use Rattle.entry_model.specs.Keys.{same_key}
+use Rattle.pack_rules.specs.Keys.{same_key}
 use Rattle.entry_model.specs.Runs.{changed_run, with_batch}
 use Rattle.entry_model.specs.Reserved.{RunsAndRoom, has_run}
 use Rattle.entry_model.proofs.Changes.{changes, put_new, written}

@@ -1,0 +1,12 @@
+use Rattle.std.proofs.Common.{◌≡◌, ◌++◌, length}
+use denote.Shadow.{shadow}
+use denote.Text.{Utf8}
+use Rattle.std.specs.String.{string_bytes}
+use Rattle.osq_config.specs.Documents.{without_comments}
+use Rattle.osq_config.proofs.document.without_comments.Given as goal
+
+abbrev pub invariant-loop-line : goal.invariant-loop-line
+invariant-loop-line l = record { text : shadow (Utf8 l.rest); so_far : without_comments l.text ≡ string_bytes l.kept ++ without_comments l.rest }
+
+abbrev pub decreases-loop-line : goal.decreases-loop-line
+decreases-loop-line l = length l.rest

@@ -1,0 +1,8 @@
+use Rattle.serde_json.specs.View.{view}
+use Rattle.osq_config.specs.Counts.{fault_of_config}
+use Rattle.osq_config.specs.Values.{config_of}
+use Rattle.osq_config.proofs.Answered.{answered}
+use Rattle.osq_config.proofs.read.read_config.Goals as goal
+
+pub returns : goal.returns
+returns c = answered fault_of_config config_of c.args.document.now (view c.in_ok-json.json) c.config.result c.in_ok-json.ensures c.config.ensures

@@ -1,0 +1,7 @@
+pub mod Counts
+pub mod Documents
+pub mod Faults
+pub mod Files
+pub mod Kinds
+pub mod Reads
+pub mod Values

@@ -1,0 +1,58 @@
+//! What a configuration says.
+
+use osq_value::{CategoryList, Sequence, Str, TextList};
+
+/// On which hosts an entry or a pack holds.
+#[derive(Drop)]
+pub struct Rules {
+    /// Platforms with commas; the empty text holds on each.
+    pub platform: Str,
+    /// The least version of the agent; the empty text holds for each.
+    pub version: Str,
+    /// The part of the hosts in hundredths, from 1 to 100.
+    pub shard: u64,
+}
+
+/// A query of the schedule or of a pack.
+#[derive(Drop)]
+pub struct QueryEntry {
+    pub name: Str,
+    pub text: Str,
+    /// Seconds between two batches, from 1 to 604800.
+    pub interval: u64,
+    pub is_snapshot: bool,
+    pub rules: Rules,
+}
+
+/// Queries in byte order of their names.
+pub type QueryEntryList = Sequence<QueryEntry>;
+
+/// A query pack.
+#[derive(Drop)]
+pub struct Pack {
+    pub name: Str,
+    /// The file that holds the pack, where it is given as a path. It has no queries until that file is added.
+    pub path: Option<Str>,
+    /// Queries each of which gives a row where the pack is meant for the host.
+    pub discovery: TextList,
+    pub queries: QueryEntryList,
+    pub rules: Rules,
+}
+
+/// Packs in byte order of their names.
+pub type PackList = Sequence<Pack>;
+
+/// A configuration.
+#[derive(Drop)]
+pub struct Config {
+    /// Seconds after which an event may expire, from 1 to 4294967295.
+    pub events_expiry: u64,
+    /// How many events of a table are kept, from 1 to 1000000.
+    pub events_max: u64,
+    /// Result lines stand one for a batch, else one for a row.
+    pub is_batch_form: bool,
+    pub schedule: QueryEntryList,
+    pub packs: PackList,
+    /// The categories of paths, in byte order of their names.
+    pub categories: CategoryList,
+}

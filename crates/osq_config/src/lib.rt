@@ -1,0 +1,22 @@
+//! The configuration of a host and its query packs, as a JSON document gives them.
+#![tactic(auto)]
+
+mod category;
+pub mod config;
+mod document;
+mod entry;
+pub mod error;
+mod field;
+pub mod file;
+mod option;
+mod pack;
+mod place;
+pub mod read;
+
+pub use config::{Config, Pack, PackList, QueryEntry, QueryEntryList, Rules};
+pub use error::ConfigError;
+pub use file::{PackFile, PackFileList, add_pack, pack_files};
+pub use read::read_config;
+
+#[cfg(test)]
+mod tests;

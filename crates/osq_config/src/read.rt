@@ -1,0 +1,79 @@
+//! Reads a configuration.
+
+ghost use Rattle.std.specs.Prelude.{◌≡◌, nat_lt};
+ghost use Rattle.serde_json.specs.View.{view};
+ghost use Rattle.osq_config.specs.Counts.{fault_of_config, packed_count, query_count};
+ghost use Rattle.osq_config.specs.Reads.{Answers, Reads};
+ghost use Rattle.osq_config.specs.Values.{config_of};
+
+use crate::category::{categories_of, check_excluded};
+use crate::config::{Config, Pack, PackList, QueryEntryList};
+use crate::document::parse;
+use crate::entry::entries_at;
+use crate::error::ConfigError;
+use crate::field::check_object;
+use crate::option::Options;
+use crate::pack::packs_of;
+use serde_json::Value as Json;
+use std::alloc::Global;
+
+/// The most queries that a schedule and its packs may hold together.
+pub const QUERIES: usize = 10000;
+
+/// Reads a configuration: a JSON object in UTF-8. Before it is read, each backslash that ends a line is left out with the line feed, and
+/// then each line that begins, behind spaces and tabs, with `//` or `#`. The first fault is answered, in byte order of the keys at each
+/// level and an object before its members; the number of queries is tried last.
+pub fn read_config(alloc: Global, document: &[u8]) -> Result<Config, ConfigError>
+    ensures { Answers fault_of_config config_of document.now result }
+{
+    let json = parse(alloc, document)?;
+    config(alloc, &json)
+}
+
+#[tactic(auto, unfolding(crate::specs::Counts::fault_of_config, crate::specs::Values::config_of))]
+fn config(alloc: Global, document: &Json) -> Result<Config, ConfigError>
+    ensures { Reads (fault_of_config (view document.now)) (config_of (view document.now)) result }
+{
+    check_object(alloc, "", document)?;
+    check_excluded(alloc, document)?;
+    let categories = categories_of(alloc, document)?;
+    let options = Options::of(alloc, document)?;
+    let packs = packs_of(alloc, document)?;
+    let schedule = entries_at(alloc, "", document, "schedule")?;
+    if holds_more(QUERIES, &schedule, &packs) {
+        return Err(ConfigError::TooManyQueries);
+    }
+    Ok(Config {
+        events_expiry: options.events_expiry,
+        events_max: options.events_max,
+        is_batch_form: options.is_batch_form,
+        schedule,
+        packs,
+        categories,
+    })
+}
+
+/// Whether a schedule and packs hold more queries than these.
+pub fn holds_more(limit: usize, schedule: &QueryEntryList, packs: &PackList) -> bool
+    ensures { result ≡ nat_lt limit (query_count schedule.now packs.now) }
+{
+    if limit < schedule.len() {
+        return true;
+    }
+    packs_hold_more(limit - schedule.len(), packs.as_slice())
+}
+
+/// Whether packs hold more queries than these.
+fn packs_hold_more(limit: usize, packs: &[Pack]) -> bool
+    ensures { result ≡ nat_lt limit (packed_count packs.now) }
+{
+    let mut left = limit;
+    for pack in packs {
+        let count = pack.queries.len();
+        if left < count {
+            return true;
+        }
+        left -= count;
+    }
+    false
+}

@@ -1,0 +1,11 @@
+use Rattle.std.proofs.Common.{rules, inr, ℕ, refl, sym, append-nil}
+use Rattle.osq_outside.specs.Causes.{Rose}
+use Rattle.osq_program.proofs.Listings.{partly_listed}
+use Rattle.osq_program.proofs.check.run_check.Goals as goal
+
+pub returns-then-is_err-clause-does : goal.returns-then-is_err-clause-does
+returns-then-is_err-clause-does g c =
+    let failed : Rose (g.O.Sink.faults c.args.outside.now.status) (g.O.Sink.faults c.write_all.new.sink) = search rules in
+    partly_listed _ _ c.in-Ok-listing.lines c.in-Ok.configured.notes
+    (record { config = c.in-Ok.configured.config; configured = c.in-Ok.ensures.config; listing = c.in-Ok-listing.ensures })
+    (λ tells. (0, sym (append-nil _))) (inr failed) (λ tells. refl) _ refl

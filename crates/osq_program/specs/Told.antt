@@ -1,0 +1,24 @@
+-- What the objects of the outside tell of one run.
+use Rattle.std.specs.Prelude.{ℕ, List, Option}
+use Rattle.entry_model.specs.declared.entry.Entry.{Entry}
+
+-- Of each object whether it tells what it holds, what that was before the run and is behind it, and whether it failed in between.
+pub record Told : Type 1 where
+  pub files_tell : Type 0
+  pub file : List ℕ → Option (List ℕ)  -- the bytes of each file
+  pub files_failed : Type 0
+  pub keeper_tells : Type 0
+  pub kept_before : List Entry
+  pub kept_after : List Entry
+  pub keeper_failed : Type 0
+  pub reads : ℕ → Type 0  -- the clock was read once, and gave this moment
+  pub source_tells : Type 0
+  pub bytes : List ℕ  -- what the source had to give
+  pub source_failed : Type 0
+  pub sink_tells : Type 0
+  pub results_before : List ℕ
+  pub results_after : List ℕ
+  pub results_failed : Type 0
+  pub status_before : List ℕ
+  pub status_after : List ℕ
+  pub status_failed : Type 0

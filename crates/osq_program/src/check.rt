@@ -1,0 +1,103 @@
+//! The command `check`: the schedule that a configuration gives a host.
+
+ghost use Rattle.std.specs.Prelude.{◌≡◌, ℕ, ◌∷◌, [], true, map, flat_map, IfOk};
+ghost use Rattle.osq_config.specs.declared.config.Pack.{Pack};
+ghost use Rattle.osq_outside.specs.Causes.{Rose};
+ghost use Rattle.osq_program.specs.Answers.{IsUsageStatus};
+ghost use Rattle.osq_program.specs.Asked.{check_asked};
+ghost use Rattle.osq_program.specs.Checking.{IsCheck, IsListing};
+
+use crate::config_files::read_configured;
+use crate::link::Link;
+use crate::outside::Outside;
+use crate::schedule_lines::lines_of;
+use crate::status::Status;
+use crate::stop::refuse;
+use crate::words::CheckWords;
+use batch_keeper::Keeper;
+use osq_config::{Config, Pack};
+use osq_outside::{Clock, Files, Sink, Source, write_all};
+use osq_value::{Bytes, NoMemory, Str};
+use pack_rules::{Host, schedule_of};
+use std::alloc::Global;
+
+/// One truth value for each pack: every pack counts as found.
+fn all_found(alloc: Global, packs: &[Pack]) -> Result<Vec<bool>, NoMemory>
+    ensures { IfOk result (λ found. found.items ≡ map (λ (pack : Pack). true) packs.now) }
+{
+    let mut found = Vec::new(alloc);
+    for _pack in packs {
+        found.push(true)?;
+    }
+    Ok(found)
+}
+
+/// The host that the words name.
+fn host_of(alloc: Global, words: &CheckWords<'_>) -> Result<Host, NoMemory>
+    ensures { IfOk result (λ host. host ≡ record { identifier = words.now.host.now; platform = words.now.platform.now; agent = words.now.agent.now }) }
+{
+    Ok(Host {
+        identifier: Str::of(alloc, words.host)?,
+        platform: Str::of(alloc, words.platform)?,
+        agent: Str::of(alloc, words.agent)?,
+    })
+}
+
+/// The lines of the schedule that a configuration gives the host.
+fn listing(alloc: Global, config: &Config, words: &CheckWords<'_>) -> Result<Bytes, NoMemory>
+    ensures { IfOk result (IsListing (check_asked words.now) config.now) }
+{
+    let host = host_of(alloc, words)?;
+    let found = all_found(alloc, config.packs.as_slice())?;
+    let schedule = schedule_of(alloc, config, &host, found.as_slice())?;
+    lines_of(alloc, schedule.queries.as_slice())
+}
+
+/// Writes the schedule of the configuration, and tells on the status stream which packs are left out, or why nothing is written.
+pub(crate) fn run_check<S: Source, O: Sink, F: Files, C: Clock, K: Keeper, L: Link>(
+    alloc: Global,
+    words: &CheckWords<'_>,
+    outside: &mut Outside<S, O, F, C, K, L>,
+) -> Status
+    ensures usage { ¬ IsUsageStatus result }
+    ensures link { outside.new.link ≡ outside.old.link }
+    ensures ledger { outside.new.ledger ≡ outside.old.ledger }
+    ensures sources { outside.new.sources ≡ outside.old.sources }
+    ensures clock { outside.new.clock ≡ outside.old.clock }
+    ensures keeper { outside.new.keeper ≡ outside.old.keeper }
+    ensures does { IsCheck (check_asked words.now) (record {
+      files_tell = F.tells;
+      file = F.file outside.old.files;
+      files_failed = Rose (F.faults outside.old.files) (F.faults outside.new.files);
+      keeper_tells = K.tells;
+      kept_before = K.kept outside.old.keeper;
+      kept_after = K.kept outside.new.keeper;
+      keeper_failed = Rose (K.faults outside.old.keeper) (K.faults outside.new.keeper);
+      reads = λ moment. C.reads outside.old.clock moment outside.new.clock;
+      source_tells = S.tells;
+      bytes = flat_map S.left outside.old.sources.items;
+      source_failed = (before after : S) × (outside.old.sources.items ≡ before ∷ []) × (outside.new.sources.items ≡ after ∷ []) × Rose (S.faults before) (S.faults after);
+      sink_tells = O.tells;
+      results_before = O.written outside.old.results;
+      results_after = O.written outside.new.results;
+      results_failed = Rose (O.faults outside.old.results) (O.faults outside.new.results);
+      status_before = O.written outside.old.status;
+      status_after = O.written outside.new.status;
+      status_failed = Rose (O.faults outside.old.status) (O.faults outside.new.status);
+    }) result }
+{
+    let configured = match read_configured(alloc, &mut outside.files, words.config) {
+        Ok(configured) => configured,
+        Err(status) => return refuse(alloc, &mut outside.status, status),
+    };
+    let Ok(lines) = listing(alloc, &configured.config, words) else {
+        return refuse(alloc, &mut outside.status, Status::OutOfMemory);
+    };
+    if write_all(&mut outside.status, configured.notes.as_slice()).is_err() {
+        return Status::SinkFault;
+    }
+    match write_all(&mut outside.results, lines.as_slice()) {
+        Ok(()) => Status::Ok,
+        Err(_) => refuse(alloc, &mut outside.status, Status::SinkFault),
+    }
+}

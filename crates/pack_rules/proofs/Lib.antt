@@ -1,0 +1,3 @@
+pub mod ByNames
+pub mod Soundness
+pub mod VersionNumbers

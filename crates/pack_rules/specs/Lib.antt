@@ -1,0 +1,10 @@
+pub mod ByName
+pub mod Hosts
+pub mod Keys
+pub mod Offers
+pub mod Parts
+pub mod Platforms
+pub mod Schedules
+pub mod Sound
+pub mod Versions
+pub mod Walks

@@ -1,0 +1,51 @@
+-- Schedules that a session may run.
+use Rattle.std.specs.Prelude.{◌≡◌, ◌<◌, ◌≤◌, ◌^◌, Bool, true, false, List, All, Option, Some, None, is_some}
+use Rattle.osq_config.specs.declared.config.Config.{Config}
+use Rattle.osq_config.specs.declared.config.Pack.{Pack}
+use Rattle.osq_config.specs.declared.config.QueryEntry.{QueryEntry}
+use Rattle.sql_names.specs.Resolved.{QueryTree}
+use Rattle.sql_names.specs.Answers.{is_evented_query}
+use Rattle.sql_names.specs.Texts.{query_in}
+use Rattle.pack_rules.specs.declared.schedule.Mode.TheVariants.{Evented}
+use Rattle.pack_rules.specs.declared.schedule.Scheduled.{Scheduled}
+use Rattle.pack_rules.specs.declared.schedule.Schedule.{Schedule}
+use Rattle.pack_rules.specs.declared.host.Host.{Host}
+use Rattle.pack_rules.specs.ByName.{names_rise}
+use Rattle.pack_rules.specs.Schedules.{IsScheduleOf}
+
+abbrev pub is_evented_in : Option QueryTree → Bool
+is_evented_in None = false
+is_evented_in (Some query) = is_evented_query query
+
+-- a query that a session may run
+pub record IsRunnable (scheduled : Scheduled) : Type 0 where
+  pub accepted : is_some (query_in scheduled.key.text) ≡ true
+  pub evented : scheduled.key.mode ≡ Evented → is_evented_in (query_in scheduled.key.text) ≡ true
+  pub at_least : 1 ≤ scheduled.interval
+  pub at_most : scheduled.interval ≤ 604800
+
+-- a schedule that a session may run, but for the number of its queries
+pub record IsSound (schedule : Schedule) : Type 0 where
+  pub rise : names_rise schedule.queries ≡ true
+  pub runnable : All IsRunnable schedule.queries
+  pub expiry_least : 1 ≤ schedule.events_expiry
+  pub expiry_most : schedule.events_expiry < 2 ^ 32
+  pub max_least : 1 ≤ schedule.events_max
+  pub max_most : schedule.events_max ≤ 1000000
+
+-- the interval of an entry is within its bounds
+pub record HasInterval (entry : QueryEntry) : Type 0 where
+  pub at_least : 1 ≤ entry.interval
+  pub at_most : entry.interval ≤ 604800
+
+-- the numbers of a configuration are within their bounds
+pub record IsInRange (config : Config) : Type 0 where
+  pub schedule : All HasInterval config.schedule
+  pub packs : All (λ (pack : Pack). All HasInterval pack.queries) config.packs
+  pub expiry_least : 1 ≤ config.events_expiry
+  pub expiry_most : config.events_expiry < 2 ^ 32
+  pub max_least : 1 ≤ config.events_max
+  pub max_most : config.events_max ≤ 1000000
+
+abbrev pub Soundness : Type 0
+Soundness = (config : Config) (host : Host) (found : List Bool) (schedule : Schedule) → IsInRange config → IsScheduleOf config host found schedule → IsSound schedule

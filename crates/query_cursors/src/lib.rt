@@ -1,0 +1,8 @@
+//! Which queries are due, and how far each has read.
+#![tactic(auto)]
+
+pub mod cursors;
+pub mod interval;
+
+pub use cursors::Cursors;
+pub use interval::due;

@@ -1,0 +1,10 @@
+pub mod Tails
+pub mod Kept
+pub mod Marks
+pub mod Readings
+pub mod Ticks
+pub mod Stands
+pub mod Expiries
+pub mod Computed
+pub mod Laws
+pub mod Inside

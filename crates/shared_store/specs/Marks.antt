@@ -1,0 +1,15 @@
+-- The entries of a session after which a cut that was made before is out of date.
+use Rattle.std.specs.Prelude.{ℕ, suc, List, [], ◌∷◌, ◌++◌}
+use Rattle.entry_model.specs.declared.entry.Entry.{Entry}
+use Rattle.entry_model.specs.declared.entry.Entry.TheVariants.{Configured, Ticked}
+
+-- the place of the entry, where it is one of these
+abbrev pub mark_in : ℕ → Entry → List ℕ
+mark_in place (Configured document schedule moment) = place ∷ []
+mark_in place (Ticked moment) = place ∷ []
+mark_in place _ = []
+
+-- the places of these entries, where the first stands at this place
+abbrev pub marks_from : ℕ → List Entry → List ℕ
+marks_from place [] = []
+marks_from place (entry ∷ rest) = mark_in place entry ++ marks_from (suc place) rest

@@ -1,0 +1,10 @@
+//! The state of a session, and its calls.
+#![tactic(auto)]
+
+mod computed;
+pub mod laws;
+mod readings;
+pub mod state;
+pub mod tail;
+
+pub use state::{AppendError, State, TickRefusal};

@@ -1,0 +1,215 @@
+-- The groups, one member after another.
+use Rattle.std.proofs.Common.{◌≡◌, ℕ, ◌<◌, ◌+◌, suc, refl, sym, ap, ap₂, ◌∙◌, Bool, true, false, cond, not, ◌||◌, true≢false, List, [], ◌∷◌, ◌++◌, filter, map, length, get_or, set, append-nil, Some, None, position, arith}
+use Rattle.std.specs.List.{list_any, position_from}
+use Rattle.std.proofs.lemmas.List.{length-map, map-append}
+use Rattle.std.proofs.lemmas.List.Elements.{filter-append}
+use Rattle.std.proofs.lemmas.Iterator.Adapters.{position_from-zero}
+use Rattle.osq_value.specs.declared.value.Value.{Value}
+use Rattle.sql_meaning.specs.Firsts.{same_values, firsts_by}
+use Rattle.sql_meaning.specs.declared.groups.Keyed.{Keyed}
+use Rattle.sql_meaning.specs.Groups.{groups_by}
+use Rattle.sql_meaning.proofs.FirstsLaws.{same_values-exact, same_values-itself, same_values-turned, any_firsts, differs, firsts_by-push, has_key}
+
+module _ {X : Type 0} (key : X → List Value) where
+  -- each key stands once
+  abbrev pub Once : List X → Type 0
+  Once [] = Unit {0}
+  Once (x ∷ xs) = (list_any (has_key key (key x)) xs ≡ false) × Once xs
+
+  left_step : (k : List Value) (x : X) (xs rest : List X) → list_any (has_key key k) rest ≡ false → same_values (key x) k ≡ false → (s : Bool) → list_any (has_key key k) (cond s (x ∷ rest) rest) ≡ false
+  left_step k x xs rest h p true = λ i. p i || h i
+  left_step k x xs rest h p false = h
+
+  first_no : (a b : Bool) → (a || b) ≡ false → a ≡ false
+  first_no true b h = h
+  first_no false b h = refl
+
+  second_no : (a b : Bool) → (a || b) ≡ false → b ≡ false
+  second_no true b h = absurd (true≢false h)
+  second_no false b h = h
+
+  any_left : (k : List Value) (p : X → Bool) (xs : List X) → list_any (has_key key k) xs ≡ false → list_any (has_key key k) (filter p xs) ≡ false
+  any_left k p [] h = refl
+  any_left k p (x ∷ xs) h =
+      left_step k x xs (filter p xs) (any_left k p xs (second_no (has_key key k x) (list_any (has_key key k) xs) h)) (first_no (has_key key k x) (list_any (has_key key k) xs) h) (p x)
+
+  once_if : (x : X) (rest : List X) → list_any (has_key key (key x)) rest ≡ false → Once rest → (s : Bool) → Once (cond s (x ∷ rest) rest)
+  once_if x rest p h true = (p, h)
+  once_if x rest p h false = h
+
+  once_left : (p : X → Bool) (xs : List X) → Once xs → Once (filter p xs)
+  once_left p [] h = tt
+  once_left p (x ∷ xs) h = once_if x (filter p xs) (any_left (key x) p xs h.0) (once_left p xs h.1) (p x)
+
+  none_step : (y x : X) (rest : List X) → list_any (has_key key (key y)) rest ≡ false → (s : Bool) → same_values (key y) (key x) ≡ s → list_any (has_key key (key y)) (cond (not s) (x ∷ rest) rest) ≡ false
+  none_step y x rest h true p = h
+  none_step y x rest h false p = λ i. (same_values-turned (key x) (key y) ∙ p) i || h i
+
+  -- behind those that differ from y none has y's key
+  none_same : (y : X) (xs : List X) → list_any (has_key key (key y)) (filter (differs key y) xs) ≡ false
+  none_same y [] = refl
+  none_same y (x ∷ xs) = none_step y x (filter (differs key y) xs) (none_same y xs) (same_values (key y) (key x)) refl
+
+  pub firsts_once : (xs : List X) → Once (firsts_by key xs)
+  firsts_once [] = tt
+  firsts_once (x ∷ xs) = (none_same x (firsts_by key xs), once_left (differs key x) (firsts_by key xs) (firsts_once xs))
+
+  module _ {R : Type 0} (row : X → R) where
+    -- the rows with the key of a first
+    abbrev pub rows_of : List X → X → List R
+    rows_of xs first = map row (filter (λ x. same_values (key first) (key x)) xs)
+
+    rows-push : (xs : List X) (x first : X) (s : Bool) → same_values (key first) (key x) ≡ s → rows_of (xs ++ x ∷ []) first ≡ rows_of xs first ++ map row (cond s (x ∷ []) [])
+    rows-push xs x first s p =
+        ap (map row) (filter-append (λ y. same_values (key first) (key y)) xs (x ∷ []) ∙ ap (λ (t : Bool). filter (λ y. same_values (key first) (key y)) xs ++ cond t (x ∷ []) []) p)
+        ∙ map-append row (filter (λ y. same_values (key first) (key y)) xs) (cond s (x ∷ []) [])
+
+    -- the groups of other keys are as they were
+    others : (xs : List X) (x : X) (firsts : List X) → list_any (has_key key (key x)) firsts ≡ false → map (rows_of (xs ++ x ∷ [])) firsts ≡ map (rows_of xs) firsts
+    others xs x [] h = refl
+    others xs x (f ∷ fs) h =
+        ap₂ (λ (g : List R) (gs : List (List R)). g ∷ gs)
+        (rows-push xs x f false (first_no (same_values (key f) (key x)) (list_any (has_key key (key x)) fs) h) ∙ append-nil (rows_of xs f))
+        (others xs x fs (second_no (same_values (key f) (key x)) (list_any (has_key key (key x)) fs) h))
+
+    record Found (xs : List X) (x : X) (firsts : List X) (from at : ℕ) : Type 0 where
+      pub place : ℕ
+      pub is : at ≡ from + place
+      pub below : place < length firsts
+      pub there : list_any (has_key key (key x)) firsts ≡ true
+      pub grown : map (rows_of (xs ++ x ∷ [])) firsts ≡ set (map (rows_of xs) firsts) place (get_or (map (rows_of xs) firsts) place [] ++ row x ∷ [])
+
+    found_step : (xs : List X) (x f : X) (fs : List X) (from at : ℕ) → Once (f ∷ fs) → (position_from (λ k. same_values k (key x)) (from + 1) (map key fs) ≡ Some at → Found xs x fs (from + 1) at)
+        → (s : Bool) → same_values (key f) (key x) ≡ s → cond s (Some from) (position_from (λ k. same_values k (key x)) (from + 1) (map key fs)) ≡ Some at → Found xs x (f ∷ fs) from at
+    found_step xs x f fs from at once rest true p e = record {
+      place = 0;
+      is = (let h : from ≡ at = cc in omega arith);
+      below = omega arith;
+      there = (λ i. p i || list_any (has_key key (key x)) fs);
+      grown = ap₂ (λ (g : List R) (gs : List (List R)). g ∷ gs) (rows-push xs x f true p)
+          (others xs x fs (ap (λ (k : List Value). list_any (has_key key k) fs) (sym (same_values-exact (key f) (key x) p)) ∙ once.0));
+    }
+    found_step xs x f fs from at once rest false p e =
+        let r = rest e in
+        record {
+          place = suc r.place;
+          is = (let i = r.is in omega arith);
+          below = (let b = r.below in omega arith);
+          there = (λ i. p i || r.there i);
+          grown = ap₂ (λ (g : List R) (gs : List (List R)). g ∷ gs) (rows-push xs x f false p ∙ append-nil (rows_of xs f)) r.grown;
+        }
+
+    found : (xs : List X) (x : X) (firsts : List X) (from at : ℕ) → Once firsts → position_from (λ k. same_values k (key x)) from (map key firsts) ≡ Some at → Found xs x firsts from at
+    found xs x [] from at once e = absurd (no_place from at e)
+      where
+        no_place : (m n : ℕ) → None ≡ Some n → ⊥
+        no_place m n h = cc
+    found xs x (f ∷ fs) from at once e =
+        found_step xs x f fs from at once (found xs x fs (from + 1) at once.1) (same_values (key f) (key x)) refl e
+
+    absent_step : (x f : X) (fs : List X) (from : ℕ) → (position_from (λ k. same_values k (key x)) (from + 1) (map key fs) ≡ None → list_any (has_key key (key x)) fs ≡ false)
+        → (s : Bool) → cond s (Some from) (position_from (λ k. same_values k (key x)) (from + 1) (map key fs)) ≡ None → (s || list_any (has_key key (key x)) fs) ≡ false
+    absent_step x f fs from rest true e = cc
+    absent_step x f fs from rest false e = rest e
+
+    absent : (x : X) (firsts : List X) (from : ℕ) → position_from (λ k. same_values k (key x)) from (map key firsts) ≡ None → list_any (has_key key (key x)) firsts ≡ false
+    absent x [] from e = refl
+    absent x (f ∷ fs) from e = absent_step x f fs from (absent x fs (from + 1)) (same_values (key f) (key x)) e
+
+    abbrev pub keys_of : List X → List (List Value)
+    keys_of xs = map key (firsts_by key xs)
+
+    abbrev pub lists_of : List X → List (List R)
+    lists_of xs = map (rows_of xs) (firsts_by key xs)
+
+    -- a member whose key has a group goes to the end of that group
+    pub record Grown (xs : List X) (x : X) (at : ℕ) : Type 0 where
+      pub below : at < length (lists_of xs)
+      pub keys : keys_of (xs ++ x ∷ []) ≡ keys_of xs
+      pub lists : lists_of (xs ++ x ∷ []) ≡ set (lists_of xs) at (get_or (lists_of xs) at [] ++ row x ∷ [])
+
+    pub grown-at : (xs : List X) (x : X) (at : ℕ) → position (λ k. same_values k (key x)) (keys_of xs) ≡ Some at → Grown xs x at
+    grown-at xs x at e =
+        let f = found xs x (firsts_by key xs) 0 at (firsts_once xs) (sym (position_from-zero (λ k. same_values k (key x)) (keys_of xs)) ∙ e) in
+        let stays : firsts_by key (xs ++ x ∷ []) ≡ firsts_by key xs = firsts_by-push key xs x ∙ ap (λ (b : Bool). cond b (firsts_by key xs) (firsts_by key xs ++ x ∷ [])) f.there in
+        let here : f.place ≡ at = (let i = f.is in omega arith) in
+        record {
+          below = (let b = f.below in let l = length-map (firsts_by key xs) (rows_of xs) in omega arith);
+          keys = ap (map key) stays;
+          lists = ap (map (rows_of (xs ++ x ∷ []))) stays ∙ f.grown ∙ ap (λ (n : ℕ). set (lists_of xs) n (get_or (lists_of xs) n [] ++ row x ∷ [])) here;
+        }
+
+    none_of : (k : List Value) (xs : List X) → list_any (has_key key k) xs ≡ false → filter (λ x. same_values k (key x)) xs ≡ []
+    none_of k [] h = refl
+    none_of k (x ∷ xs) h =
+        (λ i. cond ((same_values-turned k (key x) ∙ first_no (has_key key k x) (list_any (has_key key k) xs) h) i) (x ∷ filter (λ y. same_values k (key y)) xs) (filter (λ y. same_values k (key y)) xs))
+        ∙ none_of k xs (second_no (has_key key k x) (list_any (has_key key k) xs) h)
+
+    -- a member with a new key makes a group of its own at the end
+    pub record Added (xs : List X) (x : X) : Type 0 where
+      pub keys : keys_of (xs ++ x ∷ []) ≡ keys_of xs ++ key x ∷ []
+      pub lists : lists_of (xs ++ x ∷ []) ≡ lists_of xs ++ (row x ∷ []) ∷ []
+
+    pub added-one : (xs : List X) (x : X) → position (λ k. same_values k (key x)) (keys_of xs) ≡ None → Added xs x
+    added-one xs x e =
+        let none : list_any (has_key key (key x)) (firsts_by key xs) ≡ false = absent x (firsts_by key xs) 0 (sym (position_from-zero (λ k. same_values k (key x)) (keys_of xs)) ∙ e) in
+        let more : firsts_by key (xs ++ x ∷ []) ≡ firsts_by key xs ++ x ∷ [] = firsts_by-push key xs x ∙ ap (λ (b : Bool). cond b (firsts_by key xs) (firsts_by key xs ++ x ∷ [])) none in
+        let alone : rows_of (xs ++ x ∷ []) x ≡ row x ∷ [] =
+        rows-push xs x x true (same_values-itself (key x)) ∙ ap (λ (ys : List X). map row ys ++ row x ∷ []) (none_of (key x) xs (sym (any_firsts key (key x) xs) ∙ none)) in
+        record {
+          keys = ap (map key) more ∙ map-append key (firsts_by key xs) (x ∷ []);
+          lists =
+              ap (map (rows_of (xs ++ x ∷ []))) more ∙ map-append (rows_of (xs ++ x ∷ [])) (firsts_by key xs) (x ∷ [])
+              ∙ ap₂ (λ (gs : List (List R)) (g : List R). gs ++ g ∷ []) (others xs x (firsts_by key xs) none) alone;
+        }
+
+    lists_from : (xs firsts : List X) → map (map row) (map (λ first. filter (λ x. same_values (key first) (key x)) xs) firsts) ≡ map (rows_of xs) firsts
+    lists_from xs [] = refl
+    lists_from xs (f ∷ fs) = ap (λ (gs : List (List R)). rows_of xs f ∷ gs) (lists_from xs fs)
+
+    pub groups-are : (xs : List X) → map (map row) (groups_by key xs) ≡ map (rows_of xs) (firsts_by key xs)
+    groups-are xs = lists_from xs (firsts_by key xs)
+
+abbrev pub key_in : Keyed → List Value
+key_in member = member.key
+
+abbrev pub row_in : Keyed → List Value
+row_in member = member.row
+
+-- a row with the values that f gives of it
+abbrev pub keyed_by : (List Value → List Value) → List Value → Keyed
+keyed_by f row = record { key = f row; row = row }
+
+module _ (f : List Value → List Value) where
+  kept_if : (p : Keyed → Bool) (row : List Value) (rows : List (List Value)) (kept : List Keyed) → kept ≡ map (keyed_by f) rows → (s : Bool)
+      → cond s (keyed_by f row ∷ kept) kept ≡ map (keyed_by f) (cond s (row ∷ rows) rows)
+  kept_if p row rows kept h true = ap (λ (members : List Keyed). keyed_by f row ∷ members) h
+  kept_if p row rows kept h false = h
+
+  filter_keyed : (p : Keyed → Bool) (rows : List (List Value)) → filter p (map (keyed_by f) rows) ≡ map (keyed_by f) (filter (λ row. p (keyed_by f row)) rows)
+  filter_keyed p [] = refl
+  filter_keyed p (row ∷ rows) = kept_if p row (filter (λ r. p (keyed_by f r)) rows) (filter p (map (keyed_by f) rows)) (filter_keyed p rows) (p (keyed_by f row))
+
+  rows_back : (rows : List (List Value)) → map row_in (map (keyed_by f) rows) ≡ rows
+  rows_back [] = refl
+  rows_back (row ∷ rows) = ap (λ (rest : List (List Value)). row ∷ rest) (rows_back rows)
+
+  firsts_keyed : (rows : List (List Value)) → firsts_by key_in (map (keyed_by f) rows) ≡ map (keyed_by f) (firsts_by f rows)
+  firsts_keyed [] = refl
+  firsts_keyed (row ∷ rows) =
+      ap (λ (members : List Keyed). keyed_by f row ∷ filter (differs key_in (keyed_by f row)) members) (firsts_keyed rows)
+      ∙ ap (λ (members : List Keyed). keyed_by f row ∷ members) (filter_keyed (differs key_in (keyed_by f row)) (firsts_by f rows))
+
+  rows_keyed : (rows firsts : List (List Value)) → map (rows_of key_in row_in (map (keyed_by f) rows)) (map (keyed_by f) firsts) ≡ map (λ first. filter (λ row. same_values (f first) (f row)) rows) firsts
+  rows_keyed rows [] = refl
+  rows_keyed rows (first ∷ firsts) =
+      ap₂ (λ (g : List (List Value)) (gs : List (List (List Value))). g ∷ gs)
+      (ap (map row_in) (filter_keyed (λ member. same_values (f first) member.key) rows) ∙ rows_back (filter (λ row. same_values (f first) (f row)) rows))
+      (rows_keyed rows firsts)
+
+  -- grouping rows by values that are kept beside them is grouping the rows
+  pub groups-keyed : (rows : List (List Value)) → map (map row_in) (groups_by key_in (map (keyed_by f) rows)) ≡ groups_by f rows
+  groups-keyed rows =
+      groups-are key_in row_in (map (keyed_by f) rows)
+      ∙ ap (map (rows_of key_in row_in (map (keyed_by f) rows))) (firsts_keyed rows)
+      ∙ rows_keyed rows (firsts_by f rows)

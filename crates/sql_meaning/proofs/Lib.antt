@@ -1,0 +1,10 @@
+pub mod Equality
+pub mod FirstsLaws
+pub mod FoldsLaws
+pub mod GroupsLaws
+pub mod Known
+pub mod KnownMeaning
+pub mod OrderLaws
+pub mod Parts
+pub mod Sorting
+pub mod Walked

@@ -1,0 +1,185 @@
+-- Conditions, the joins of FROM, GROUP BY and ORDER BY stand where their mentions do.
+use Rattle.std.proofs.Common.{◌≡◌, ℕ, zero, suc, ◌+◌, ◌++◌, Bool, true, false, List, [], ◌∷◌, length, take, map, Option, Some, None, refl, ap, sym, ◌∙◌, subst, arith, inl, inr}
+use Rattle.std.specs.Prelude.{slice_get, ◌<◌, ◌≤◌, not, ◌||◌, if◌then◌else◌}
+use Rattle.std.specs.List.{AllByRecursion}
+use Rattle.std.specs.Option.{option_map_or}
+use Rattle.std.proofs.lemmas.List.{map-append, take-take}
+use Rattle.std.proofs.lemmas.List.Quantifiers.{position-Some}
+use Rattle.std.proofs.lemmas.Option.{none-some, same_Some, slice_get_cases}
+use Rattle.std.specs.Str.{str_eq_ignore_ascii_case}
+use Rattle.osq_value.specs.Catalogue.{Table, table, id_of}
+use Rattle.osq_value.specs.Catalogue.{tables as catalogue}
+use Rattle.osq_value.specs.declared.catalogue.TableKind.TheVariants.{Evented}
+use Rattle.osq_value.specs.declared.value.Value.TheVariants.{Int}
+use Rattle.sql_parser.specs.declared.tree.Name.{Name}
+use Rattle.sql_parser.specs.Tree.{Tree, OneStep, Steps}
+use Rattle.sql_parser.specs.Tree as tree
+use Rattle.sql_parser.specs.Select.{RefTree, TermTree}
+use Rattle.sql_names.specs.declared.mention.Clause.{Clause}
+use Rattle.sql_names.specs.declared.mention.Clause.TheVariants as clause
+use Rattle.sql_names.specs.declared.query.SourceColumn.{SourceColumn}
+use Rattle.sql_names.specs.declared.results.Numbered.{Numbered}
+use Rattle.sql_names.specs.declared.scope.Place.{Place}
+use Rattle.sql_names.specs.declared.scope.Seen.{Seen}
+use Rattle.sql_names.specs.Exprs.{ExprTree, literal}
+use Rattle.sql_names.specs.Kinds.{forbids, names_in, place_of, place_if, too_many_tables, table_missing, place_at, aggregate_at, key_wrong}
+use Rattle.sql_names.specs.Least.{least}
+use Rattle.sql_names.specs.Mentions.{mentions, mentions_of_step, mentions_of_steps, mentions_of_option, mentions_of_sources, mentions_of_keys, mentions_of_terms}
+use Rattle.sql_names.specs.Naming.{expr_of}
+use Rattle.sql_names.specs.Resolved.{SourceTree, OrderTree, joined_name, join_exprs, source_tree, source_trees, key_exprs, orders}
+use Rattle.sql_names.specs.Results.{are_ands, right_of, rights_of, conjuncts, condition, index_in, numbered, term_by}
+use Rattle.sql_names.specs.Scope.{is_some, place_in, plain_place, columns_seen, table_number}
+use Rattle.sql_names.specs.Shown.{ShownTree, Names}
+use Rattle.sql_names.specs.Spelling.{name_text}
+use Rattle.sql_names.specs.Standing.{Stands, IsOfCatalogue, columns_in}
+use Rattle.sql_names.proofs.Places.{AreSeen, seen_take, get_take, plain_place_is, place_at_is}
+use Rattle.sql_names.proofs.Fines.{AreFine, lesser_left, lesser_right, fine_left, fine_right}
+use Rattle.sql_names.proofs.Standings.{allowed, Reads, AreShown, place_stands, expr_stands, reads_columns, reads_shown, shown_stands, shown_plain}
+
+-- each of them stands
+abbrev pub StandEach : List (List SourceColumn) → Bool → List ExprTree → Type 0
+StandEach tables may_fold exprs = AllByRecursion (Stands tables may_fold) exprs
+
+each_append : {A : Type 0} (P : A → Type 0) (before after : List A) → AllByRecursion P before → AllByRecursion P after → AllByRecursion P (before ++ after)
+each_append P [] after first second = second
+each_append P (x ∷ before) after first second = (first.0, each_append P before after first.1 second)
+
+right_stands : {tables : List (List SourceColumn)} {grouped : Bool} {names : Names} {c : Clause} {n : Names} (r : Reads tables grouped names c n) (step : OneStep) → AreFine names grouped (mentions_of_step c false step) → StandEach tables (allowed grouped (forbids c || false)) (map (expr_of n) (right_of step))
+right_stands r (tree.binary op right) fine = (expr_stands r false right fine, tt)
+right_stands r (tree.among is_negated items) fine = tt
+right_stands r (tree.between is_negated low high) fine = tt
+
+rights_stand : {tables : List (List SourceColumn)} {grouped : Bool} {names : Names} {c : Clause} {n : Names} (r : Reads tables grouped names c n) (steps : Steps) → AreFine names grouped (mentions_of_steps c false steps) → StandEach tables (allowed grouped (forbids c || false)) (map (expr_of n) (rights_of steps))
+rights_stand r tree.no_steps fine = tt
+rights_stand {tables = tables} {grouped = grouped} {names = names} {c = c} {n = n} r (tree.then before step) fine =
+    subst (StandEach tables (allowed grouped (forbids c || false))) (sym (map-append (expr_of n) (rights_of before) (right_of step)))
+    (each_append (Stands tables (allowed grouped (forbids c || false))) (map (expr_of n) (rights_of before)) (map (expr_of n) (right_of step))
+    (rights_stand r before (fine_left names grouped (mentions_of_steps c false before) (mentions_of_step c false step) fine))
+    (right_stands r step (fine_right names grouped (mentions_of_steps c false before) (mentions_of_step c false step) fine)))
+
+one_stands : {tables : List (List SourceColumn)} {grouped : Bool} {names : Names} {c : Clause} {n : Names} (r : Reads tables grouped names c n) (t : Tree) → AreFine names grouped (mentions c false t) → StandEach tables (allowed grouped (forbids c || false)) (map (expr_of n) (t ∷ []))
+one_stands r t fine = (expr_stands r false t fine, tt)
+
+chain_stands : {tables : List (List SourceColumn)} {grouped : Bool} {names : Names} {c : Clause} {n : Names} (r : Reads tables grouped names c n) (parts : Bool) (first : Tree) (steps : Steps) → AreFine names grouped (mentions c false (tree.chain first steps)) → StandEach tables (allowed grouped (forbids c || false)) (map (expr_of n) (if parts then first ∷ rights_of steps else tree.chain first steps ∷ []))
+chain_stands {grouped = grouped} {names = names} {c = c} r true first steps fine = (
+  expr_stands r false first (fine_left names grouped (mentions c false first) (mentions_of_steps c false steps) fine),
+  rights_stand r steps (fine_right names grouped (mentions c false first) (mentions_of_steps c false steps) fine),
+)
+chain_stands r false first steps fine = one_stands r (tree.chain first steps) fine
+
+conjuncts_stand : {tables : List (List SourceColumn)} {grouped : Bool} {names : Names} {c : Clause} {n : Names} (r : Reads tables grouped names c n) (t : Tree) → AreFine names grouped (mentions c false t) → StandEach tables (allowed grouped (forbids c || false)) (map (expr_of n) (conjuncts t))
+conjuncts_stand r (tree.chain first steps) fine = chain_stands r (are_ands steps) first steps fine
+conjuncts_stand r (tree.number place number) fine = one_stands r (tree.number place number) fine
+conjuncts_stand r (tree.text span) fine = one_stands r (tree.text span) fine
+conjuncts_stand r tree.null fine = one_stands r tree.null fine
+conjuncts_stand r (tree.column table column) fine = one_stands r (tree.column table column) fine
+conjuncts_stand r (tree.negation t) fine = one_stands r (tree.negation t) fine
+conjuncts_stand r (tree.minus t) fine = one_stands r (tree.minus t) fine
+conjuncts_stand r (tree.plus t) fine = one_stands r (tree.plus t) fine
+conjuncts_stand r (tree.cast t is_text) fine = one_stands r (tree.cast t is_text) fine
+conjuncts_stand r (tree.call function arguments) fine = one_stands r (tree.call function arguments) fine
+conjuncts_stand r (tree.folded place fold is_distinct t) fine = one_stands r (tree.folded place fold is_distinct t) fine
+conjuncts_stand r (tree.count_all place fold is_distinct) fine = one_stands r (tree.count_all place fold is_distinct) fine
+
+pub condition_stands : {tables : List (List SourceColumn)} {grouped : Bool} {names : Names} {c : Clause} {n : Names} (r : Reads tables grouped names c n) (o : Option Tree) → AreFine names grouped (mentions_of_option c o) → StandEach tables (allowed grouped (forbids c || false)) (condition n o)
+condition_stands r None fine = tt
+condition_stands r (Some t) fine = conjuncts_stand r t fine
+
+-- the equality of a name of USING, over the tables up to its own
+joined_stands : (tables : List (List SourceColumn)) (names : Names) (number : ℕ) (name : Name) → AreSeen tables (take (number + 1) names.scope) → Stands tables false (joined_name names number name)
+joined_stands tables names number name seen =
+    let spelled = name_text names.text name in
+    let before : AreSeen tables (take number names.scope) = subst (AreSeen tables) (take-take number (number + 1) names.scope (omega arith)) (seen_take tables number (take (number + 1) names.scope) seen) in (
+      place_stands tables false (plain_place spelled (take number names.scope)) spelled (λ (p : Place). plain_place_is tables (take number names.scope) spelled p before),
+      (
+        tt,
+        place_stands tables false (place_at number spelled names.scope) spelled (λ (p : Place) (e : place_at number spelled names.scope ≡ Some p).
+            place_at_is tables (take (number + 1) names.scope) number spelled p seen (ap (λ (o : Option Seen). option_map_or (place_in spelled) o None) (get_take names.scope number (number + 1) (omega arith)) ∙ e)),
+      ),
+    )
+
+usings_stand : (tables : List (List SourceColumn)) (names : Names) (number : ℕ) (using : List Name) → AreSeen tables (take (number + 1) names.scope) → StandEach tables false (map (joined_name names number) using)
+usings_stand tables names number [] seen = tt
+usings_stand tables names number (name ∷ using) seen = (joined_stands tables names number name seen, usings_stand tables names number using seen)
+
+on_stands : (tables : List (List SourceColumn)) (grouped : Bool) (names : Names) (number : ℕ) (ref : RefTree) → AreSeen tables (take (number + 1) names.scope) → AreFine names grouped (mentions_of_option (clause.On (number + 1)) ref.on) → StandEach tables false (join_exprs names number ref)
+on_stands tables grouped names number ref seen fine =
+    each_append (Stands tables false) (condition (names_in names (clause.On (number + 1))) ref.on) (map (joined_name names number) ref.using)
+    (condition_stands (reads_columns tables grouped names (clause.On (number + 1)) (take (number + 1) names.scope) names.shown seen) ref.on fine)
+    (usings_stand tables names number ref.using seen)
+
+pub ons_stand : (tables : List (List SourceColumn)) (grouped : Bool) (names : Names) (refs : List RefTree) (number k reach : ℕ) (source : SourceTree) → ((n : ℕ) → AreSeen (take n tables) (take n names.scope)) → AreFine names grouped (mentions_of_sources number refs) → slice_get (source_trees names number refs) k ≡ Some source → reach ≡ number + k + 1 → StandEach (take reach tables) false source.on
+ons_stand tables grouped names [] number k reach source seen fine is e = absurd (none-some source is)
+ons_stand tables grouped names (ref ∷ refs) number zero reach source seen fine is e =
+    let here : number + 1 ≡ reach = omega arith in
+    subst (λ (s : SourceTree). StandEach (take reach tables) false s.on) (same_Some (source_tree names number ref) source is)
+    (subst (λ (m : ℕ). StandEach (take m tables) false (join_exprs names number ref)) here
+    (on_stands (take (number + 1) tables) grouped names number ref (seen (number + 1)) (fine_left names grouped (mentions_of_option (clause.On (number + 1)) ref.on) (mentions_of_sources (number + 1) refs) fine)))
+ons_stand tables grouped names (ref ∷ refs) number (suc k) reach source seen fine is e =
+    ons_stand tables grouped names refs (number + 1) k reach source seen (fine_right names grouped (mentions_of_option (clause.On (number + 1)) ref.on) (mentions_of_sources (number + 1) refs) fine) is (omega arith)
+
+known_by : (name : List ℕ) (o : Option ℕ) → id_of name ≡ o → is_some o ≡ true → option_map_or (λ (id : ℕ). id) o 255 < length catalogue
+unfolding id_of
+known_by name None e some = absurd (let no : ⊥ = cc in no)
+known_by name (Some id) e some = (position-Some (λ (known : Table). str_eq_ignore_ascii_case known.name name) catalogue id (table [] Evented []) e).0
+
+is_known : (name : List ℕ) → is_some (id_of name) ≡ true → table_number name < length catalogue
+unfolding table_number
+is_known name some = known_by name (id_of name) refl some
+
+not_missing : (found : Bool) (place : ℕ) → place_if (not found) place ≡ None → found ≡ true
+not_missing true place e = refl
+not_missing false place e = absurd (let no : ⊥ = cc in no)
+
+pub sources_are : (names : Names) (number : ℕ) (refs : List RefTree) → least (map (table_missing names.text) refs) ≡ None → AllByRecursion IsOfCatalogue (source_trees names number refs)
+sources_are names number [] none = tt
+sources_are names number (ref ∷ refs) none =
+    let here = lesser_left (table_missing names.text ref) (least (map (table_missing names.text) refs)) none in (
+      record { is_known = is_known (name_text names.text ref.table) (not_missing (is_some (id_of (name_text names.text ref.table))) (place_of ref.table) here); has_name = refl; has_columns = refl },
+      sources_are names (number + 1) refs (lesser_right (table_missing names.text ref) (least (map (table_missing names.text) refs)) none),
+    )
+
+pub as_many_sources : (names : Names) (number : ℕ) (refs : List RefTree) → length (source_trees names number refs) ≡ length refs
+as_many_sources names number [] = refl
+as_many_sources names number (ref ∷ refs) = ap suc (as_many_sources names (number + 1) refs)
+
+few_by : (refs : List RefTree) (o : Option RefTree) → slice_get refs 16 ≡ o → option_map_or (λ (ref : RefTree). Some (place_of ref.table)) o None ≡ None → length refs ≤ 16
+few_by refs None e none = elim (slice_get_cases refs 16).1 [ inl there ↦ absurd (none-some there.0 (sym e ∙ there.2)) | inr past ↦ past.0 ]
+few_by refs (Some ref) e none = absurd (let no : ⊥ = cc in no)
+
+pub few_tables : (refs : List RefTree) → too_many_tables refs ≡ None → length refs ≤ 16
+few_tables refs none = few_by refs (slice_get refs 16) refl none
+
+pub source_columns : (names : Names) (number : ℕ) (refs : List RefTree) → columns_in (source_trees names number refs) ≡ map (columns_seen names.text) refs
+source_columns names number [] = refl
+source_columns names number (ref ∷ refs) = ap (λ (tables : List (List SourceColumn)). columns_seen names.text ref ∷ tables) (source_columns names (number + 1) refs)
+
+index_stands : (tables : List (List SourceColumn)) (grouped : Bool) (shown : List ShownTree) (n : Numbered) (index : Option ℕ) → AreShown tables grouped shown → Stands tables grouped (option_map_or (λ (s : ShownTree). s.expr) (option_map_or (slice_get shown) index None) (literal (Int n.value)))
+index_stands tables grouped shown n None are = tt
+index_stands tables grouped shown n (Some k) are = shown_stands tables grouped shown k (Int n.value) are
+
+index_plain : (tables : List (List SourceColumn)) (grouped : Bool) (shown : List ShownTree) (n : Numbered) (index : Option ℕ) → AreShown tables grouped shown → option_map_or (aggregate_at shown) index None ≡ None → Stands tables false (option_map_or (λ (s : ShownTree). s.expr) (option_map_or (slice_get shown) index None) (literal (Int n.value)))
+index_plain tables grouped shown n None are none = tt
+index_plain tables grouped shown n (Some k) are none = shown_plain tables grouped shown k (Int n.value) are none
+
+key_by : (tables : List (List SourceColumn)) (grouped : Bool) (names : Names) (t : Tree) (o : Option Numbered) → AreSeen tables names.scope → AreShown tables grouped names.shown → AreFine names grouped (mentions clause.Key false t) → option_map_or (λ (n : Numbered). option_map_or (aggregate_at names.shown) (index_in (length names.shown) n.value) None) o None ≡ None → Stands tables false (term_by (names_in names clause.Key) t o)
+key_by tables grouped names t None seen are fine none = expr_stands (reads_shown tables grouped names clause.Key seen are) false t fine
+key_by tables grouped names t (Some n) seen are fine none = index_plain tables grouped names.shown n (index_in (length names.shown) n.value) are none
+
+pub keys_stand : (tables : List (List SourceColumn)) (grouped : Bool) (names : Names) (keys : List Tree) → AreSeen tables names.scope → AreShown tables grouped names.shown → AreFine names grouped (mentions_of_keys keys) → least (map (key_wrong names.shown) keys) ≡ None → StandEach tables false (key_exprs names keys)
+keys_stand tables grouped names [] seen are fine none = tt
+keys_stand tables grouped names (t ∷ keys) seen are fine none = (
+  key_by tables grouped names t (numbered t) seen are (fine_left names grouped (mentions clause.Key false t) (mentions_of_keys keys) fine) (lesser_left (key_wrong names.shown t) (least (map (key_wrong names.shown) keys)) none),
+  keys_stand tables grouped names keys seen are (fine_right names grouped (mentions clause.Key false t) (mentions_of_keys keys) fine) (lesser_right (key_wrong names.shown t) (least (map (key_wrong names.shown) keys)) none),
+)
+
+term_by_stands : (tables : List (List SourceColumn)) (grouped : Bool) (names : Names) (t : Tree) (o : Option Numbered) → AreSeen tables names.scope → AreShown tables grouped names.shown → AreFine names grouped (mentions clause.Term false t) → Stands tables grouped (term_by (names_in names clause.Term) t o)
+term_by_stands tables grouped names t None seen are fine = expr_stands (reads_shown tables grouped names clause.Term seen are) false t fine
+term_by_stands tables grouped names t (Some n) seen are fine = index_stands tables grouped names.shown n (index_in (length names.shown) n.value) are
+
+pub terms_stand : (tables : List (List SourceColumn)) (grouped : Bool) (names : Names) (terms : List TermTree) → AreSeen tables names.scope → AreShown tables grouped names.shown → AreFine names grouped (mentions_of_terms terms) → AllByRecursion (λ (term : OrderTree). Stands tables grouped term.expr) (orders names terms)
+terms_stand tables grouped names [] seen are fine = tt
+terms_stand tables grouped names (term ∷ terms) seen are fine = (
+  term_by_stands tables grouped names term.tree (numbered term.tree) seen are (fine_left names grouped (mentions clause.Term false term.tree) (mentions_of_terms terms) fine),
+  terms_stand tables grouped names terms seen are (fine_right names grouped (mentions clause.Term false term.tree) (mentions_of_terms terms) fine),
+)
