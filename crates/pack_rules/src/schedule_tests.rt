@@ -69,6 +69,14 @@ fn host(alloc: Global) -> Result<Host, NoMemory> {
     })
 }
 
+/// The schedule of the configuration, where there is a word for each of its packs.
+fn scheduled(alloc: Global, config: &Config, found: &[bool]) -> Result<Schedule, Fail> {
+    if found.len() != config.packs.len() {
+        return Err(Fail::new("a word for each pack"));
+    }
+    Ok(schedule_of(alloc, config, &host(alloc)?, found)?)
+}
+
 /// Whether the schedule has exactly these names and texts, in this order.
 fn has(schedule: &Schedule, wanted: &[(&str, &str, Mode)]) -> bool {
     let queries = schedule.queries.as_slice();
@@ -105,13 +113,18 @@ fn takes_a_pack_where_it_was_found(rt: HostRuntime) -> Result<(), Fail> {
     let mut packs = PackList::new(alloc);
     packs.push(pack_by_rules(alloc)?)?;
     let config = config_of(alloc, QueryEntryList::new(alloc), packs);
-    let schedule = schedule_of(alloc, &config, &host(alloc)?, &[true])?;
+    let schedule = scheduled(alloc, &config, &[true])?;
     assert!(rt; has(&schedule, &[("pack_p_a", "SELECT 1", Mode::Snapshot)]));
-    assert_eq!(rt; schedule.queries.as_slice()[0].interval, 60);
+    assert!(rt;
+        schedule
+            .queries
+            .get(0)
+            .is_some_and(|query| query.interval == 60)
+    );
     assert_eq!(rt; schedule.events_expiry, 3600);
     assert_eq!(rt; schedule.events_max, 50000);
     assert!(rt; schedule.form == Form::Event);
-    let schedule = schedule_of(alloc, &config, &host(alloc)?, &[false])?;
+    let schedule = scheduled(alloc, &config, &[false])?;
     assert!(rt; has(&schedule, &[]));
     Ok(())
 }
@@ -131,7 +144,7 @@ fn takes_accepted_texts_by_name(rt: HostRuntime) -> Result<(), Fail> {
         ],
     )?;
     let config = config_of(alloc, entries, PackList::new(alloc));
-    let schedule = schedule_of(alloc, &config, &host(alloc)?, &[])?;
+    let schedule = scheduled(alloc, &config, &[])?;
     let wanted = [
         ("a", "SELECT 1", Mode::Snapshot),
         ("files", files, Mode::Evented),
@@ -161,7 +174,7 @@ fn takes_the_first_of_equal_names(rt: HostRuntime) -> Result<(), Fail> {
     let second = entries_of(alloc, &[("y", "SELECT 5")])?;
     packs.push(pack_of(alloc, "a_b", second, everywhere)?)?;
     let config = config_of(alloc, entries, packs);
-    let schedule = schedule_of(alloc, &config, &host(alloc)?, &[true, true])?;
+    let schedule = scheduled(alloc, &config, &[true, true])?;
     let wanted = [
         ("pack_a_b_y", "SELECT 2", Mode::Snapshot),
         ("pack_a_x", "SELECT 1", Mode::Snapshot),

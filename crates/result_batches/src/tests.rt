@@ -1,8 +1,10 @@
+ghost use Rattle.std.specs.Prelude.{◌≡◌, IfOk};
+
 use crate::{result_lines, row_object};
 use entry_model::entry::Batch;
 use osq_value::{NoMemory, Row, RowList, Str, TextList, Value};
 use pack_rules::schedule::{Form, Mode, QueryKey};
-use std::alloc::Global;
+use std::alloc::{AllocError, Global};
 use std::test::Fail;
 
 /// What each line of the batch below begins with.
@@ -27,7 +29,9 @@ fn row_of(alloc: Global, texts: &[&str]) -> Result<Row, NoMemory> {
 }
 
 /// The first batch of a query at the moment 1000, with so many of two rows.
-fn batch_of(alloc: Global, mode: Mode, rows: usize) -> Result<Batch, NoMemory> {
+fn batch_of(alloc: Global, mode: Mode, rows: usize) -> Result<Batch, NoMemory>
+    ensures { IfOk result (λ batch. batch.moment ≡ 1000) }
+{
     let mut list = RowList::new(alloc);
     for user in ["root", "ann"].iter().take(rows) {
         list.push(row_of(alloc, &[*user])?)?;
@@ -45,6 +49,17 @@ fn batch_of(alloc: Global, mode: Mode, rows: usize) -> Result<Batch, NoMemory> {
         moment: 1000,
         rows: list,
     })
+}
+
+/// Lines with the head, which end so.
+fn lines_with(alloc: Global, ends: &[&str]) -> Result<String, AllocError> {
+    let mut lines = String::new(alloc);
+    for end in ends {
+        lines.push_str(HEAD)?;
+        lines.push_str(*end)?;
+        lines.push_str("\n")?;
+    }
+    Ok(lines)
 }
 
 #[test]
@@ -72,15 +87,14 @@ fn writes_lines_by_mode_and_form(rt: HostRuntime) -> Result<(), Fail> {
     for (mode, form, rows, ends) in table {
         let batch = batch_of(alloc, mode, rows)?;
         let lines = result_lines(alloc, &batch, &names, "h1", form)?;
-        let mut wanted = String::new(alloc);
-        for end in ends {
-            wanted.push_str(HEAD)?;
-            wanted.push_str(*end)?;
-            wanted.push_str("\n")?;
-        }
-        assert!(rt; lines.as_slice() == wanted.as_bytes());
+        assert!(rt; lines.as_slice() == lines_with(alloc, ends)?.as_bytes());
     }
     Ok(())
+}
+
+/// The object of one value, whose string is that of its name too.
+fn object_of(alloc: Global, string: &str) -> Result<String, AllocError> {
+    format!(in alloc; "{{{string}:{string}}}")
 }
 
 #[test]
@@ -100,8 +114,7 @@ fn writes_texts_as_json(rt: HostRuntime) -> Result<(), Fail> {
     ];
     for (text, string) in table {
         let object = row_object(alloc, &names_of(alloc, &[text])?, &row_of(alloc, &[text])?)?;
-        let wanted = format!(in alloc; "{{{string}:{string}}}")?;
-        assert!(rt; object.as_slice() == wanted.as_bytes());
+        assert!(rt; object.as_slice() == object_of(alloc, string)?.as_bytes());
     }
     Ok(())
 }
