@@ -1,9 +1,7 @@
 -- From the reader of a value to the reader of a document.
-use Rattle.std.proofs.Common.{◌≡◌, ℕ, List, Option}
+use Rattle.std.proofs.Common.{ℕ, List, Option}
 use Rattle.std.specs.Prelude.{Result, Ok, Err}
 use Rattle.serde_json.specs.Data.{Data}
-use Rattle.serde_json.specs.View.{view}
-use Rattle.serde_json.specs.declared.value.Value.{Value as Json}
 use Rattle.osq_config.specs.declared.error.ConfigError.{ConfigError}
 use Rattle.osq_config.specs.declared.error.ConfigError.TheVariants.{NotJson, WrongShape, OutOfRange, TooManyQueries, NoMemory}
 use Rattle.osq_config.specs.Documents.{HasValue}

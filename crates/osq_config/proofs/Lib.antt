@@ -1,3 +1,4 @@
 pub mod Answered
+pub mod Bounded
 pub mod Lines
 pub mod Places

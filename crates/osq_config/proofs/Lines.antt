@@ -1,12 +1,12 @@
 -- The lines of a text, from one line feed to the next.
-use Rattle.std.proofs.Common.{◌≡◌, ◌≢◌, ℕ, suc, ◌<◌, ◌==◌, Bool, true, false, List, [], ◌∷◌, ◌++◌, length, length-append, get_or, refl, sym, ap, ◌∙◌, subst, arith, append_assoc, bytes_eq, nat_eq}
+use Rattle.std.proofs.Common.{◌≡◌, ◌≢◌, ℕ, suc, ◌<◌, ◌==◌, Bool, true, false, List, [], ◌∷◌, ◌++◌, length, length-append, get_or, refl, sym, ap, ◌∙◌, arith, append_assoc, bytes_eq, nat_eq}
 use Rattle.std.specs.Prelude.{◌||◌, codes}
 use Rattle.std.specs.List.{flat_map, starts_with}
 use Rattle.std.proofs.lemmas.List.{append-nil}
 use Rattle.std.proofs.lemmas.Bool.{false_from_ne_true}
 use Rattle.std.proofs.lemmas.Bool.Decides.{Decides-eqb}
 use Rattle.std.proofs.lemmas.Slice.Eq.{bytes_eq-Decides}
-use Rattle.osq_config.specs.Documents.{lines_of, before_lines, in_first, without_continuation, behind_blanks, is_comment, unless_comment}
+use Rattle.osq_config.specs.Documents.{lines_of, in_first, without_continuation, behind_blanks, is_comment, unless_comment}
 
 -- no line feed stands in it
 abbrev pub IsLine : List ℕ → Type 0

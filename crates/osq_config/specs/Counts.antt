@@ -2,7 +2,6 @@
 use Rattle.std.specs.Prelude.{ℕ, ◌+◌, nat_lt, List, [], length, sum_by, if◌then◌else◌, Option, Some, None}
 use Rattle.std.specs.Option.{option_or}
 use Rattle.serde_json.specs.Data.{Data}
-use Rattle.osq_config.specs.declared.config.Config.{Config}
 use Rattle.osq_config.specs.declared.config.Pack.{Pack}
 use Rattle.osq_config.specs.declared.config.QueryEntry.{QueryEntry}
 use Rattle.osq_config.specs.declared.error.ConfigError.{ConfigError}

@@ -1,5 +1,5 @@
 -- The JSON value of a document with comments.
-use Rattle.std.specs.Prelude.{◌≡◌, ℕ, ◌==◌, ◌||◌, nat_eq, bytes_eq, Bool, List, [], ◌∷◌, ◌++◌, codes, if◌then◌else◌, Some}
+use Rattle.std.specs.Prelude.{◌≡◌, ℕ, ◌==◌, ◌||◌, nat_eq, bytes_eq, Bool, List, [], ◌∷◌, codes, if◌then◌else◌, Some}
 use Rattle.std.specs.List.{flat_map, starts_with}
 use Rattle.std.specs.Str.{IsUtf8}
 use Rattle.serde_json.specs.Data.{Data}

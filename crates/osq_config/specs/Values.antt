@@ -1,5 +1,5 @@
 -- What a value without a fault says.
-use Rattle.std.specs.Prelude.{ℕ, bytes_eq, Bool, true, false, List, [], ◌∷◌, codes, Option, Some, None, option_map, option_and_then, unwrap_or}
+use Rattle.std.specs.Prelude.{ℕ, bytes_eq, Bool, false, List, [], ◌∷◌, codes, Option, Some, None, option_and_then, unwrap_or}
 use Rattle.std.specs.Option.{option_map_or}
 use Rattle.serde_json.specs.Data.{Data, Members, no_members, member}
 use Rattle.serde_json.specs.Find.{get, as_str, as_object}

@@ -4,6 +4,7 @@ ghost use Rattle.std.specs.Prelude.{◌≡◌, ◌+◌, ◌++◌, IfOk, OnErr, O
 ghost use Rattle.std.specs.List.{filter_map};
 ghost use Rattle.std.specs.Option.{option_to_list};
 ghost use Rattle.serde_json.specs.View.{view};
+ghost use Rattle.osq_config.specs.Bounds.{IsBounded};
 ghost use Rattle.osq_config.specs.Counts.{query_count};
 ghost use Rattle.osq_config.specs.Files.{Fills, fault_of_file, file_of, file_pack, files_of, left_out};
 ghost use Rattle.osq_config.specs.Reads.{Answers, Reads};
@@ -56,7 +57,7 @@ fn push_file(alloc: Global, files: &mut PackFileList, pack: &Pack) -> Result<(),
 
 /// Reads the file of a pack, and puts what it says into the pack of this name. The document is read as a configuration is, and the paths
 /// of its keys begin at the pack. TooManyQueries comes last, where the configuration would hold more than 10000 queries. After an error
-/// the pack is left out, and all else stands.
+/// the pack is left out, and all else stands. The numbers stay between their bounds.
 pub fn add_pack(
     alloc: Global,
     config: &mut Config,
@@ -67,6 +68,7 @@ pub fn add_pack(
     ensures ok { OnOk result (Fills name.now document.now config.old config.new) }
     ensures err { OnErr result
         (config.new ≡ record config.old { packs = left_out name.now config.old.packs }) }
+    ensures bounded { IsBounded config.old → IsBounded config.new }
 {
     match read_file(alloc, config, document) {
         Ok(pack) => {

@@ -1,7 +1,8 @@
 //! Reads a configuration.
 
-ghost use Rattle.std.specs.Prelude.{◌≡◌, nat_lt};
+ghost use Rattle.std.specs.Prelude.{◌≡◌, IfOk, nat_lt};
 ghost use Rattle.serde_json.specs.View.{view};
+ghost use Rattle.osq_config.specs.Bounds.{IsBounded};
 ghost use Rattle.osq_config.specs.Counts.{fault_of_config, packed_count, query_count};
 ghost use Rattle.osq_config.specs.Reads.{Answers, Reads};
 ghost use Rattle.osq_config.specs.Values.{config_of};
@@ -22,9 +23,10 @@ pub const QUERIES: usize = 10000;
 
 /// Reads a configuration: a JSON object in UTF-8. Before it is read, each backslash that ends a line is left out with the line feed, and
 /// then each line that begins, behind spaces and tabs, with `//` or `#`. The first fault is answered, in byte order of the keys at each
-/// level and an object before its members; the number of queries is tried last.
+/// level and an object before its members; the number of queries is tried last. The numbers of what is read lie between their bounds.
 pub fn read_config(alloc: Global, document: &[u8]) -> Result<Config, ConfigError>
-    ensures { Answers fault_of_config config_of document.now result }
+    ensures answer { Answers fault_of_config config_of document.now result }
+    ensures bounded { IfOk result IsBounded }
 {
     let json = parse(alloc, document)?;
     config(alloc, &json)

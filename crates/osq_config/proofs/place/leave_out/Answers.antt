@@ -1,4 +1,4 @@
-use Rattle.std.proofs.Common.{◌<◌, List, length, sym, ap, ◌∙◌, arith}
+use Rattle.std.proofs.Common.{List, length, sym, ap, ◌∙◌, arith}
 use Rattle.std.specs.Prelude.{remove}
 use Rattle.std.specs.List.{position_from}
 use Rattle.osq_config.specs.declared.config.Pack.{Pack}
