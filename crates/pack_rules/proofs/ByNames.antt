@@ -1,5 +1,5 @@
 -- A stable sort by names, and then the first of each run of equal names.
-use Rattle.std.proofs.Common.{◌≡◌, ℕ, ◌≤◌, ◌<◌, zero, suc, refl, sym, ap, ◌∙◌, Bool, true, false, cond, not, ◌&&◌, true≢false, List, [], ◌∷◌, length, get_or, filter, Option, Some, None, Ordering, Less, Equal, Greater, is_lt, arith, bytes_eq, find}
+use Rattle.std.proofs.Common.{◌≡◌, ℕ, ◌≤◌, ◌<◌, suc, refl, sym, ap, ◌∙◌, Bool, true, false, cond, not, ◌&&◌, true≢false, List, [], ◌∷◌, length, get_or, filter, Option, Some, None, Ordering, Less, Equal, Greater, is_lt, arith, bytes_eq, find}
 use Rattle.std.specs.Ordering.{ordering_reverse}
 use Rattle.std.specs.Cmp.{IsStrictWeakOrder}
 use Rattle.std.specs.List.{dedup, dedup_from}

@@ -1,8 +1,7 @@
 -- Schedules that a session may run.
-use Rattle.std.specs.Prelude.{◌≡◌, ◌<◌, ◌≤◌, ◌^◌, Bool, true, false, List, All, Option, Some, None, is_some}
+use Rattle.std.specs.Prelude.{◌≡◌, ◌<◌, ◌≤◌, ◌^◌, Bool, true, false, List, length, All, Option, Some, None, is_some}
 use Rattle.osq_config.specs.declared.config.Config.{Config}
-use Rattle.osq_config.specs.declared.config.Pack.{Pack}
-use Rattle.osq_config.specs.declared.config.QueryEntry.{QueryEntry}
+use Rattle.osq_config.specs.Bounds.{IsBounded}
 use Rattle.sql_names.specs.Resolved.{QueryTree}
 use Rattle.sql_names.specs.Answers.{is_evented_query}
 use Rattle.sql_names.specs.Texts.{query_in}
@@ -24,8 +23,9 @@ pub record IsRunnable (scheduled : Scheduled) : Type 0 where
   pub at_least : 1 ≤ scheduled.interval
   pub at_most : scheduled.interval ≤ 604800
 
--- a schedule that a session may run, but for the number of its queries
+-- a schedule that a session may run
 pub record IsSound (schedule : Schedule) : Type 0 where
+  pub count : length schedule.queries ≤ 10000
   pub rise : names_rise schedule.queries ≡ true
   pub runnable : All IsRunnable schedule.queries
   pub expiry_least : 1 ≤ schedule.events_expiry
@@ -33,19 +33,5 @@ pub record IsSound (schedule : Schedule) : Type 0 where
   pub max_least : 1 ≤ schedule.events_max
   pub max_most : schedule.events_max ≤ 1000000
 
--- the interval of an entry is within its bounds
-pub record HasInterval (entry : QueryEntry) : Type 0 where
-  pub at_least : 1 ≤ entry.interval
-  pub at_most : entry.interval ≤ 604800
-
--- the numbers of a configuration are within their bounds
-pub record IsInRange (config : Config) : Type 0 where
-  pub schedule : All HasInterval config.schedule
-  pub packs : All (λ (pack : Pack). All HasInterval pack.queries) config.packs
-  pub expiry_least : 1 ≤ config.events_expiry
-  pub expiry_most : config.events_expiry < 2 ^ 32
-  pub max_least : 1 ≤ config.events_max
-  pub max_most : config.events_max ≤ 1000000
-
 abbrev pub Soundness : Type 0
-Soundness = (config : Config) (host : Host) (found : List Bool) (schedule : Schedule) → IsInRange config → IsScheduleOf config host found schedule → IsSound schedule
+Soundness = (config : Config) (host : Host) (found : List Bool) (schedule : Schedule) → IsBounded config → IsScheduleOf config host found schedule → IsSound schedule
