@@ -1,5 +1,5 @@
 -- Runs with room for more.
-use Rattle.std.specs.Prelude.{◌≡◌, ℕ, ◌-◌, Bool, if◌then◌else◌, List}
+use Rattle.std.specs.Prelude.{ℕ, ◌-◌, Bool, if◌then◌else◌, List}
 use Rattle.std.specs.List.{list_any}
 use Rattle.pack_rules.specs.declared.schedule.QueryKey.{QueryKey}
 use Rattle.entry_model.specs.declared.restored.Run.{Run}
