@@ -1,5 +1,5 @@
 //! What an expression is worth over a row, or over a group of rows.
-ghost use Rattle.std.specs.Prelude.{◌≡◌, IfOk, map, length};
+ghost use Rattle.std.specs.Prelude.{◌≡◌, ◌++◌, IfOk, map, length};
 ghost use Rattle.std.specs.Option.{option_copied};
 ghost use Rattle.sql_names.specs.View.{expr_of, step_of, steps_of, exprs_of, aggregate_of};
 ghost use Rattle.sql_meaning.specs.Expressions.{affinity_of as affinity_in, alone, cast_of, holds as holds_in, is_true as is_true_value, negated as negated_by, value_at, value_of, value_after, value_by, values_of};
@@ -18,9 +18,18 @@ use std::alloc::Global;
 #[derive(Clone, Copy)]
 pub enum Over<'a> {
     /// A row by itself: an aggregate over it is Null.
-    Row { values: &'a [Value] },
+    Row {
+        values: &'a [Value],
+    },
     /// The rows of a group: a column outside the aggregates is that of the first row, Null where there is none.
-    Group { rows: &'a [Row] },
+    Group {
+        rows: &'a [Row],
+    },
+    /// Two rows as one, the values of the right one behind those of the left one.
+    Pair {
+        left: &'a [Value],
+        right: &'a [Value],
+    },
 }
 
 /// What an expression is worth: a value that stands in the row or in the expression, or one that was made.
@@ -68,7 +77,7 @@ pub(crate) fn value(alloc: Global, over: Over, expr: &Expr) -> Result<Value, NoM
 }
 
 /// Whether each part of a condition is true.
-pub(crate) fn holds(alloc: Global, over: Over, parts: &[Expr]) -> Result<bool, NoMemory>
+pub fn holds(alloc: Global, over: Over, parts: &[Expr]) -> Result<bool, NoMemory>
     ensures { IfOk result (λ truth. truth ≡ holds_in (environment_of over.entry) (map expr_of parts.now)) }
 {
     let mut rest = parts;
@@ -106,19 +115,32 @@ fn column(over: Over, place: u32) -> Worth
     ensures { worth_of result ≡ value_at (environment_of over.entry).row place }
 {
     match over {
-        Over::Row { values } => held(values, place),
+        Over::Row { values } => held(values, place as usize),
         Over::Group { rows } => match rows.first() {
             None => Worth::Made { value: Value::Null },
-            Some(row) => held(row.as_slice(), place),
+            Some(row) => held(row.as_slice(), place as usize),
         },
+        Over::Pair { left, right } => held_of_two(left, right, place),
+    }
+}
+
+/// The value at a place among those of two rows, Null beyond the end.
+fn held_of_two<'a>(left: &'a [Value], right: &'a [Value], place: u32) -> Worth<'a>
+    ensures { worth_of result ≡ value_at (left.now ++ right.now) place }
+{
+    let at = place as usize;
+    if at < left.len() {
+        held(left, at)
+    } else {
+        held(right, at - left.len())
     }
 }
 
 /// The value at a place, Null beyond the end.
-fn held(values: &[Value], place: u32) -> Worth
+fn held(values: &[Value], place: usize) -> Worth
     ensures { worth_of result ≡ value_at values.now place }
 {
-    match values.get(place as usize) {
+    match values.get(place) {
         None => Worth::Made { value: Value::Null },
         Some(value) => Worth::Held { value },
     }
@@ -310,6 +332,7 @@ fn folded(alloc: Global, over: Over, aggregate: &Aggregate) -> Result<Value, NoM
 {
     match over {
         Over::Row { .. } => Ok(Value::Null),
+        Over::Pair { .. } => Ok(Value::Null),
         Over::Group { rows } => match &aggregate.argument {
             None => count_rows(aggregate.fold, rows.len()),
             Some(argument) => {
