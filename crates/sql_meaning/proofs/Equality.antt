@@ -19,7 +19,7 @@ same_text r s =
     let e = Equal-is (order_of (Text r) (Text s)) in
     both_ways (bytes_eq r s) (is_eq (order_of (Text r) (Text s))) (λ h. e.1 (order_of-equal (Text r) (Text s) (ap Text (d.0 h)))) (λ h. d.1 (text_of r s (equal_of-order (Text r) (Text s) (e.0 h))))
 
-same_value : (a b : Value) → equality.eq-value.it a b ≡ is_eq (order_of a b)
+pub same_value : (a b : Value) → equality.eq-value.it a b ≡ is_eq (order_of a b)
 same_value Null Null = refl
 same_value Null (Int n) = refl
 same_value Null (Text s) = refl

@@ -85,18 +85,3 @@ module _ {X : Type 0} (key : X → List Value) where
   firsts_by-push (y ∷ ys) x =
       ap (λ (zs : List X). y ∷ filter (differs y) zs) (firsts_by-push ys x)
       ∙ push_step y x (firsts_by key ys) (same_values (key y) (key x)) refl (list_any (has_key (key x)) (firsts_by key ys)) refl
-
-  -- a member whose key isn't there yet, and one whose key is
-  pub firsts-new : (xs : List X) (x : X) (firsts seen : List X) (k : List Value) (found : Bool) → found ≡ false → found ≡ list_any (has_key k) seen → k ≡ key x → seen ≡ firsts
-      → firsts ≡ firsts_by key xs → firsts ++ x ∷ [] ≡ firsts_by key (xs ++ x ∷ [])
-  firsts-new xs x firsts seen k true p q r s h = absurd (true≢false p)
-  firsts-new xs x firsts seen k false p q r s h =
-      let none : false ≡ list_any (has_key (key x)) (firsts_by key xs) = q ∙ (λ i. list_any (has_key (r i)) ((s ∙ h) i)) in
-      ap (λ (zs : List X). zs ++ x ∷ []) h ∙ ap (λ (b : Bool). cond b (firsts_by key xs) (firsts_by key xs ++ x ∷ [])) none ∙ sym (firsts_by-push xs x)
-
-  pub firsts-same : (xs : List X) (x : X) (firsts seen : List X) (k : List Value) (found : Bool) → found ≡ true → found ≡ list_any (has_key k) seen → k ≡ key x → seen ≡ firsts
-      → firsts ≡ firsts_by key xs → firsts ≡ firsts_by key (xs ++ x ∷ [])
-  firsts-same xs x firsts seen k true p q r s h =
-      let one : true ≡ list_any (has_key (key x)) (firsts_by key xs) = q ∙ (λ i. list_any (has_key (r i)) ((s ∙ h) i)) in
-      h ∙ ap (λ (b : Bool). cond b (firsts_by key xs) (firsts_by key xs ++ x ∷ [])) one ∙ sym (firsts_by-push xs x)
-  firsts-same xs x firsts seen k false p q r s h = absurd (true≢false (sym p))

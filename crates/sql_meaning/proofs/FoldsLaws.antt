@@ -1,87 +1,45 @@
--- What an aggregate looks at, one value after another.
-use Rattle.std.proofs.Common.{◌≡◌, ℕ, ◌<◌, ◌+◌, refl, sym, ap, ◌∙◌, Bool, true, false, cond, not, ◌&&◌, ◌||◌, List, [], ◌∷◌, ◌++◌, length, filter, filter_map, append-nil, take, get_or, is_eq, option_to_list, unwrap_or, is_none, is_some, Option, Some, None, ℤ, pos, ◌+ℤ◌, arith}
+-- The best, the numbers and the sum of values, one value after another.
+use Rattle.std.proofs.Common.{◌≡◌, ℕ, ◌<◌, ◌+◌, refl, sym, ap, ◌∙◌, Bool, true, false, cond, not, ◌&&◌, List, [], ◌∷◌, ◌++◌, length, filter_map, append-nil, take, get_or, option_to_list, unwrap_or, is_none, is_some, Option, Some, None, ℤ, pos, ◌+ℤ◌, arith, map}
 use Rattle.std.proofs.lemmas.Int.{ints}
-use Rattle.std.specs.List.{list_any, reduce, fold}
+use Rattle.std.specs.List.{reduce, fold}
+use Rattle.std.specs.Ordering.{is_eq}
 use Rattle.std.proofs.lemmas.List.{take_more}
-use Rattle.std.proofs.lemmas.List.Elements.{filter-append, filter_map-append}
+use Rattle.std.proofs.lemmas.List.Elements.{filter_map-append}
 use Rattle.osq_value.specs.declared.value.Value.{Value}
 use Rattle.osq_value.specs.declared.value.Value.TheVariants.{Null, Int, Text}
+use Rattle.osq_value.specs.contracts.value.ValuePartialEq.TheImpl as equality
 use Rattle.osq_value.specs.Order.{order_of}
+use Rattle.indexmap.specs.IndexSet.{insert_key}
 use Rattle.sql_meaning.specs.Firsts.{same_values}
 use Rattle.sql_scalar.specs.Arithmetic.{whole, within}
-use Rattle.sql_meaning.specs.Folds.{different, is_known, looked_at, sum_over, total}
-use Rattle.sql_meaning.specs.Looks.{chosen, looks_at, nearer_of, number_at}
-use Rattle.sql_meaning.proofs.FirstsLaws.{any_firsts, firsts_by-push}
+use Rattle.sql_meaning.specs.Folds.{different, sum_over, total}
+use Rattle.sql_meaning.specs.Looks.{chosen, nearer_of}
+use Rattle.sql_meaning.proofs.Equality.{same_value}
+use Rattle.sql_meaning.proofs.HashedLaws.{insert_key-made}
 
 abbrev alone : Value → List Value
 alone value = value ∷ []
 
-abbrev equals : Value → Value → Bool
-equals value earlier = is_eq (order_of earlier value)
-
-and-true : (b : Bool) → (b && true) ≡ b
+and-true : (b : Bool) → b ≡ (b && true)
 and-true true = refl
 and-true false = refl
 
-any_alone : (value : Value) (values : List Value) → list_any (λ earlier. same_values (alone earlier) (alone value)) values ≡ list_any (equals value) values
-any_alone value [] = refl
-any_alone value (v ∷ vs) = λ i. and-true (equals value v) i || any_alone value vs i
+same-alone : (left right : Value) → equality.eq-value.it left right ≡ same_values (alone left) (alone right)
+same-alone left right = same_value left right ∙ and-true (is_eq (order_of left right))
 
--- a value that isn't Null is equal to none that is
-any_known : (value : Value) → is_known value ≡ true → (values : List Value) → list_any (equals value) (filter is_known values) ≡ list_any (equals value) values
-any_known value h [] = refl
-any_known Null h (Null ∷ vs) = cc
-any_known (Int n) h (Null ∷ vs) = any_known (Int n) h vs
-any_known (Text s) h (Null ∷ vs) = any_known (Text s) h vs
-any_known value h (Int n ∷ vs) = ap (λ (b : Bool). equals value (Int n) || b) (any_known value h vs)
-any_known value h (Text s ∷ vs) = ap (λ (b : Bool). equals value (Text s) || b) (any_known value h vs)
+abbrev itself : Value → Value
+itself value = value
 
-any_different : (value : Value) → is_known value ≡ true → (before : List Value)
-    → list_any (λ earlier. same_values (alone earlier) (alone value)) (different (filter is_known before)) ≡ list_any (equals value) before
-any_different value h before = any_firsts alone (alone value) (filter is_known before) ∙ any_alone value (filter is_known before) ∙ any_known value h before
+as-is : (values : List Value) → map itself values ≡ values
+as-is [] = refl
+as-is (v ∷ vs) = ap (λ (rest : List Value). v ∷ rest) (as-is vs)
 
-known-push : (before : List Value) (value : Value) (s : Bool) → is_known value ≡ s → filter is_known (before ++ value ∷ []) ≡ filter is_known before ++ cond s (value ∷ []) []
-known-push before value s p = filter-append is_known before (value ∷ []) ∙ ap (λ (t : Bool). filter is_known before ++ cond t (value ∷ []) []) p
-
-turned : (b : Bool) (xs ys : List Value) → cond b xs ys ≡ cond (not b) ys xs
-turned true xs ys = refl
-turned false xs ys = refl
-
-different-push : (before : List Value) (value : Value) → is_known value ≡ true
-    → different (filter is_known before ++ value ∷ []) ≡ cond (not (list_any (equals value) before)) (different (filter is_known before) ++ value ∷ []) (different (filter is_known before))
-different-push before value h =
-    firsts_by-push alone (filter is_known before) value
-    ∙ ap (λ (b : Bool). cond b (different (filter is_known before)) (different (filter is_known before) ++ value ∷ [])) (any_different value h before)
-    ∙ turned (list_any (equals value) before) (different (filter is_known before)) (different (filter is_known before) ++ value ∷ [])
-
-looked_step : (is_distinct : Bool) (before : List Value) (value : Value) (s : Bool) → is_known value ≡ s
-    → looked_at is_distinct (before ++ value ∷ []) ≡ cond (s && not (is_distinct && list_any (equals value) before)) (looked_at is_distinct before ++ value ∷ []) (looked_at is_distinct before)
-looked_step false before value true p = known-push before value true p
-looked_step false before value false p = known-push before value false p ∙ append-nil (filter is_known before)
-looked_step true before value true p = ap different (known-push before value true p) ∙ different-push before value p
-looked_step true before value false p = ap different (known-push before value false p ∙ append-nil (filter is_known before))
-
--- what is looked at of one value more
-pub looked_at-push : (is_distinct : Bool) (before : List Value) (value : Value)
-    → looked_at is_distinct (before ++ value ∷ []) ≡ cond (looks_at is_distinct before value) (looked_at is_distinct before ++ value ∷ []) (looked_at is_distinct before)
-looked_at-push is_distinct before value = looked_step is_distinct before value (is_known value) refl
-
--- the same at a place of a list, where the test gave an answer
-pub looked_at-yes : (is_distinct : Bool) (values : List Value) (at : ℕ) (value : Value) (front : List Value) (found : Bool) → at < length values → value ≡ get_or values at value → front ≡ take at values
-    → found ≡ looks_at is_distinct front value → found ≡ true → looked_at is_distinct (take (at + 1) values) ≡ looked_at is_distinct (take at values) ++ value ∷ []
-looked_at-yes is_distinct values at value front found h g f p q =
-    ap (looked_at is_distinct) (take_more values at value h ∙ ap (λ (v : Value). take at values ++ v ∷ []) (sym g))
-    ∙ looked_at-push is_distinct (take at values) value
-    ∙ ap (λ (b : Bool). cond b (looked_at is_distinct (take at values) ++ value ∷ []) (looked_at is_distinct (take at values)))
-    (ap (λ (before : List Value). looks_at is_distinct before value) (sym f) ∙ sym p ∙ q)
-
-pub looked_at-no : (is_distinct : Bool) (values : List Value) (at : ℕ) (value : Value) (front : List Value) (found : Bool) → at < length values → value ≡ get_or values at value → front ≡ take at values
-    → found ≡ looks_at is_distinct front value → found ≡ false → looked_at is_distinct (take (at + 1) values) ≡ looked_at is_distinct (take at values)
-looked_at-no is_distinct values at value front found h g f p q =
-    ap (looked_at is_distinct) (take_more values at value h ∙ ap (λ (v : Value). take at values ++ v ∷ []) (sym g))
-    ∙ looked_at-push is_distinct (take at values) value
-    ∙ ap (λ (b : Bool). cond b (looked_at is_distinct (take at values) ++ value ∷ []) (looked_at is_distinct (take at values)))
-    (ap (λ (before : List Value). looks_at is_distinct before value) (sym f) ∙ sym p ∙ q)
+-- a further value of those that are held once each
+pub different-more : (values : List Value) (value : Value) → insert_key equality.eq-value.it (different values) value ≡ different (values ++ value ∷ [])
+different-more values value =
+    ap (λ (kept : List Value). insert_key equality.eq-value.it kept value) (sym (as-is (different values)))
+    ∙ insert_key-made equality.eq-value.it alone itself same-alone values value
+    ∙ as-is (different (values ++ value ∷ []))
 
 module _ (f : Value → Value → Value) where
   fold-push : (first : Value) (values : List Value) (value : Value) → fold f first (values ++ value ∷ []) ≡ f (fold f first values) value
@@ -98,19 +56,13 @@ one_number Null = refl
 one_number (Int n) = refl
 one_number (Text t) = refl
 
-numbers_step : (before : List Value) (value : Value) (s : Bool)
-    → filter_map whole (cond s (before ++ value ∷ []) before) ≡ filter_map whole before ++ option_to_list (cond s (whole value) None)
-numbers_step before value true = filter_map-append whole before (value ∷ []) ∙ ap (λ (ns : List ℤ). filter_map whole before ++ ns) (one_number value)
-numbers_step before value false = sym (append-nil (filter_map whole before))
-
--- the numbers that are looked at, of one value more
-pub numbers-more : (is_distinct : Bool) (values : List Value) (at : ℕ) (value : Value) (front : List Value) → at < length values → value ≡ get_or values at value → front ≡ take at values
-    → filter_map whole (looked_at is_distinct (take (at + 1) values)) ≡ filter_map whole (looked_at is_distinct (take at values)) ++ option_to_list (number_at is_distinct front value)
-numbers-more is_distinct values at value front h g f =
-    ap (λ (vs : List Value). filter_map whole (looked_at is_distinct vs)) (take_more values at value h ∙ ap (λ (v : Value). take at values ++ v ∷ []) (sym g))
-    ∙ ap (filter_map whole) (looked_at-push is_distinct (take at values) value)
-    ∙ numbers_step (looked_at is_distinct (take at values)) value (looks_at is_distinct (take at values) value)
-    ∙ ap (λ (before : List Value). filter_map whole (looked_at is_distinct (take at values)) ++ option_to_list (number_at is_distinct before value)) (sym f)
+-- the numbers of one value more
+pub numbers-more : (values : List Value) (at : ℕ) (value : Value) → at < length values → value ≡ get_or values at value
+    → filter_map whole (take (at + 1) values) ≡ filter_map whole (take at values) ++ option_to_list (whole value)
+numbers-more values at value h g =
+    ap (filter_map whole) (take_more values at value h ∙ ap (λ (v : Value). take at values ++ v ∷ []) (sym g))
+    ∙ filter_map-append whole (take at values) (value ∷ [])
+    ∙ ap (λ (ns : List ℤ). filter_map whole (take at values) ++ ns) (one_number value)
 
 abbrev pub is_nil : List ℤ → Bool
 is_nil [] = true

@@ -1,9 +1,8 @@
 -- The groups, one member after another.
-use Rattle.std.proofs.Common.{◌≡◌, ℕ, ◌<◌, ◌+◌, suc, refl, sym, ap, ap₂, ◌∙◌, Bool, true, false, cond, not, ◌||◌, true≢false, List, [], ◌∷◌, ◌++◌, filter, map, length, get_or, set, append-nil, Some, None, position, arith}
-use Rattle.std.specs.List.{list_any, position_from}
+use Rattle.std.proofs.Common.{◌≡◌, ℕ, ◌<◌, ◌+◌, suc, refl, sym, ap, ap₂, subst, ◌∙◌, Bool, true, false, cond, not, ◌||◌, true≢false, List, [], ◌∷◌, ◌++◌, filter, map, length, get_or, set, append-nil, arith}
+use Rattle.std.specs.List.{list_any, position_or_len}
 use Rattle.std.proofs.lemmas.List.{length-map, map-append}
 use Rattle.std.proofs.lemmas.List.Elements.{filter-append}
-use Rattle.std.proofs.lemmas.Iterator.Adapters.{position_from-zero}
 use Rattle.osq_value.specs.declared.value.Value.{Value}
 use Rattle.sql_meaning.specs.Firsts.{same_values, firsts_by}
 use Rattle.sql_meaning.specs.declared.groups.Keyed.{Keyed}
@@ -72,52 +71,34 @@ module _ {X : Type 0} (key : X → List Value) where
         (rows-push xs x f false (first_no (same_values (key f) (key x)) (list_any (has_key key (key x)) fs) h) ∙ append-nil (rows_of xs f))
         (others xs x fs (second_no (same_values (key f) (key x)) (list_any (has_key key (key x)) fs) h))
 
-    record Found (xs : List X) (x : X) (firsts : List X) (from at : ℕ) : Type 0 where
-      pub place : ℕ
-      pub is : at ≡ from + place
-      pub below : place < length firsts
-      pub there : list_any (has_key key (key x)) firsts ≡ true
-      pub grown : map (rows_of (xs ++ x ∷ [])) firsts ≡ set (map (rows_of xs) firsts) place (get_or (map (rows_of xs) firsts) place [] ++ row x ∷ [])
+    -- where the keys of the firsts have the key of x
+    abbrev pub place_in : X → List X → ℕ
+    place_in x firsts = position_or_len (same_values (key x)) (map key firsts)
 
-    found_step : (xs : List X) (x f : X) (fs : List X) (from at : ℕ) → Once (f ∷ fs) → (position_from (λ k. same_values k (key x)) (from + 1) (map key fs) ≡ Some at → Found xs x fs (from + 1) at)
-        → (s : Bool) → same_values (key f) (key x) ≡ s → cond s (Some from) (position_from (λ k. same_values k (key x)) (from + 1) (map key fs)) ≡ Some at → Found xs x (f ∷ fs) from at
-    found_step xs x f fs from at once rest true p e = record {
-      place = 0;
-      is = (let h : from ≡ at = cc in omega arith);
+    record Found (xs : List X) (x : X) (firsts : List X) (at : ℕ) : Type 0 where
+      pub below : at < length firsts
+      pub grown : map (rows_of (xs ++ x ∷ [])) firsts ≡ set (map (rows_of xs) firsts) at (get_or (map (rows_of xs) firsts) at [] ++ row x ∷ [])
+
+    found_step : (xs : List X) (x f : X) (fs : List X) → Once (f ∷ fs) → (list_any (has_key key (key x)) fs ≡ true → Found xs x fs (place_in x fs))
+        → (s : Bool) → same_values (key f) (key x) ≡ s → (s || list_any (has_key key (key x)) fs) ≡ true → Found xs x (f ∷ fs) (cond (not s) (suc (place_in x fs)) 0)
+    found_step xs x f fs once rest true p h = record {
       below = omega arith;
-      there = (λ i. p i || list_any (has_key key (key x)) fs);
       grown = ap₂ (λ (g : List R) (gs : List (List R)). g ∷ gs) (rows-push xs x f true p)
           (others xs x fs (ap (λ (k : List Value). list_any (has_key key k) fs) (sym (same_values-exact (key f) (key x) p)) ∙ once.0));
     }
-    found_step xs x f fs from at once rest false p e =
-        let r = rest e in
+    found_step xs x f fs once rest false p h =
+        let r = rest h in
         record {
-          place = suc r.place;
-          is = (let i = r.is in omega arith);
           below = (let b = r.below in omega arith);
-          there = (λ i. p i || r.there i);
           grown = ap₂ (λ (g : List R) (gs : List (List R)). g ∷ gs) (rows-push xs x f false p ∙ append-nil (rows_of xs f)) r.grown;
         }
 
-    found : (xs : List X) (x : X) (firsts : List X) (from at : ℕ) → Once firsts → position_from (λ k. same_values k (key x)) from (map key firsts) ≡ Some at → Found xs x firsts from at
-    found xs x [] from at once e = absurd (no_place from at e)
-      where
-        no_place : (m n : ℕ) → None ≡ Some n → ⊥
-        no_place m n h = cc
-    found xs x (f ∷ fs) from at once e =
-        found_step xs x f fs from at once (found xs x fs (from + 1) at once.1) (same_values (key f) (key x)) refl e
-
-    absent_step : (x f : X) (fs : List X) (from : ℕ) → (position_from (λ k. same_values k (key x)) (from + 1) (map key fs) ≡ None → list_any (has_key key (key x)) fs ≡ false)
-        → (s : Bool) → cond s (Some from) (position_from (λ k. same_values k (key x)) (from + 1) (map key fs)) ≡ None → (s || list_any (has_key key (key x)) fs) ≡ false
-    absent_step x f fs from rest true e = cc
-    absent_step x f fs from rest false e = rest e
-
-    absent : (x : X) (firsts : List X) (from : ℕ) → position_from (λ k. same_values k (key x)) from (map key firsts) ≡ None → list_any (has_key key (key x)) firsts ≡ false
-    absent x [] from e = refl
-    absent x (f ∷ fs) from e = absent_step x f fs from (absent x fs (from + 1)) (same_values (key f) (key x)) e
-
-    abbrev pub keys_of : List X → List (List Value)
-    keys_of xs = map key (firsts_by key xs)
+    found : (xs : List X) (x : X) (firsts : List X) → Once firsts → list_any (has_key key (key x)) firsts ≡ true → Found xs x firsts (place_in x firsts)
+    found xs x [] once h = absurd (true≢false (sym h))
+    found xs x (f ∷ fs) once h =
+        let next : suc (place_in x fs) ≡ 1 + place_in x fs = omega arith in
+        subst (Found xs x (f ∷ fs)) (λ i. cond (not (same_values-turned (key f) (key x) i)) (next i) 0)
+        (found_step xs x f fs once (found xs x fs once.1) (same_values (key f) (key x)) refl h)
 
     abbrev pub lists_of : List X → List (List R)
     lists_of xs = map (rows_of xs) (firsts_by key xs)
@@ -125,18 +106,15 @@ module _ {X : Type 0} (key : X → List Value) where
     -- a member whose key has a group goes to the end of that group
     pub record Grown (xs : List X) (x : X) (at : ℕ) : Type 0 where
       pub below : at < length (lists_of xs)
-      pub keys : keys_of (xs ++ x ∷ []) ≡ keys_of xs
       pub lists : lists_of (xs ++ x ∷ []) ≡ set (lists_of xs) at (get_or (lists_of xs) at [] ++ row x ∷ [])
 
-    pub grown-at : (xs : List X) (x : X) (at : ℕ) → position (λ k. same_values k (key x)) (keys_of xs) ≡ Some at → Grown xs x at
-    grown-at xs x at e =
-        let f = found xs x (firsts_by key xs) 0 at (firsts_once xs) (sym (position_from-zero (λ k. same_values k (key x)) (keys_of xs)) ∙ e) in
-        let stays : firsts_by key (xs ++ x ∷ []) ≡ firsts_by key xs = firsts_by-push key xs x ∙ ap (λ (b : Bool). cond b (firsts_by key xs) (firsts_by key xs ++ x ∷ [])) f.there in
-        let here : f.place ≡ at = (let i = f.is in omega arith) in
+    pub grown-one : (xs : List X) (x : X) → list_any (has_key key (key x)) (firsts_by key xs) ≡ true → Grown xs x (place_in x (firsts_by key xs))
+    grown-one xs x there =
+        let f = found xs x (firsts_by key xs) (firsts_once xs) there in
+        let stays : firsts_by key (xs ++ x ∷ []) ≡ firsts_by key xs = firsts_by-push key xs x ∙ ap (λ (b : Bool). cond b (firsts_by key xs) (firsts_by key xs ++ x ∷ [])) there in
         record {
           below = (let b = f.below in let l = length-map (firsts_by key xs) (rows_of xs) in omega arith);
-          keys = ap (map key) stays;
-          lists = ap (map (rows_of (xs ++ x ∷ []))) stays ∙ f.grown ∙ ap (λ (n : ℕ). set (lists_of xs) n (get_or (lists_of xs) n [] ++ row x ∷ [])) here;
+          lists = ap (map (rows_of (xs ++ x ∷ []))) stays ∙ f.grown;
         }
 
     none_of : (k : List Value) (xs : List X) → list_any (has_key key k) xs ≡ false → filter (λ x. same_values k (key x)) xs ≡ []
@@ -146,22 +124,13 @@ module _ {X : Type 0} (key : X → List Value) where
         ∙ none_of k xs (second_no (has_key key k x) (list_any (has_key key k) xs) h)
 
     -- a member with a new key makes a group of its own at the end
-    pub record Added (xs : List X) (x : X) : Type 0 where
-      pub keys : keys_of (xs ++ x ∷ []) ≡ keys_of xs ++ key x ∷ []
-      pub lists : lists_of (xs ++ x ∷ []) ≡ lists_of xs ++ (row x ∷ []) ∷ []
-
-    pub added-one : (xs : List X) (x : X) → position (λ k. same_values k (key x)) (keys_of xs) ≡ None → Added xs x
-    added-one xs x e =
-        let none : list_any (has_key key (key x)) (firsts_by key xs) ≡ false = absent x (firsts_by key xs) 0 (sym (position_from-zero (λ k. same_values k (key x)) (keys_of xs)) ∙ e) in
+    pub added-one : (xs : List X) (x : X) → list_any (has_key key (key x)) (firsts_by key xs) ≡ false → lists_of (xs ++ x ∷ []) ≡ lists_of xs ++ (row x ∷ []) ∷ []
+    added-one xs x none =
         let more : firsts_by key (xs ++ x ∷ []) ≡ firsts_by key xs ++ x ∷ [] = firsts_by-push key xs x ∙ ap (λ (b : Bool). cond b (firsts_by key xs) (firsts_by key xs ++ x ∷ [])) none in
         let alone : rows_of (xs ++ x ∷ []) x ≡ row x ∷ [] =
         rows-push xs x x true (same_values-itself (key x)) ∙ ap (λ (ys : List X). map row ys ++ row x ∷ []) (none_of (key x) xs (sym (any_firsts key (key x) xs) ∙ none)) in
-        record {
-          keys = ap (map key) more ∙ map-append key (firsts_by key xs) (x ∷ []);
-          lists =
-              ap (map (rows_of (xs ++ x ∷ []))) more ∙ map-append (rows_of (xs ++ x ∷ [])) (firsts_by key xs) (x ∷ [])
-              ∙ ap₂ (λ (gs : List (List R)) (g : List R). gs ++ g ∷ []) (others xs x (firsts_by key xs) none) alone;
-        }
+        ap (map (rows_of (xs ++ x ∷ []))) more ∙ map-append (rows_of (xs ++ x ∷ [])) (firsts_by key xs) (x ∷ [])
+        ∙ ap₂ (λ (gs : List (List R)) (g : List R). gs ++ g ∷ []) (others xs x (firsts_by key xs) none) alone
 
     lists_from : (xs firsts : List X) → map (map row) (map (λ first. filter (λ x. same_values (key first) (key x)) xs) firsts) ≡ map (rows_of xs) firsts
     lists_from xs [] = refl

@@ -1,7 +1,9 @@
 pub mod Equality
 pub mod FirstsLaws
 pub mod FoldsLaws
+pub mod FrontsLaws
 pub mod GroupsLaws
+pub mod HashedLaws
 pub mod Known
 pub mod KnownMeaning
 pub mod OrderLaws

@@ -337,12 +337,7 @@ fn folded(alloc: Global, over: Over, aggregate: &Aggregate) -> Result<Value, NoM
             None => count_rows(aggregate.fold, rows.len()),
             Some(argument) => {
                 let values = column_values(alloc, rows, argument)?;
-                fold_values(
-                    alloc,
-                    aggregate.fold,
-                    aggregate.is_distinct,
-                    values.as_slice(),
-                )
+                fold_values(alloc, aggregate.fold, aggregate.is_distinct, values)
             }
         },
     }

@@ -1,15 +1,12 @@
 //! What an aggregate makes of the rows of a group.
-ghost use Rattle.std.specs.Prelude.{◌≡◌, ℤ, pos, IfOk, filter_map, length, unwrap_or};
+ghost use Rattle.std.specs.Prelude.{◌≡◌, ℤ, pos, IfOk, filter, filter_map, unwrap_or};
 ghost use Rattle.osq_value.specs.declared.value.Value.TheVariants.{Int, Null};
-ghost use Rattle.std.specs.List.{list_any};
-ghost use Rattle.std.specs.Option.{option_copied};
-ghost use Rattle.std.specs.Ordering.{is_eq};
-ghost use Rattle.osq_value.specs.Order.{order_of};
-ghost use Rattle.sql_meaning.specs.Folds.{counted_rows, folded_over, is_known, looked_at, sum_over};
-ghost use Rattle.sql_meaning.specs.Looks.{extreme_of, looks_at, nearer_of, number_at};
+ghost use Rattle.sql_meaning.specs.Folds.{counted_rows, different, folded_over, is_known, looked_at, sum_over};
+ghost use Rattle.sql_meaning.specs.Looks.{extreme_of, nearer_of};
 ghost use Rattle.sql_scalar.specs.Arithmetic.{whole, within};
 
-use osq_value::{Copied, NoMemory, Value, compare};
+use indexmap::IndexSet;
+use osq_value::{NoMemory, Row, Value, compare};
 use sql_parser::token::Fold;
 use sql_scalar::whole;
 use std::alloc::Global;
@@ -21,15 +18,16 @@ pub fn fold_values(
     alloc: Global,
     fold: Fold,
     is_distinct: bool,
-    values: &[Value],
+    values: Row,
 ) -> Result<Value, NoMemory>
-    ensures { IfOk result (λ value. value ≡ folded_over fold is_distinct values.now) }
+    ensures { IfOk result (λ value. value ≡ folded_over fold is_distinct values) }
 {
+    let looked = looked_at(alloc, values, is_distinct)?;
     match fold {
-        Fold::Count => count_value(count(values, is_distinct)),
-        Fold::Sum => Ok(sum(values, is_distinct)),
-        Fold::Min => copy_or_null(alloc, extreme(values, is_distinct, false)),
-        Fold::Max => copy_or_null(alloc, extreme(values, is_distinct, true)),
+        Fold::Count => count_value(looked.len()),
+        Fold::Sum => Ok(sum(looked.as_slice())),
+        Fold::Min => Ok(extreme(looked, false)),
+        Fold::Max => Ok(extreme(looked, true)),
     }
 }
 
@@ -52,51 +50,61 @@ fn count_value(count: usize) -> Result<Value, NoMemory>
     }
 }
 
-fn copy_or_null(alloc: Global, value: Option<&Value>) -> Result<Value, NoMemory>
-    ensures { IfOk result (λ copy. copy ≡ unwrap_or (option_copied value.entry) Null) }
+/// The values that an aggregate looks at: those that aren't Null, and with DISTINCT each of them once.
+fn looked_at(alloc: Global, values: Row, is_distinct: bool) -> Result<Row, NoMemory>
+    ensures { IfOk result (λ looked. looked ≡ looked_at is_distinct values) }
 {
-    match value {
-        Some(value) => value.copy(alloc),
-        None => Ok(Value::Null),
+    let known = known_values(values);
+    if is_distinct {
+        different(alloc, known)
+    } else {
+        Ok(Row::from_vec(known))
     }
 }
 
-/// The number of values that are looked at.
-fn count(values: &[Value], is_distinct: bool) -> usize
-    ensures { result ≡ length (looked_at is_distinct values.now) }
+/// The values that aren't Null.
+fn known_values(values: Row) -> Vec<Value>
+    ensures { result.items ≡ filter is_known values }
 {
-    let mut count = 0;
-    for (at, value) in values.iter().enumerate() {
-        if is_looked_at(values.split_at(at).0, value, is_distinct) {
-            count += 1;
-        }
-    }
-    count
+    let mut known = values.into_vec();
+    known.retain(|value| is_known(value));
+    known
 }
 
-/// The true sum, Null of no numbers and outside 64 bits.
-fn sum(values: &[Value], is_distinct: bool) -> Value
-    ensures { result ≡ sum_over (filter_map whole (looked_at is_distinct values.now)) }
+/// Each value once, where it first stands.
+fn different(alloc: Global, values: Vec<Value>) -> Result<Row, NoMemory>
+    ensures { IfOk result (λ kept. kept ≡ different values.items) }
+{
+    let mut kept = Row::new(alloc);
+    for value in hashed(alloc, values)? {
+        kept.push(value)?;
+    }
+    Ok(kept)
+}
+
+/// The same values, which are found by their hash. Each is hashed once.
+fn hashed(alloc: Global, values: Vec<Value>) -> Result<IndexSet<Value>, NoMemory>
+    ensures { IfOk result (λ kept. kept.keys ≡ different values.items) }
+{
+    let mut kept = IndexSet::new(alloc);
+    for value in values {
+        kept.insert(value)?;
+    }
+    Ok(kept)
+}
+
+/// The true sum of the whole numbers, Null of none and outside 64 bits.
+fn sum(values: &[Value]) -> Value
+    ensures { result ≡ sum_over (filter_map whole values.now) }
 {
     let mut total: i128 = 0;
     let mut is_empty = true;
-    for (at, value) in values.iter().enumerate() {
-        let number = number_at(values.split_at(at).0, value, is_distinct);
+    for value in values {
+        let number = whole(value);
         is_empty = is_empty & number.is_none();
         total += i128::from(number.unwrap_or(0));
     }
     if is_empty { Value::Null } else { within(total) }
-}
-
-/// The whole number of a value behind these, where it is looked at.
-fn number_at(before: &[Value], value: &Value, is_distinct: bool) -> Option<i64>
-    ensures { result ≡ number_at is_distinct before.now value.now }
-{
-    if is_looked_at(before, value, is_distinct) {
-        whole(value)
-    } else {
-        None
-    }
 }
 
 /// The number, or Null where it lies outside 64 bits.
@@ -109,26 +117,24 @@ fn within(number: i128) -> Value
     }
 }
 
-/// The greatest of the values that are looked at, or the least of them.
-fn extreme(values: &[Value], is_distinct: bool, is_greatest: bool) -> Option<&Value>
-    ensures { option_copied result ≡ extreme_of is_greatest (looked_at is_distinct values.now) }
+/// The greatest of the values, or the least of them, Null of none.
+fn extreme(values: Row, is_greatest: bool) -> Value
+    ensures { result ≡ unwrap_or (extreme_of is_greatest values) Null }
 {
     let mut best = None;
-    for (at, value) in values.iter().enumerate() {
-        if is_looked_at(values.split_at(at).0, value, is_distinct) {
-            best = Some(nearer(best, value, is_greatest));
-        }
+    for value in values.into_vec() {
+        best = Some(nearer(best, value, is_greatest));
     }
-    best
+    best.unwrap_or(Value::Null)
 }
 
 /// The greater of the two, or the lesser.
-fn nearer<'a>(best: Option<&'a Value>, value: &'a Value, is_greatest: bool) -> &'a Value
-    ensures { result.now ≡ nearer_of is_greatest (option_copied best.entry) value.now }
+fn nearer(best: Option<Value>, value: Value, is_greatest: bool) -> Value
+    ensures { result ≡ nearer_of is_greatest best value }
 {
     match best {
         Some(held) => {
-            let order = compare(value, held);
+            let order = compare(&value, &held);
             let is_nearer = if is_greatest {
                 order.is_gt()
             } else {
@@ -138,19 +144,6 @@ fn nearer<'a>(best: Option<&'a Value>, value: &'a Value, is_greatest: bool) -> &
         }
         None => value,
     }
-}
-
-/// Whether an aggregate looks at a value behind these: it isn't Null, and with DISTINCT none of these is equal to it.
-fn is_looked_at(before: &[Value], value: &Value, is_distinct: bool) -> bool
-    ensures { result ≡ looks_at is_distinct before.now value.now }
-{
-    is_known(value) && !(is_distinct && has_equal(before, value))
-}
-
-fn has_equal(values: &[Value], value: &Value) -> bool
-    ensures { result ≡ list_any (λ earlier. is_eq (order_of earlier value.now)) values.now }
-{
-    values.iter().any(|earlier| compare(earlier, value).is_eq())
 }
 
 fn is_known(value: &Value) -> bool

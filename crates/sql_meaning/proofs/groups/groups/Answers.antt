@@ -1,41 +1,93 @@
-use Rattle.std.proofs.Common.{◌≡◌, ap, ap₂, sym, ◌∙◌, [], ◌∷◌, ◌++◌, position, List, Some, None, get_or, set}
+use Rattle.std.proofs.Common.{rules, ◌≡◌, ℕ, ◌<◌, refl, ap, length, map, ap₂, sym, ◌∙◌, Bool, true, false, not, [], ◌∷◌, ◌++◌, List, get_or, set, subst}
+use Rattle.std.specs.List.{list_any, position_or_len}
+use Rattle.std.specs.Cmp.Lexicographic.{pointwise}
 use Rattle.std.proofs.lemmas.List.{get_or_default}
+use Rattle.indexmap.specs.IndexSet.{insert_key}
 use Rattle.osq_value.specs.declared.value.Value.{Value}
-use Rattle.sql_meaning.specs.Firsts.{same_values}
-use Rattle.sql_meaning.proofs.GroupsLaws.{added-one, groups-are, grown-at, key_in, keys_of, row_in}
+use Rattle.osq_value.specs.contracts.value.ValuePartialEq.TheImpl as equality
+use Rattle.sql_meaning.specs.Firsts.{same_values, firsts_by}
+use Rattle.sql_meaning.specs.declared.groups.Keyed.{Keyed}
+use Rattle.sql_meaning.proofs.Equality.{same_values-is}
+use Rattle.sql_meaning.proofs.FirstsLaws.{has_key}
+use Rattle.sql_meaning.proofs.GroupsLaws.{Grown, added-one, groups-are, grown-one, key_in, lists_of, place_in, row_in}
+use Rattle.sql_meaning.proofs.HashedLaws.{any_made, insert_key-made}
 use Rattle.sql_meaning.proofs.groups.groups.Goals as goal
 
-pub loop-member-preserved-in-Some-place_of : goal.loop-member-preserved-in-Some-place_of
-loop-member-preserved-in-Some-place_of c =
+abbrev equal : List Value → List Value → Bool
+equal left right = pointwise equality.eq-value.it left right
+
+is : (x y : Keyed) → equal x.key y.key ≡ same_values x.key y.key
+is x y = same_values-is x.key y.key
+
+-- the set of keys is that of the members and of this one
+keys-more : (members : List Keyed) (member : Keyed) (old new : List (List Value)) → old ≡ map key_in (firsts_by key_in members) → new ≡ insert_key equal old member.key → new ≡ map key_in (firsts_by key_in (members ++ member ∷ []))
+keys-more members member old new held more =
+    more ∙ ap (λ (keys : List (List Value)). insert_key equal keys member.key) held ∙ insert_key-made equal key_in key_in is members member
+
+-- whether the key is among them
+known-is : (members : List Keyed) (member : Keyed) (keys : List (List Value)) (is_new : Bool) → keys ≡ map key_in (firsts_by key_in members) → is_new ≡ not (list_any (equal member.key) keys) → (known : Bool) → is_new ≡ not known → list_any (has_key key_in member.key) (firsts_by key_in members) ≡ known
+known-is members member keys is_new held told known at =
+    sym (ap (list_any (equal member.key)) held ∙ any_made equal key_in key_in is member (firsts_by key_in members)) ∙ turned (list_any (equal member.key) keys) known (sym told ∙ at)
+  where
+    turned : (a b : Bool) → not a ≡ not b → a ≡ b
+    turned true true h = refl
+    turned false false h = refl
+    turned true false h = cc
+    turned false true h = cc
+
+-- its place there
+place-is : (members : List Keyed) (member : Keyed) (keys : List (List Value)) (at : ℕ) → keys ≡ map key_in (firsts_by key_in members) → at ≡ position_or_len (equal member.key) keys → at ≡ place_in key_in row_in member (firsts_by key_in members)
+place-is members member keys at held told =
+    told ∙ ap (position_or_len (equal member.key)) held
+    ∙ (λ i. position_or_len (λ (key : List Value). same_values-is member.key key i) (map key_in (firsts_by key_in members)))
+
+pub loop-member-init : goal.loop-member-init
+loop-member-init c = record { keys = c.new-keys.ensures.empty; lists = c.new-groups.ensures.items }
+
+pub loop-member-preserved-in_ok-push : goal.loop-member-preserved-in_ok-push
+loop-member-preserved-in_ok-push c =
     let before = c.loop-member.invariant in
     let member = c.in-Some.member in
-    let lists = before.lists ∙ groups-are key_in row_in c.loop-member.yielded in
-    let at = c.in-Some-place_of.at in
-    let place : position (λ key. same_values key member.key) (keys_of key_in row_in c.loop-member.yielded) ≡ Some at =
-    ap (λ (keys : List (List Value)). position (λ key. same_values key member.key) keys) (sym (c.as_slice.ensures ∙ before.keys)) ∙ sym c.place_of.ensures ∙ c.in-Some-place_of.is in
-    let grown = grown-at key_in row_in c.loop-member.yielded member at place in
-    let old : c.index_mut.result.now ≡ get_or c.loop-member.groups.items at [] =
-    c.index_mut.ensures.value ∙ get_or_default c.loop-member.groups.items at c.index_mut.result.now [] (let b = grown.below in let l = lists in rw l b) in
+    let members = c.loop-member.yielded in
+    let lists = before.lists ∙ groups-are key_in row_in members in
+    let unknown = known-is members member c.loop-member.keys.keys c.in_ok-at.is_new before.keys c.in_ok-at.ensures.added false c.if-is_new.true in
     record {
-      keys = before.keys ∙ sym grown.keys;
+      keys = keys-more members member c.loop-member.keys.keys c.insert_full.new.self.keys before.keys c.in_ok-at.ensures.keys;
       lists =
-          ap (λ (rows : List (List Value)). set c.loop-member.groups.items at rows) (c.in_ok-push-in-Some-place_of.ensures.ok ∙ ap (λ (rows : List (List Value)). rows ++ member.row ∷ []) old)
-          ∙ ap (λ (groups : List (List (List Value))). set groups at (get_or groups at [] ++ member.row ∷ [])) lists
-          ∙ sym grown.lists ∙ sym (groups-are key_in row_in (c.loop-member.yielded ++ member ∷ []));
+          c.in_ok-push.ensures.items
+          ∙ ap₂ (λ (groups : List (List (List Value))) (rows : List (List Value)). groups ++ rows ∷ []) lists c.in_ok-one_row.ensures
+          ∙ sym (added-one key_in row_in members member unknown) ∙ sym (groups-are key_in row_in (members ++ member ∷ []));
     }
+
+-- the group of a key that is there
+grown : (members : List Keyed) (member : Keyed) (keys : List (List Value)) (is_new : Bool) (at : ℕ) → keys ≡ map key_in (firsts_by key_in members) → is_new ≡ not (list_any (equal member.key) keys) → is_new ≡ false
+    → at ≡ position_or_len (equal member.key) keys → Grown key_in row_in members member at
+grown members member keys is_new at held told old place =
+    subst (Grown key_in row_in members member) (sym (place-is members member keys at held place)) (grown-one key_in row_in members member (known-is members member keys is_new held told true old))
+
+pub index_mut-requires : goal.index_mut-requires
+index_mut-requires c =
+    let before = c.loop-member.invariant in
+    let g = grown c.loop-member.yielded c.in-Some.member c.loop-member.keys.keys c.in_ok-at.is_new c.in_ok-at.at before.keys c.in_ok-at.ensures.added c.if-is_new.false c.in_ok-at.ensures.index in
+    let below : c.in_ok-at.at < length (lists_of key_in row_in c.loop-member.yielded) = g.below in
+    let lists = before.lists ∙ groups-are key_in row_in c.loop-member.yielded in
+    let within : c.in_ok-at.at < length c.loop-member.groups.items = subst (λ (groups : List (List (List Value))). c.in_ok-at.at < length groups) (sym lists) below in
+    search (rules, within)
 
 pub loop-member-preserved : goal.loop-member-preserved
 loop-member-preserved c =
     let before = c.loop-member.invariant in
     let member = c.in-Some.member in
-    let lists = before.lists ∙ groups-are key_in row_in c.loop-member.yielded in
-    let place : position (λ key. same_values key member.key) (keys_of key_in row_in c.loop-member.yielded) ≡ None =
-    ap (λ (keys : List (List Value)). position (λ key. same_values key member.key) keys) (sym (c.as_slice.ensures ∙ before.keys)) ∙ sym c.place_of.ensures ∙ c.in-None-place_of.is in
-    let added = added-one key_in row_in c.loop-member.yielded member place in
+    let members = c.loop-member.yielded in
+    let at = c.in_ok-at.at in
+    let lists = before.lists ∙ groups-are key_in row_in members in
+    let g = grown members member c.loop-member.keys.keys c.in_ok-at.is_new at before.keys c.in_ok-at.ensures.added c.if-is_new.false c.in_ok-at.ensures.index in
+    let old : c.index_mut.result.now ≡ get_or c.loop-member.groups.items at [] =
+    c.index_mut.ensures.value ∙ get_or_default c.loop-member.groups.items at c.index_mut.result.now [] (let b = g.below in let l = lists in rw l b) in
     record {
-      keys = c.in_ok-push-in-None-place_of-2.ensures.ok ∙ ap (λ (keys : List (List Value)). keys ++ member.key ∷ []) before.keys ∙ sym added.keys;
+      keys = keys-more members member c.loop-member.keys.keys c.insert_full.new.self.keys before.keys c.in_ok-at.ensures.keys;
       lists =
-          c.in_ok-push-in-None-place_of.ensures.items
-          ∙ ap₂ (λ (groups : List (List (List Value))) (rows : List (List Value)). groups ++ rows ∷ []) lists c.in_ok-one_row-in-None-place_of.ensures
-          ∙ sym added.lists ∙ sym (groups-are key_in row_in (c.loop-member.yielded ++ member ∷ []));
+          ap (λ (rows : List (List Value)). set c.loop-member.groups.items at rows) (c.in_ok-push-2.ensures.ok ∙ ap (λ (rows : List (List Value)). rows ++ member.row ∷ []) old)
+          ∙ ap (λ (groups : List (List (List Value))). set groups at (get_or groups at [] ++ member.row ∷ [])) lists
+          ∙ sym g.lists ∙ sym (groups-are key_in row_in (members ++ member ∷ []));
     }

@@ -5,6 +5,6 @@ use Rattle.sql_meaning.proofs.groups.groups.Given as goal
 
 abbrev pub invariant-loop-member : goal.invariant-loop-member
 invariant-loop-member l = record {
-  keys : l.keys ≡ map (λ member. member.key) (firsts_by (λ member. member.key) l.yielded);
+  keys : l.keys.keys ≡ map (λ member. member.key) (firsts_by (λ member. member.key) l.yielded);
   lists : l.groups.items ≡ map (map (λ member. member.row)) (groups_by (λ member. member.key) l.yielded);
 }
