@@ -68,3 +68,7 @@ ordered query rows = ordered_by (keys_in query) (map (λ (term : OrderTree). ter
 -- LIMIT and OFFSET
 abbrev pub cut : QueryTree → List (List Value) → List (List Value)
 cut query rows = cut_by query.limit query.skip rows
+
+-- the steps behind FROM, one after another
+abbrev pub behind_from : QueryTree → List (List Value) → List (List Value)
+behind_from query rows = cut query (map (items_in query) (ordered query (distinct query (map (result_row query) (environments query (filtered query rows))))))
