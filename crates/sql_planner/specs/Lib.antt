@@ -1,0 +1,4 @@
+pub mod Comparisons
+pub mod Joining
+pub mod Literals
+pub mod Plans

@@ -1,0 +1,12 @@
+//! How a query is run: what is tested where a table is read, and how each table is joined.
+#![tactic(auto)]
+
+mod comparison;
+mod joining;
+pub mod plan;
+mod planning;
+#[cfg(test)]
+mod tests;
+
+pub use plan::{JoinForm, Plan, Scan, ScanList};
+pub use planning::plan_of;
