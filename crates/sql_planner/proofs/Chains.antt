@@ -1,5 +1,5 @@
 -- Chains that have not one step alone.
-use Rattle.std.proofs.Common.{◌≡◌, refl, sym, ap, ◌∙◌, ◌==◌, Bool, true, false, true≢false, ◌-◌, drop, take, arith, List, [], ◌∷◌, length, map, None}
+use Rattle.std.proofs.Common.{◌≡◌, refl, sym, ap, ◌∙◌, ◌==◌, Bool, false, true≢false, ◌-◌, drop, take, arith, List, [], ◌∷◌, length, map, None}
 use Rattle.std.specs.Option.{option_and_then}
 use Rattle.sql_names.specs.Exprs.{ExprTree, OneExprStep, ExprSteps, then, no_steps}
 use Rattle.sql_names.specs.View.{steps_after, steps_of, step_of}

@@ -1,5 +1,5 @@
 -- Comparisons of a column with a literal, and equalities of two columns.
-use Rattle.std.specs.Prelude.{ℕ, ℤ, neg_ℤ, Bool, true, false, Option, Some, None}
+use Rattle.std.specs.Prelude.{ℤ, neg_ℤ, Option, Some, None}
 use Rattle.std.specs.Option.{option_and_then, option_map, option_or}
 use Rattle.osq_value.specs.declared.value.Value.{Value}
 use Rattle.osq_value.specs.declared.value.Value.TheVariants.{Null, Int, Text}

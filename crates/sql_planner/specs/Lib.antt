@@ -1,4 +1,5 @@
 pub mod Comparisons
+pub mod Explained
 pub mod Joining
 pub mod Literals
 pub mod Plans

@@ -2,11 +2,13 @@
 #![tactic(auto)]
 
 mod comparison;
+mod explaining;
 mod joining;
 pub mod plan;
 mod planning;
 #[cfg(test)]
 mod tests;
 
+pub use explaining::explain;
 pub use plan::{JoinForm, Plan, Scan, ScanList};
 pub use planning::plan_of;

@@ -1,4 +1,4 @@
-use crate::{JoinForm, Plan, plan_of};
+use crate::{JoinForm, Plan, explain, plan_of};
 use osq_value::{NoMemory, Value};
 use sql_names::query::Query;
 use sql_names::text::query_of_text;
@@ -109,6 +109,37 @@ fn plans(rt: HostRuntime) -> Result<(), Fail> {
     for (text, wanted) in PLANS.iter() {
         let plan = plan_of(alloc, &query(alloc, text)?)?;
         assert_eq!(rt; shown(alloc, &plan)?.as_str(), *wanted);
+    }
+    Ok(())
+}
+
+/// What explains a query.
+const SHOWN: [(&str, &str); 5] = [
+    ("SELECT 1", ""),
+    (
+        "SELECT u.username FROM process_events p JOIN users u ON u.uid = p.uid WHERE p.pid > 10",
+        "scan process_events as p where pid > 10\nhash join users as u on uid = p.uid\n",
+    ),
+    (
+        "SELECT DISTINCT uid FROM users WHERE 'it''s' = username AND uid + 1 = 2 ORDER BY uid LIMIT 3",
+        "scan users as users where username = 'it''s'\nfilter 1\ndistinct\norder\nlimit\n",
+    ),
+    (
+        "SELECT COUNT(*) FROM users LEFT JOIN groups g ON users.gid = g.gid AND g.gid >= -1 AND groupname < 'x'",
+        "scan users as users\nleft hash join groups as g on gid = users.gid where gid >= -1 and groupname < 'x'\ngroup\n",
+    ),
+    (
+        "SELECT a.uid FROM users a, groups LEFT JOIN user_groups b ON 5 > b.gid",
+        "scan users as a\nnested join groups as groups\nleft nested join user_groups as b where gid < 5\n",
+    ),
+];
+
+#[test]
+fn explains(rt: HostRuntime) -> Result<(), Fail> {
+    let alloc = rt.alloc();
+    for (text, wanted) in SHOWN.iter() {
+        let plan = plan_of(alloc, &query(alloc, text)?)?;
+        assert_eq!(rt; explain(alloc, &plan)?.as_slice(), wanted.as_bytes());
     }
     Ok(())
 }
