@@ -39,3 +39,7 @@ next_of runs queries claimed moment = or_else (first_free runs queries claimed m
 -- up to which number a query has read the events
 abbrev pub cursor_of : List Run → QueryKey → ℕ
 cursor_of runs query = option_map_or (λ (run : Run). run.hi) (run_of runs query) 0
+
+-- the number of the query's last batch, or 0
+abbrev pub number_of : List Run → QueryKey → ℕ
+number_of runs query = option_map_or (λ (run : Run). run.number) (run_of runs query) 0

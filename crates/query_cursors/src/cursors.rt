@@ -3,7 +3,7 @@
 ghost use Rattle.std.specs.Prelude.{◌≡◌, ◌<◌, ◌≤◌, ◌^◌, All, OnOk, OnErr, IfSome, false, length, find, max, option_copied};
 ghost use Rattle.pack_rules.specs.Keys.{same_key};
 ghost use Rattle.entry_model.specs.Reserved.{has_run, noted};
-ghost use Rattle.query_cursors.specs.Due.{run_of, first_due, first_free, next_of, cursor_of};
+ghost use Rattle.query_cursors.specs.Due.{run_of, first_due, first_free, next_of, cursor_of, number_of};
 
 use crate::interval::due;
 use entry_model::reserved::ReservedRuns;
@@ -86,6 +86,16 @@ impl Cursors {
         match self.run(key) {
             None => 0,
             Some(run) => run.hi,
+        }
+    }
+
+    /// The number of the query's last batch, 0 where it has none. It takes no memory.
+    pub fn number(&self, key: &QueryKey) -> u64
+        ensures { result ≡ number_of self.now.runs key.now }
+    {
+        match self.run(key) {
+            None => 0,
+            Some(run) => run.number,
         }
     }
 

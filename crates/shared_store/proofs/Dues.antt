@@ -24,7 +24,7 @@ use Rattle.shared_store.specs.Laws as list
 use Rattle.shared_store.specs.Laws.{KnowsDues, Dues}
 
 -- where nothing passes a test, its filter keeps nothing
-none_pass : {X : Type 0} (p : X → Bool) (xs : List X) → nat_lt (position_or_len p xs) (length xs) ≡ false → filter p xs ≡ []
+pub none_pass : {X : Type 0} (p : X → Bool) (xs : List X) → nat_lt (position_or_len p xs) (length xs) ≡ false → filter p xs ≡ []
 none_pass p [] h = refl
 none_pass {X} p (x ∷ xs) h = by_first (p x) refl (none_pass p xs)
   where
@@ -35,7 +35,7 @@ none_pass {X} p (x ∷ xs) h = by_first (p x) refl (none_pass p xs)
         let k = sym (ap (λ (b : Bool). nat_lt (cond (not b) (1 + position_or_len p xs) 0) (length (x ∷ xs))) e) ∙ h in
         ap (λ (b : Bool). cond b (x ∷ filter p xs) (filter p xs)) e ∙ rest (grind (arith, nat_tests, k))
 
-no_position : {X : Type 0} (p : X → Bool) (xs : List X) → position p xs ≡ None → nat_lt (position_or_len p xs) (length xs) ≡ false
+pub no_position : {X : Type 0} (p : X → Bool) (xs : List X) → position p xs ≡ None → nat_lt (position_or_len p xs) (length xs) ≡ false
 no_position p xs h = by_test (nat_lt (position_or_len p xs) (length xs)) refl
   where
     by_test : (b : Bool) → nat_lt (position_or_len p xs) (length xs) ≡ b → nat_lt (position_or_len p xs) (length xs) ≡ false

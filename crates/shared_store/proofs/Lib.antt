@@ -4,3 +4,4 @@ pub mod Taking
 pub mod Expiring
 pub mod Counted
 pub mod Shown
+pub mod Cutting

@@ -6,5 +6,7 @@ pub mod Ticks
 pub mod Stands
 pub mod Expiries
 pub mod Computed
+pub mod Cut
+pub mod Cutting
 pub mod Laws
 pub mod Inside

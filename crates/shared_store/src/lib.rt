@@ -2,9 +2,11 @@
 #![tactic(auto)]
 
 mod computed;
+pub mod cut;
 pub mod laws;
 mod readings;
 pub mod state;
 pub mod tail;
 
+pub use cut::Cut;
 pub use state::{AppendError, State, TickRefusal};

@@ -1,30 +1,34 @@
 //! The state of a session.
 
-ghost use Rattle.std.specs.Prelude.{◌≡◌, ℕ, ◌+◌, ◌<◌, ◌≤◌, ◌^◌, ◌↔◌, ◌⊎◌, All, max, IsTrue, IfOk, IfErr, OnOk, OnErr, MatchBool, Some, None, Err, [], length, replicate, true, false};
+ghost use Rattle.std.specs.Prelude.{◌≡◌, ℕ, ◌+◌, ◌<◌, ◌≤◌, ◌^◌, ◌↔◌, ◌⊎◌, All, max, IsTrue, IfOk, IfErr, IfSome, OnOk, OnErr, MatchBool, Some, None, Ok, Err, List, [], length, replicate, set, slice_get, option_map, true, false};
+ghost use Rattle.entry_model.specs.declared.entry.Entry.{Entry};
+ghost use Rattle.entry_model.specs.declared.restored.Restored.{Restored};
 ghost use Rattle.entry_model.specs.Fits.{Fits};
 ghost use Rattle.entry_model.specs.Schedules.{IsSound};
 ghost use Rattle.entry_model.specs.declared.entry.Entry.TheVariants.{Acked, Ticked, Configured, Appended, TableSet};
 ghost use Rattle.entry_model.specs.Legal.{IsEvent, width_of};
 ghost use Rattle.entry_model.specs.Next.{offset_at};
 ghost use Rattle.event_store.specs.Contents.{AreWide};
-ghost use Rattle.shared_store.specs.Stands.{Adds, Begins};
+ghost use Rattle.shared_store.specs.Stands.{Adds, Begins, Stands};
 ghost use Rattle.entry_model.specs.Views.{is_evented_table, is_recorded_table};
 ghost use Rattle.shared_store.specs.Ticks.{held_back_by, first_due, owed_at};
 ghost use Rattle.std.specs.List.{cons_option};
 ghost use Rattle.shared_store.specs.Computed.{shown_by};
+ghost use Rattle.shared_store.specs.Cutting.{next_place, cut_of, next_cut, claimed_at, mark_from, released, CutStands};
 ghost use Rattle.shared_store.specs.Expiries.{expiry_of, expiries, AddsAll, AddsSome};
 ghost use Rattle.shared_store.specs.Readings.{IsReading, entry_of, taken_of, event_count, refusal_to};
 ghost use Rattle.shared_store.specs.declared.state.TickRefusal.{TickRefusal};
 ghost use Rattle.shared_store.specs.declared.state.AppendError.{AppendError};
 
 use crate::computed::{event_rows, schedule_rows, time_rows};
+use crate::cut::Cut;
 use crate::readings::{offset_of, offsets_with, refusal};
 use crate::tail::Tail;
 use entry_model::entry::{Entry, EntryList};
 use entry_model::restored::{Restored, TakenList};
 use event_store::{CutView, Image};
 use osq_value::{Copied, EventList, NoMemory, Reading, RowList, Sequence, Str, TableId, TextList};
-use pack_rules::schedule::{Form, Schedule};
+use pack_rules::schedule::{Form, Mode, Schedule};
 use query_cursors::Cursors;
 use std::alloc::Global;
 use std::marker::Model;
@@ -88,6 +92,16 @@ fn forget(claims: &mut [bool])
     ensures { claims.new ≡ replicate (length claims.old) false }
 {
     claims.fill(false);
+}
+
+/// The query at this place is not claimed any more.
+fn unclaim(claims: &mut [bool], place: u32)
+    ensures { claims.new ≡ set claims.old place false }
+{
+    let at = place as usize;
+    if at < claims.len() {
+        claims[at] = false;
+    }
 }
 
 /// So many queries, of which none is claimed.
@@ -489,5 +503,74 @@ impl State {
         ensures { IfOk result (λ view. view ≡ shown_by self.now self.now.image.last moment) }
     {
         self.shown(alloc, self.image.last(), moment)
+    }
+
+    /// The place of the query that is cut next.
+    fn next(&self) -> Option<u32>
+        ensures place { result ≡ next_place self.now }
+        ensures within { IfSome result (λ place. place < length self.now.schedule.queries) }
+    {
+        if !self.ticked {
+            return None;
+        }
+        self.cursors
+            .next_due(&self.schedule, self.claims.as_slice(), self.moment)
+    }
+
+    /// The cut of the query at this place of the schedule.
+    fn cut_of(&self, alloc: Global, place: u32) -> Result<Cut, NoMemory>
+        requires { place < length self.now.schedule.queries }
+        ensures { IfOk result (λ cut. Some cut ≡ option_map (cut_of self.now place) (slice_get self.now.schedule.queries place)) }
+    {
+        let key = &self.schedule.queries.as_slice()[place as usize].key;
+        let lo = match key.mode {
+            Mode::Evented => self.cursors.cursor(key),
+            Mode::Snapshot => 0,
+        };
+        Ok(Cut {
+            place,
+            key: key.copy(alloc)?,
+            lo,
+            hi: self.image.last(),
+            position: self.position,
+            moment: self.moment,
+            last: self.cursors.number(key),
+            view: self.shown(alloc, lo, self.moment)?,
+        })
+    }
+
+    /// Claims the first due query that is not claimed, or where each one is the first due one, and gives its cut: what it
+    /// sees now. No entry is added.
+    pub fn claim_cut(&mut self, alloc: Global) -> Result<Option<Cut>, NoMemory>
+        ensures cut { IfOk result (λ given. given ≡ next_cut self.old) }
+        ensures none { (result ≡ Ok None) ↔ (first_due self.old ≡ None) }
+        ensures claimed { OnOk result (self.new ≡ claimed_at self.old (next_place self.old)) }
+        ensures stands { IfOk result (λ given. IfSome given (λ cut. (base : Restored) (added : List Entry) → Stands base added self.old → CutStands base added cut)) }
+        ensures err { OnErr result (self.new ≡ self.old) }
+    {
+        let Some(place) = self.next() else {
+            return Ok(None);
+        };
+        let Ok(cut) = self.cut_of(alloc, place) else {
+            return Err(NoMemory);
+        };
+        self.claims[place as usize] = true;
+        Ok(Some(cut))
+    }
+
+    /// The first Configured or Ticked entry of the session from this position on.
+    fn mark_from(&self, position: u64) -> Option<u64>
+        ensures { result ≡ mark_from self.now position }
+    {
+        self.marks.iter().copied().find(|mark| position <= *mark)
+    }
+
+    /// Gives a cut back: its query is not claimed any more, where nothing has forgotten the claim. It takes no memory.
+    pub fn release(&mut self, cut: Cut)
+        ensures { self.new ≡ released self.old cut }
+    {
+        if self.mark_from(cut.position()).is_none() {
+            unclaim(self.claims.as_mut_slice(), cut.place());
+        }
     }
 }

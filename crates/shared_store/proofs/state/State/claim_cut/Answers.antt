@@ -1,0 +1,22 @@
+use Rattle.std.proofs.Common.{sym, subst}
+use Rattle.shared_store.specs.Kept.{IsState}
+use Rattle.shared_store.proofs.Cutting.{not_none, given_stands}
+use Rattle.shared_store.proofs.state.State.claim_cut.Goals as goal
+
+pub returns-in_default-cut_of-clause-none : goal.returns-in_default-cut_of-clause-none
+returns-in_default-cut_of-clause-none c =
+    let is = subst IsState c.self.view_is c.self.invariant in (
+      λ e. absurd (cc),
+      λ none. absurd (let k = not_none c.args.self.now is c.in-Some.place c.in-Some.ensures.within (sym c.in-Some.ensures.place) none in cc),
+    )
+
+pub returns-clause-none : goal.returns-clause-none
+returns-clause-none c =
+    let is = subst IsState c.self.view_is c.self.invariant in (
+      λ e. absurd (cc),
+      λ none. absurd (let k = not_none c.args.self.now is c.in-Some.place c.in-Some.ensures.within (sym c.in-Some.ensures.place) none in cc),
+    )
+
+pub returns-clause-stands : goal.returns-clause-stands
+returns-clause-stands c =
+    given_stands c.args.self.now (subst IsState c.self.view_is c.self.invariant) c.in-Some.place c.in-Some.ensures.within (sym c.in-Some.ensures.place) c.in-Ok.cut c.in-Ok.ensures
