@@ -1,12 +1,12 @@
 -- A state after one more entry.
-use Rattle.std.proofs.Common.{◌≡◌, ℕ, suc, ◌+◌, List, [], ◌∷◌, ◌++◌, length, false, refl, sym, ap, ◌∙◌, subst, arith, append_assoc, length-append}
+use Rattle.std.proofs.Common.{◌≡◌, ℕ, suc, ◌+◌, List, [], ◌∷◌, ◌++◌, length, true, false, refl, sym, ap, ◌∙◌, subst, arith, append_assoc, length-append}
 use Rattle.std.specs.Prelude.{unwrap_or}
 use Rattle.std.proofs.lemmas.List.{append-nil}
 use Rattle.entry_model.specs.declared.entry.Entry.{Entry}
 use Rattle.entry_model.specs.declared.entry.Entry.TheVariants.{Opened, Configured, Ticked, Appended, TableSet, Expired, Committed, Acked}
 use Rattle.entry_model.specs.declared.restored.Restored.{Restored}
 use Rattle.entry_model.specs.Values.{schedule_in, no_schedule, tick_in}
-use Rattle.entry_model.specs.Legal.{LegalNext}
+use Rattle.entry_model.specs.Legal.{LegalNext, Legal}
 use Rattle.entry_model.specs.Summary.{summary}
 use Rattle.entry_model.specs.Next.{restored_next}
 use Rattle.entry_model.proofs.Lasts.{last_of-append}
@@ -16,7 +16,8 @@ use Rattle.event_store.specs.Contents.{Holds, IsImage}
 use Rattle.event_store.proofs.Bridge.{keeps_up}
 use Rattle.shared_store.specs.Kept.{Counts, Kept, counts_of, counts_next}
 use Rattle.shared_store.specs.Marks.{mark_in, marks_from}
-use Rattle.shared_store.specs.Stands.{HasValues, Moves, Adds, Begins}
+use Rattle.shared_store.proofs.Known.{is_told, known_next}
+use Rattle.shared_store.specs.Stands.{HasValues, Stands, Moves, Adds, Begins}
 
 counts_step : (r : Restored) (e : Entry) → counts_of (restored_next r e) ≡ counts_next (counts_of r) e
 counts_step r (Opened session) = refl
@@ -53,17 +54,22 @@ has_next K s new e image h may m = record {
   ticked = last_of-append tick_in false K (e ∷ []) ∙ ap (unwrap_or (tick_in e)) h.ticked ∙ sym m.ticked;
 }
 
+-- the new state stands for one entry more than each list after which the entry may come
+pub stands_next : (s new : Kept) (e : Entry) → IsImage s.image → Moves s e new → (base : Restored) (added : List Entry) → Stands base added s → ((before : List Entry) → Legal before → summary before ≡ base → LegalNext (before ++ added) e) → Stands base (added ++ e ∷ []) new
+stands_next s new e image m base added stands may = record {
+  values = λ before legal same.
+      let h = stands.values before legal same in
+      subst (λ (es : List Entry). HasValues es new) (append_assoc before added (e ∷ [])) (has_next (before ++ added) s new e image h (may before legal same) m);
+  marks = m.marks ∙ ap (λ (ms : List ℕ). ms ++ mark_in s.counts.position e) stands.marks ∙ ap (λ (p : ℕ). marks_from base.position added ++ mark_in p e) stands.position ∙ sym (marks-push base.position added e);
+  position = (let p = ap (λ (c : Counts). c.position) m.counts ∙ position_step s.counts e in let q = stands.position in let l = length-append added (e ∷ []) in omega (arith, p, q, l));
+}
+
 -- where a state's values allow an entry, its list does
-pub adds : (s new : Kept) (e : Entry) → IsImage s.image → ((K : List Entry) → HasValues K s → LegalNext K e) → Moves s e new → Adds s e new
-adds s new e image may m = record {
+pub adds : (s new : Kept) (e : Entry) → is_told e ≡ true → IsImage s.image → ((K : List Entry) → HasValues K s → LegalNext K e) → Moves s e new → Adds s e new
+adds s new e told image may m = record {
   moves = m;
-  stands = λ base added stands. record {
-    values = λ before legal same.
-        let h = stands.values before legal same in
-        subst (λ (es : List Entry). HasValues es new) (append_assoc before added (e ∷ [])) (has_next (before ++ added) s new e image h (may (before ++ added) h) m);
-    marks = m.marks ∙ ap (λ (ms : List ℕ). ms ++ mark_in s.counts.position e) stands.marks ∙ ap (λ (p : ℕ). marks_from base.position added ++ mark_in p e) stands.position ∙ sym (marks-push base.position added e);
-    position = (let p = ap (λ (c : Counts). c.position) m.counts ∙ position_step s.counts e in let q = stands.position in let l = length-append added (e ∷ []) in omega (arith, p, q, l));
-  };
+  stands = λ base added stands. stands_next s new e image m base added stands (λ before legal same. may (before ++ added) (stands.values before legal same));
+  cuts = known_next s new e told m;
 }
 
 pub begins : (r : Restored) (s : Kept) → s.counts ≡ counts_next (counts_of r) (Opened (r.sessions + 1)) → Holds r s.image → s.schedule ≡ no_schedule → s.ticked ≡ false → s.marks ≡ [] → s.claims ≡ [] → s.tail ≡ Opened (r.sessions + 1) ∷ [] → Begins r s

@@ -1,6 +1,6 @@
 -- The cut of a state is one of its list.
-use Rattle.std.proofs.Common.{◌≡◌, ℕ, zero, suc, ◌<◌, Bool, true, false, cond, List, [], ◌∷◌, ◌++◌, length, get_or, Option, Some, None, refl, sym, ap, ◌∙◌, subst, arith}
-use Rattle.std.specs.Prelude.{Contains, filter, map, position, unwrap_or, option_map, slice_get, not, ◌&&◌}
+use Rattle.std.proofs.Common.{◌≡◌, ℕ, zero, suc, ◌<◌, ◌≤◌, Bool, true, false, cond, List, [], ◌∷◌, ◌++◌, length, get_or, Option, Some, None, refl, sym, ap, ◌∙◌, subst, arith}
+use Rattle.std.specs.Prelude.{All, Contains, IfSome, filter, map, position, unwrap_or, option_map, slice_get, not, ◌&&◌}
 use Rattle.std.specs.List.{zip}
 use Rattle.std.specs.Option.{option_map_or}
 use Rattle.std.proofs.lemmas.List.Quantifiers.{position-Some}
@@ -19,12 +19,15 @@ use Rattle.entry_model.specs.Next.{no_run}
 use Rattle.entry_model.proofs.Commits.{Contains-map}
 use Rattle.entry_model.proofs.Lists.{Contains-filter, and_true}
 use Rattle.query_cursors.specs.Due as cursors
-use Rattle.shared_store.specs.Kept.{Counts, Kept, IsState}
+use Rattle.shared_store.specs.Kept.{Counts, Kept, IsRun, IsState}
+use Rattle.shared_store.specs.CutOf.{IsCutOf}
 use Rattle.shared_store.specs.Stands.{HasValues, Stands}
 use Rattle.shared_store.specs.Ticks.{first_due}
 use Rattle.shared_store.specs.Cut.{CutValue}
 use Rattle.shared_store.specs.Cutting.{next_place, lower_at, cut_of, HasCut, CutStands}
+use Rattle.shared_store.proofs.Counted.{known_run}
 use Rattle.shared_store.proofs.Dues.{due_queries_are, none_pass, no_position}
+use Rattle.shared_store.proofs.Known.{IsAlike, known_alike}
 use Rattle.shared_store.proofs.Shown.{run_same, shows}
 
 pub contains_at : {X : Type 0} (xs : List X) (i : ℕ) (x : X) → slice_get xs i ≡ Some x → Contains xs x
@@ -141,14 +144,50 @@ at_place (query ∷ queries) (suc place) within =
     let at = at_place queries place (omega (arith, within)) in
     record { scheduled = at.scheduled; stands = at.stands }
 
+number_known : (batches : ℕ) (runs : List Run) (key : QueryKey) → All (IsRun batches) runs → cursors.number_of runs key ≤ batches
+number_known batches runs key known = by_run (cursors.run_of runs key) (known_run batches runs key known)
+  where
+    by_run : (o : Option Run) → IfSome o (IsRun batches) → option_map_or (λ (run : Run). run.number) o 0 ≤ batches
+    by_run None known = omega arith
+    by_run (Some run) known = known.given
+
+-- the cut that a state gives is one of the state, also behind the claim
+pub own_cut : (s : Kept) → IsState s → (place : ℕ) (scheduled : Scheduled) → slice_get s.schedule.queries place ≡ Some scheduled → next_place s ≡ Some place → IsCutOf s (cut_of s place scheduled)
+own_cut s is place scheduled stands h =
+    let next = is_next s is place scheduled stands h in
+    record {
+      past = omega arith;
+      known = number_known s.counts.batches s.counts.runs scheduled.key is.runs;
+      current = λ unmarked. record { ticked = next.ticked; now = refl; scheduled = scheduled; stands = stands; key = refl; due = λ number. next.due };
+    }
+
+-- other claims change nothing of what is known of cuts
+pub claims_alike : (s : Kept) (claims : List Bool) → IsAlike s (record s { claims = claims })
+claims_alike s claims =
+    record { position = omega arith; batches = refl; runs = refl; moment = refl; schedule = refl; ticked = refl; marks = refl }
+
 pub not_none : (s : Kept) → IsState s → (place : ℕ) → place < length s.schedule.queries → next_place s ≡ Some place → first_due s ≡ None → false ≡ true
 not_none s is place within next =
     let at = at_place s.schedule.queries place within in
     some_next s is place at.scheduled at.stands next
 
--- what is given stands for what the state does
-pub given_stands : (s : Kept) → IsState s → (place : ℕ) → place < length s.schedule.queries → next_place s ≡ Some place → (cut : CutValue) → Some cut ≡ option_map (cut_of s place) (slice_get s.schedule.queries place) → (base : Restored) (added : List Entry) → Stands base added s → CutStands base added cut
-given_stands s is place within next cut given base added stands =
-    let at = at_place s.schedule.queries place within in
-    let e : cut ≡ cut_of s place at.scheduled = (let k = given ∙ ap (option_map (cut_of s place)) at.stands in cc) in
-    subst (CutStands base added) (sym e) (cut_stands s is place at.scheduled at.stands next base added stands)
+module _ (s : Kept) (is : IsState s) (place : ℕ) (within : place < length s.schedule.queries) (next : next_place s ≡ Some place) (cut : CutValue) (given : Some cut ≡ option_map (cut_of s place) (slice_get s.schedule.queries place)) where
+  at : IsAt s.schedule.queries place
+  at = at_place s.schedule.queries place within
+
+  is_cut : cut ≡ cut_of s place at.scheduled
+  is_cut = let k = given ∙ ap (option_map (cut_of s place)) at.stands in cc
+
+  -- what is given stands for what the state does
+  pub given_stands : (base : Restored) (added : List Entry) → Stands base added s → CutStands base added cut
+  given_stands base added stands =
+      subst (CutStands base added) (sym is_cut) (cut_stands s is place at.scheduled at.stands next base added stands)
+
+  -- and is a cut of the state, also when its query is claimed
+  pub given_own : (claims : List Bool) → IsCutOf (record s { claims = claims }) cut
+  given_own claims =
+      subst (IsCutOf (record s { claims = claims })) (sym is_cut) (known_alike s (record s { claims = claims }) (claims_alike s claims) (cut_of s place at.scheduled) (own_cut s is place at.scheduled at.stands next))
+
+  pub given_own_of : (t : Kept) → t ≡ s → (claims : List Bool) → IsCutOf (record t { claims = claims }) cut
+  given_own_of t same claims =
+      subst (λ (t : Kept). IsCutOf (record t { claims = claims }) cut) (sym same) (given_own claims)

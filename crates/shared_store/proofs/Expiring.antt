@@ -13,6 +13,7 @@ use Rattle.event_store.specs.Queues.{above}
 use Rattle.shared_store.specs.Kept.{Counts, Kept, counts_next}
 use Rattle.shared_store.specs.Marks.{mark_in}
 use Rattle.shared_store.specs.Stands.{Stands, Adds}
+use Rattle.shared_store.proofs.Known.{known_alike}
 use Rattle.shared_store.specs.Ticks.{owed_at}
 use Rattle.shared_store.specs.Expiries.{expiry_of, expiries, Stays, AddsAll, AddsSome}
 
@@ -42,6 +43,15 @@ stays_adds s t new e same a = record {
     tail = a.moves.tail ∙ ap (λ (es : List Entry). es ++ e ∷ []) same.tail;
   };
   stands = λ base added stands. a.stands base added (stays_stands s t same base added stands);
+  cuts = λ cut of. a.cuts cut (known_alike s t (record {
+    position = (let p = ap (λ (c : Counts). c.position) same.counts in omega (arith, p));
+    batches = ap (λ (c : Counts). c.batches) same.counts;
+    runs = ap (λ (c : Counts). c.runs) same.counts;
+    moment = ap (λ (c : Counts). c.moment) same.counts;
+    schedule = same.schedule;
+    ticked = same.ticked;
+    marks = same.marks;
+  }) cut of);
 }
 
 stays_stays : (s t new : Kept) → Stays s t → Stays t new → Stays s new

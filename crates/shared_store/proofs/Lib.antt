@@ -4,4 +4,8 @@ pub mod Taking
 pub mod Expiring
 pub mod Counted
 pub mod Shown
+pub mod Rooms
+pub mod Reserving
+pub mod Known
 pub mod Cutting
+pub mod Committing

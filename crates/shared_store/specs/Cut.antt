@@ -1,6 +1,8 @@
 -- What contracts see of a cut.
-use Rattle.std.specs.Prelude.{ℕ}
+use Rattle.std.specs.Prelude.{ℕ, List}
+use Rattle.osq_value.specs.declared.value.Value.{Value}
 use Rattle.pack_rules.specs.declared.schedule.QueryKey.{QueryKey}
+use Rattle.entry_model.specs.declared.entry.Batch.{Batch}
 use Rattle.event_store.specs.Contents.{Shown}
 
 pub record CutValue : Type 0 where
@@ -12,3 +14,8 @@ pub record CutValue : Type 0 where
   pub moment : ℕ
   pub last : ℕ  -- the number of the query's last batch, or 0
   pub view : Shown
+
+-- the batch of this number that answers the cut
+abbrev pub batch_of : CutValue → ℕ → List (List Value) → Batch
+batch_of cut number rows =
+    record { number = number; query = cut.key; lo = cut.lo; hi = cut.hi; cut = cut.position; moment = cut.moment; rows = rows }

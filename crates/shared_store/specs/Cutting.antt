@@ -1,5 +1,5 @@
 -- Which cut a state gives, and for which lists it stands.
-use Rattle.std.specs.Prelude.{◌≡◌, ℕ, true, false, if◌then◌else◌, List, ◌++◌, length, set, slice_get, find, nat_le, is_some, Contains, Option, Some, None, option_map}
+use Rattle.std.specs.Prelude.{◌≡◌, ℕ, true, false, if◌then◌else◌, List, ◌++◌, length, set, slice_get, is_some, Contains, Option, Some, None, option_map}
 use Rattle.pack_rules.specs.declared.schedule.Mode.{Mode}
 use Rattle.pack_rules.specs.declared.schedule.Mode.TheVariants.{Evented, Snapshot}
 use Rattle.pack_rules.specs.declared.schedule.QueryKey.{QueryKey}
@@ -14,6 +14,7 @@ use Rattle.event_store.specs.Contents.{rows_in}
 use Rattle.query_cursors.specs.Due as cursors
 use Rattle.shared_store.specs.Kept.{Kept}
 use Rattle.shared_store.specs.Cut.{CutValue}
+use Rattle.shared_store.specs.CutOf.{mark_from}
 use Rattle.shared_store.specs.Computed.{shown_by}
 
 -- the place of the query that is cut next: at a tick the first due one that is not claimed, else the first due one
@@ -51,10 +52,6 @@ next_cut s = cut_at s (next_place s)
 abbrev pub claimed_at : Kept → Option ℕ → Kept
 claimed_at s None = s
 claimed_at s (Some place) = record s { claims = set s.claims place true }
-
--- the first Configured or Ticked entry of the session from this position on
-abbrev pub mark_from : Kept → ℕ → Option ℕ
-mark_from s position = find (λ (mark : ℕ). nat_le position mark) s.marks
 
 -- the query of the cut is not claimed any more, where no such entry came since
 abbrev pub released : Kept → CutValue → Kept

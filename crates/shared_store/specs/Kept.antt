@@ -9,6 +9,7 @@ use Rattle.entry_model.specs.declared.restored.Taken.{Taken}
 use Rattle.entry_model.specs.Next.{with_offset, with_batch}
 use Rattle.entry_model.specs.Schedules.{IsSound}
 use Rattle.event_store.specs.Contents.{Contents, IsImage}
+use Rattle.shared_store.specs.Rooms.{all_due, all_new}
 
 -- the values of a kept list, but for its events and tables
 pub record Counts : Type 0 where
@@ -47,16 +48,21 @@ pub record Kept : Type 0 where
   pub tail : List Entry  -- the entries that are not taken yet
   pub tail_room : ℕ  -- for how many more there is room
 
+-- how many queries are due
+abbrev pub due_count : Kept → ℕ
+due_count s = length (all_due s.counts.runs s.counts.moment s.schedule.queries)
+
 -- what is known of a run
 pub record IsRun (batches : ℕ) (run : Run) : Type 0 where
   pub some : 1 ≤ run.count
   pub most : run.count ≤ batches
+  pub given : run.number ≤ batches
   pub past : run.moment ≤ 253402300799
 
 -- what is known of every state
 pub record IsState (s : Kept) : Type 0 where
   pub image : IsImage s.image
-  pub position : s.counts.position < 2 ^ 63
+  pub position : s.counts.position + s.tail_room < 2 ^ 63
   pub sessions : s.counts.sessions < 2 ^ 63
   pub moment : s.counts.moment ≤ 253402300799
   pub runs : All (IsRun s.counts.batches) s.counts.runs
@@ -64,3 +70,5 @@ pub record IsState (s : Kept) : Type 0 where
   pub acked : s.counts.acked ≤ s.counts.batches
   pub schedule : IsSound s.schedule
   pub claims : length s.claims ≡ length s.schedule.queries
+  pub room : due_count s ≤ s.tail_room  -- for a commit of each due query
+  pub run_room : length (all_new s.counts.runs s.schedule.queries) ≤ s.run_room

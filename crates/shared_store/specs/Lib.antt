@@ -1,12 +1,15 @@
 pub mod Tails
+pub mod Rooms
 pub mod Kept
+pub mod Cut
+pub mod CutOf
 pub mod Marks
 pub mod Readings
 pub mod Ticks
 pub mod Stands
 pub mod Expiries
 pub mod Computed
-pub mod Cut
 pub mod Cutting
+pub mod Commits
 pub mod Laws
 pub mod Inside

@@ -9,6 +9,8 @@ use Rattle.entry_model.specs.Summary.{summary}
 use Rattle.event_store.specs.Contents.{Holds}
 use Rattle.event_store.specs.Laws.{StandsFor, Follows}
 use Rattle.shared_store.specs.Kept.{Kept, counts_of, counts_next}
+use Rattle.shared_store.specs.Cut.{CutValue}
+use Rattle.shared_store.specs.CutOf.{IsCutOf}
 use Rattle.shared_store.specs.Marks.{mark_in, marks_from}
 
 -- the list is legal, and these are its values
@@ -34,10 +36,11 @@ pub record Moves (old : Kept) (entry : Entry) (new : Kept) : Type 0 where
   pub marks : new.marks ≡ old.marks ++ mark_in old.counts.position entry
   pub tail : new.tail ≡ old.tail ++ entry ∷ []
 
--- the new state stands for one entry more
+-- the new state stands for one entry more, and knows each cut that the old one knew
 pub record Adds (old : Kept) (entry : Entry) (new : Kept) : Type 0 where
   pub moves : Moves old entry new
   pub stands : (base : Restored) (added : List Entry) → Stands base added old → Stands base (added ++ entry ∷ []) new
+  pub cuts : (cut : CutValue) → IsCutOf old cut → IsCutOf new cut
 
 -- the state of a session that opens over these values
 pub record Begins (restored : Restored) (state : Kept) : Type 0 where

@@ -1,16 +1,22 @@
 //! What a query is answered from.
 
 ghost use Rattle.std.specs.Prelude.{◌≡◌};
+ghost use Rattle.shared_store.specs.Cut.{batch_of};
 
+use entry_model::entry::Batch;
 use event_store::CutView;
+use osq_value::RowList;
 use pack_rules::schedule::QueryKey;
 use std::marker::Model;
 
-/// A query with what it sees at a state. It is spent by a release; one that is dropped leaves its query claimed.
+/// A query with what it sees at a state. It is spent by a commit or a release; one that is dropped leaves its query
+/// claimed.
 #[derive(Drop)]
 pub struct Cut {
     pub(crate) place: u32,
     pub(crate) key: QueryKey,
+    /// The key once more, so that a commit takes no memory.
+    pub(crate) spare: QueryKey,
     pub(crate) lo: u64,
     pub(crate) hi: u64,
     pub(crate) position: u64,
@@ -20,11 +26,14 @@ pub struct Cut {
 }
 
 impl Model for Cut {
+    ghost use Rattle.std.specs.Prelude.{◌≡◌};
     ghost use Rattle.shared_store.specs.Cut.{CutValue};
 
     ghost Value = { CutValue };
 
     ghost view = { λ c. record { place = c.place; key = c.key; lo = c.lo; hi = c.hi; position = c.position; moment = c.moment; last = c.last; view = c.view } };
+
+    ghost invariant = { λ c. c.spare ≡ c.key };
 }
 
 impl Cut {

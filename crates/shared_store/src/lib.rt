@@ -9,4 +9,4 @@ pub mod state;
 pub mod tail;
 
 pub use cut::Cut;
-pub use state::{AppendError, State, TickRefusal};
+pub use state::{AppendError, CommitRefusal, State, TickRefusal};

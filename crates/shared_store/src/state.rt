@@ -9,22 +9,29 @@ ghost use Rattle.entry_model.specs.declared.entry.Entry.TheVariants.{Acked, Tick
 ghost use Rattle.entry_model.specs.Legal.{IsEvent, width_of};
 ghost use Rattle.entry_model.specs.Next.{offset_at};
 ghost use Rattle.event_store.specs.Contents.{AreWide};
+ghost use Rattle.shared_store.specs.Kept.{due_count};
 ghost use Rattle.shared_store.specs.Stands.{Adds, Begins, Stands};
 ghost use Rattle.entry_model.specs.Views.{is_evented_table, is_recorded_table};
 ghost use Rattle.shared_store.specs.Ticks.{held_back_by, first_due, owed_at};
 ghost use Rattle.std.specs.List.{cons_option};
 ghost use Rattle.shared_store.specs.Computed.{shown_by};
-ghost use Rattle.shared_store.specs.Cutting.{next_place, cut_of, next_cut, claimed_at, mark_from, released, CutStands};
+ghost use Rattle.shared_store.specs.Cut.{CutValue};
+ghost use Rattle.shared_store.specs.CutOf.{mark_from, IsCutOf};
+ghost use Rattle.shared_store.specs.Cutting.{next_place, cut_of, next_cut, claimed_at, released, CutStands};
 ghost use Rattle.shared_store.specs.Expiries.{expiry_of, expiries, AddsAll, AddsSome};
 ghost use Rattle.shared_store.specs.Readings.{IsReading, entry_of, taken_of, event_count, refusal_to};
 ghost use Rattle.shared_store.specs.declared.state.TickRefusal.{TickRefusal};
 ghost use Rattle.shared_store.specs.declared.state.AppendError.{AppendError};
+ghost use Rattle.shared_store.specs.declared.state.CommitRefusal.{CommitRefusal};
+ghost use Rattle.shared_store.specs.Commits.{Commits, commit_refusal};
+ghost use Rattle.sql_meaning.specs.Meaning.{meaning};
+ghost use Rattle.event_store.specs.Contents.{rows_in};
 
 use crate::computed::{event_rows, schedule_rows, time_rows};
 use crate::cut::Cut;
 use crate::readings::{offset_of, offsets_with, refusal};
 use crate::tail::Tail;
-use entry_model::entry::{Entry, EntryList};
+use entry_model::entry::{Batch, Entry, EntryList};
 use entry_model::restored::{Restored, TakenList};
 use event_store::{CutView, Image};
 use osq_value::{Copied, EventList, NoMemory, Reading, RowList, Sequence, Str, TableId, TextList};
@@ -35,6 +42,9 @@ use std::marker::Model;
 
 /// How many entries and sessions a kept list has at most.
 const MOST: u64 = (1 << 63) - 1;
+
+/// The greatest number that a batch may have.
+const LAST_BATCH: u64 = 1 << 62;
 
 /// Why a tick does not begin.
 #[derive(Clone, Copy, PartialEq, Eq, Debug)]
@@ -54,6 +64,17 @@ pub enum AppendError {
     /// The last number would pass 2^62.
     NumbersSpent,
     NoMemory,
+}
+
+/// Why a cut is not committed. The cut comes back.
+#[derive(Drop)]
+pub enum CommitRefusal {
+    /// The query's last batch is now the one of this number, which the cut had not seen.
+    Superseded { number: u64, cut: Cut },
+    /// A Configured or Ticked entry at this position came behind the cut.
+    Stale { position: u64, cut: Cut },
+    /// The batch's number would pass 2^62.
+    NumbersSpent { cut: Cut },
 }
 
 /// What a session has: the values of its list of entries, what it runs, and the entries that are not sealed yet.
@@ -85,6 +106,23 @@ impl Model for State {
     ghost view = { kept };
 
     ghost invariant = { λ s. IsState (kept s) };
+}
+
+/// Makes room for so many commits, whichever queries they are of.
+fn make_room(tail: &mut Tail, cursors: &mut Cursors, commits: u64) -> Result<(), NoMemory>
+    ensures tail { OnOk result (tail.new ≡ record tail.old { room = max tail.old.room commits }) }
+    ensures cursors { OnOk result (cursors.new ≡ record cursors.old { room = max cursors.old.room commits }) }
+    ensures err { OnErr result ((tail.new ≡ tail.old) × (cursors.new ≡ cursors.old)) }
+{
+    let before = tail.room();
+    tail.reserve(commits)?;
+    match cursors.reserve(commits) {
+        Ok(()) => Ok(()),
+        Err(NoMemory) => {
+            tail.give_back(tail.room() - before);
+            Err(NoMemory)
+        }
+    }
 }
 
 /// No query is claimed any more.
@@ -158,7 +196,7 @@ impl State {
         if upto <= self.acked || self.batches < upto {
             return Ok(false);
         }
-        if self.position >= MOST {
+        if self.position + self.tail.room() >= MOST {
             return Err(NoMemory);
         }
         self.tail.push(Entry::Acked { upto })?;
@@ -237,11 +275,16 @@ impl State {
         ensures claims { OnOk result (self.new.claims ≡ replicate (length self.old.claims) false) }
         ensures err { OnErr result (self.new ≡ self.old) }
     {
-        if self.position >= MOST {
+        let queries = self.schedule.queries.len() as u64;
+        if self.position + self.tail.room().max(queries) >= MOST {
             return Err(NoMemory);
         }
         self.marks.reserve(1)?;
         self.tail.push(Entry::Ticked { moment })?;
+        let Ok(()) = make_room(&mut self.tail, &mut self.cursors, queries) else {
+            self.tail.pop();
+            return Err(NoMemory);
+        };
         self.marks.push_reserved(self.position);
         forget(self.claims.as_mut_slice());
         self.position += 1;
@@ -264,7 +307,8 @@ impl State {
         ensures claims { OnOk result (self.new.claims ≡ replicate (length schedule.queries) false) }
         ensures err { OnErr result (self.new ≡ self.old) }
     {
-        if self.position >= MOST {
+        let queries = schedule.queries.len() as u64;
+        if self.position + self.tail.room().max(queries) >= MOST {
             return Err(NoMemory);
         }
         let moment = moment.max(self.moment);
@@ -276,6 +320,10 @@ impl State {
             schedule,
             moment,
         })?;
+        let Ok(()) = make_room(&mut self.tail, &mut self.cursors, queries) else {
+            self.tail.pop();
+            return Err(NoMemory);
+        };
         self.marks.push_reserved(self.position);
         self.claims = claims;
         self.schedule = kept;
@@ -288,6 +336,7 @@ impl State {
     pub fn take_tail(&mut self, alloc: Global) -> Result<EntryList, NoMemory>
         ensures taken { IfOk result (λ taken. taken ≡ self.old.tail) }
         ensures ok { OnOk result (self.new ≡ record self.old { tail = [] }) }
+        ensures cuts { (cut : CutValue) → IsCutOf self.old cut → IsCutOf self.new cut }
         ensures err { OnErr result (self.new ≡ self.old) }
     {
         self.tail.take(alloc)
@@ -380,7 +429,7 @@ impl State {
         ensures claims { self.new.claims ≡ self.old.claims }
         ensures err { OnErr result (self.new ≡ self.old) }
     {
-        if self.position >= MOST {
+        if self.position + self.tail.room() >= MOST {
             return Err(NoMemory);
         }
         let stored = events.copy(alloc)?;
@@ -418,7 +467,7 @@ impl State {
         ensures claims { self.new.claims ≡ self.old.claims }
         ensures err { OnErr result (self.new ≡ self.old) }
     {
-        if self.position >= MOST {
+        if self.position + self.tail.room() >= MOST {
             return Err(NoMemory);
         }
         let stored = rows.copy(alloc)?;
@@ -446,7 +495,7 @@ impl State {
         ensures room { (self.new.tail_room ≡ self.old.tail_room) × (self.new.run_room ≡ self.old.run_room) }
         ensures err { OnErr result (self.new ≡ self.old) }
     {
-        if self.position >= MOST - 3 {
+        if self.position + self.tail.room() >= MOST - 3 {
             return Err(NoMemory);
         }
         self.tail.reserve_more(3)?;
@@ -454,20 +503,20 @@ impl State {
         let second = self.expire_table(TableId(1));
         let third = self.expire_table(TableId(2));
         let count = first + second + third;
-        self.tail.give_back(3 - count);
+        self.tail.give_back(u64::from(3 - count));
         Ok(count)
     }
 
-    /// Adds the expiry of a table where events of it are to expire, for which there is room, and answers how many it added.
+    /// Adds the expiry of a table where events of it are to expire, for which there is room beside that of commits, and
+    /// answers how many it added.
     fn expire_table(&mut self, table: TableId) -> u32
         requires evented { is_evented_table table.0 ≡ true }
-        requires room { 0 < self.old.tail_room }
-        requires position { self.old.counts.position + 1 < 2 ^ 63 }
+        requires room { due_count self.old < self.old.tail_room }
         ensures expired { AddsSome self.old (expiry_of self.old table.0) self.new }
         ensures count { result ≡ length (cons_option (expiry_of self.old table.0) []) }
         ensures one { result ≤ 1 }
-        ensures position { self.new.counts.position ≡ self.old.counts.position + result }
         ensures room { self.new.tail_room + result ≡ self.old.tail_room }
+        ensures due { due_count self.new ≡ due_count self.old }
         ensures same { (self.new.claims ≡ self.old.claims) × (self.new.run_room ≡ self.old.run_room) }
     {
         let Some(floor) = self.owed(table) else {
@@ -530,6 +579,7 @@ impl State {
         Ok(Cut {
             place,
             key: key.copy(alloc)?,
+            spare: key.copy(alloc)?,
             lo,
             hi: self.image.last(),
             position: self.position,
@@ -545,7 +595,9 @@ impl State {
         ensures cut { IfOk result (λ given. given ≡ next_cut self.old) }
         ensures none { (result ≡ Ok None) ↔ (first_due self.old ≡ None) }
         ensures claimed { OnOk result (self.new ≡ claimed_at self.old (next_place self.old)) }
+        ensures own { IfOk result (λ given. IfSome given (IsCutOf self.new)) }
         ensures stands { IfOk result (λ given. IfSome given (λ cut. (base : Restored) (added : List Entry) → Stands base added self.old → CutStands base added cut)) }
+        ensures cuts { (cut : CutValue) → IsCutOf self.old cut → IsCutOf self.new cut }
         ensures err { OnErr result (self.new ≡ self.old) }
     {
         let Some(place) = self.next() else {
@@ -567,10 +619,75 @@ impl State {
 
     /// Gives a cut back: its query is not claimed any more, where nothing has forgotten the claim. It takes no memory.
     pub fn release(&mut self, cut: Cut)
-        ensures { self.new ≡ released self.old cut }
+        ensures released { self.new ≡ released self.old cut }
+        ensures cuts { (other : CutValue) → IsCutOf self.old other → IsCutOf self.new other }
     {
         if self.mark_from(cut.position()).is_none() {
             unclaim(self.claims.as_mut_slice(), cut.place());
         }
+    }
+
+    /// Adds the batch that answers a cut by these rows, under the next number, and answers the number. A cut that was made
+    /// before the query's last batch is refused, and so is one that a Configured or Ticked entry came behind. It takes no
+    /// memory.
+    pub fn commit(&mut self, cut: Cut, rows: RowList) -> Result<u64, CommitRefusal>
+        requires cut { IsCutOf self.old cut }
+        requires rows { rows ≡ meaning cut.key.text (rows_in cut.view) }
+        ensures number { IfOk result (λ number. number ≡ self.old.counts.batches + 1) }
+        ensures committed { OnOk result (Commits self.old cut rows self.new) }
+        ensures claims { OnOk result (self.new.claims ≡ set self.old.claims cut.place false) }
+        ensures refused { (refusal : CommitRefusal) → (result ≡ Err refusal) ↔ (commit_refusal self.old cut ≡ Some refusal) }
+        ensures err { OnErr result (self.new ≡ self.old) }
+    {
+        let number = self.cursors.number(cut.key());
+        if number != cut.last() {
+            return Err(CommitRefusal::Superseded { number, cut });
+        }
+        if let Some(position) = self.mark_from(cut.position()) {
+            return Err(CommitRefusal::Stale { position, cut });
+        }
+        if self.batches >= LAST_BATCH {
+            return Err(CommitRefusal::NumbersSpent { cut });
+        }
+        Ok(self.add_batch(cut, rows))
+    }
+
+    /// Adds the batch of a cut that nothing keeps from being committed, for which there is room, and answers its number.
+    fn add_batch(&mut self, cut: Cut, rows: RowList) -> u64
+        requires cut { IsCutOf self.old cut }
+        requires free { commit_refusal self.old cut ≡ None }
+        requires rows { rows ≡ meaning cut.key.text (rows_in cut.view) }
+        ensures number { result ≡ self.old.counts.batches + 1 }
+        ensures committed { Commits self.old cut rows self.new }
+        ensures claims { self.new.claims ≡ set self.old.claims cut.place false }
+    {
+        let number = self.batches + 1;
+        let Cut {
+            place,
+            key,
+            spare,
+            lo,
+            hi,
+            position,
+            moment,
+            last: _,
+            view: _,
+        } = cut;
+        self.cursors.record_commit(spare, number, hi, moment);
+        unclaim(self.claims.as_mut_slice(), place);
+        self.tail.put(Entry::Committed {
+            batch: Batch {
+                number,
+                query: key,
+                lo,
+                hi,
+                cut: position,
+                moment,
+                rows,
+            },
+        });
+        self.batches = number;
+        self.position += 1;
+        number
     }
 }

@@ -36,6 +36,13 @@ impl Tail {
         }
     }
 
+    /// For how many more entries there is room.
+    pub fn room(&self) -> u64
+        ensures { result ≡ self.now.room }
+    {
+        self.room
+    }
+
     /// Makes room for at least so many more entries.
     pub fn reserve(&mut self, room: u64) -> Result<(), NoMemory>
         ensures ok { OnOk result (self.new ≡ record self.old { room = max self.old.room room }) }
@@ -61,12 +68,12 @@ impl Tail {
     }
 
     /// Keeps room for so many entries fewer.
-    pub fn give_back(&mut self, fewer: u32)
+    pub fn give_back(&mut self, fewer: u64)
         requires { fewer ≤ self.old.room }
         ensures entries { self.new.entries ≡ self.old.entries }
         ensures room { self.new.room + fewer ≡ self.old.room }
     {
-        self.room -= u64::from(fewer);
+        self.room -= fewer;
     }
 
     /// Adds an entry beside the room. A refused entry is dropped.

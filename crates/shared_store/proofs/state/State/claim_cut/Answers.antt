@@ -1,6 +1,7 @@
 use Rattle.std.proofs.Common.{sym, subst}
+use Rattle.shared_store.specs.Inside.{kept}
 use Rattle.shared_store.specs.Kept.{IsState}
-use Rattle.shared_store.proofs.Cutting.{not_none, given_stands}
+use Rattle.shared_store.proofs.Cutting.{not_none, given_stands, given_own_of}
 use Rattle.shared_store.proofs.state.State.claim_cut.Goals as goal
 
 pub returns-in_default-cut_of-clause-none : goal.returns-in_default-cut_of-clause-none
@@ -20,3 +21,7 @@ returns-clause-none c =
 pub returns-clause-stands : goal.returns-clause-stands
 returns-clause-stands c =
     given_stands c.args.self.now (subst IsState c.self.view_is c.self.invariant) c.in-Some.place c.in-Some.ensures.within (sym c.in-Some.ensures.place) c.in-Ok.cut c.in-Ok.ensures
+
+pub returns-clause-own : goal.returns-clause-own
+returns-clause-own c =
+    given_own_of c.args.self.now (subst IsState c.self.view_is c.self.invariant) c.in-Some.place c.in-Some.ensures.within (sym c.in-Some.ensures.place) c.in-Ok.cut c.in-Ok.ensures (kept c.self.inside) c.self.view_is _
