@@ -30,10 +30,10 @@ use osq_value::{Bytes, NoMemory, RowList, Str, TextList};
 use publisher_core::error::StepError;
 use result_batches::labels::{Labels, labels_of};
 use result_batches::object::push_object;
-use sql_meaning::plain_rows;
 use sql_names::answers::names_of;
 use sql_names::query::Query;
 use sql_names::text::{TextError, query_of_text};
+use sql_planner::{plan_of, run_plan};
 use std::alloc::Global;
 
 /// The query that the text asks for.
@@ -114,7 +114,8 @@ fn answer(alloc: Global, query: &Query, image: &Image, moment: u64) -> Result<By
         (meaning_of (query_of query.now) (rows_in (set (set (set (cut_above 0 image.now) 12 (time_rows moment)) 13 []) 14 count_rows)))) }
 {
     let view = view_at(alloc, image, moment)?;
-    let rows = plain_rows(alloc, query, &view)?;
+    let plan = plan_of(alloc, query)?;
+    let rows = run_plan(alloc, &plan, &view)?;
     let names = names_of(alloc, query)?;
     lines_of(alloc, &names, &rows)
 }

@@ -1,3 +1,4 @@
 mod Chains
+mod Joined
 mod Pieces
 mod Walked

@@ -6,9 +6,13 @@ mod explaining;
 mod joining;
 pub mod plan;
 mod planning;
+mod running;
+#[cfg(test)]
+mod running_tests;
 #[cfg(test)]
 mod tests;
 
 pub use explaining::explain;
 pub use plan::{JoinForm, Plan, Scan, ScanList};
 pub use planning::plan_of;
+pub use running::run_plan;

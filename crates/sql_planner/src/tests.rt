@@ -6,7 +6,7 @@ use std::alloc::Global;
 use std::test::Fail;
 use virtual_tables::{Constraint, ConstraintOp};
 
-fn query(alloc: Global, text: &str) -> Result<Query, NoMemory> {
+pub(crate) fn query(alloc: Global, text: &str) -> Result<Query, NoMemory> {
     match query_of_text(alloc, text) {
         Ok(query) => Ok(query),
         Err(_) => Err(NoMemory),
