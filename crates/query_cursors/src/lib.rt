@@ -6,3 +6,6 @@ pub mod interval;
 
 pub use cursors::Cursors;
 pub use interval::due;
+
+#[cfg(test)]
+mod tests;
