@@ -225,6 +225,42 @@ fn texts_over_tables(rt: HostRuntime) -> Result<(), Failed> {
     Ok(())
 }
 
+/// A line for each of three tables, in which each number below the count stands once as a group's.
+fn large_tables(alloc: Global, count: u64) -> Result<String, NoMemory> {
+    let mut lines = String::new(alloc);
+    for name in ["users", "groups", "user_groups"] {
+        push_table(&mut lines, name, count)?;
+    }
+    Ok(lines)
+}
+
+fn push_table(lines: &mut String, name: &str, count: u64) -> Result<(), NoMemory> {
+    write!(lines, "{{\"table\":\"{name}\",\"rows\":[")?;
+    for gid in 0..count {
+        let comma = if gid == 0 { "" } else { "," };
+        write!(lines, "{comma}{{\"gid\":{gid}}}")?;
+    }
+    lines.push_str("]}\n")?;
+    Ok(())
+}
+
+#[test]
+fn joins_of_large_tables(rt: HostRuntime) -> Result<(), Failed> {
+    let tables = large_tables(rt.alloc(), 100_000)?;
+    let case = Case {
+        text: "SELECT u.gid AS n FROM users u JOIN groups g ON g.gid = u.gid JOIN user_groups k ON k.gid = g.gid ORDER BY u.gid DESC LIMIT 2",
+        tables: Some(tables.as_str()),
+        ..PLAIN
+    };
+    let left = Left {
+        number: 0,
+        results: "{\"n\":\"99999\"}\n{\"n\":\"99998\"}\n",
+        status: "",
+    };
+    assert!(rt; leaves(rt.alloc(), &case, &left)?);
+    Ok(())
+}
+
 #[test]
 fn refused_queries(rt: HostRuntime) -> Result<(), Failed> {
     let rows = [
