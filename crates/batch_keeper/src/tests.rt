@@ -71,11 +71,8 @@ fn expired(floor: u64) -> Entry {
     }
 }
 
-/// A list with an entry of each kind, in which a floor falls.
-fn entries(alloc: Global) -> Result<EntryList, NoMemory> {
-    let mut entries = EntryList::new(alloc);
-    entries.push(Entry::Opened { session: 1 })?;
-    entries.push(Entry::Configured {
+fn configured(alloc: Global) -> Entry {
+    Entry::Configured {
         document: TextList::new(alloc),
         schedule: Schedule {
             queries: ScheduledList::new(alloc),
@@ -84,15 +81,25 @@ fn entries(alloc: Global) -> Result<EntryList, NoMemory> {
             form: Form::Event,
         },
         moment: 900,
-    })?;
-    entries.push(Entry::Ticked { moment: 1000 })?;
-    entries.push(appended(alloc, 1000)?)?;
-    entries.push(table_set(alloc)?)?;
-    entries.push(expired(3))?;
-    entries.push(expired(1))?;
-    entries.push(committed(alloc, 1)?)?;
-    entries.push(committed(alloc, 2)?)?;
-    entries.push(Entry::Acked { upto: 1 })?;
+    }
+}
+
+/// The entries that these letters name. A batch is numbered by its place among them.
+fn entries(alloc: Global, letters: &str) -> Result<EntryList, NoMemory> {
+    let mut entries = EntryList::new(alloc);
+    for (at, letter) in letters.bytes().enumerate() {
+        entries.push(match letter {
+            b'o' => Entry::Opened { session: 1 },
+            b'c' => configured(alloc),
+            b't' => Entry::Ticked { moment: 1000 },
+            b'e' => appended(alloc, 1000)?,
+            b's' => table_set(alloc)?,
+            b'3' => expired(3),
+            b'1' => expired(1),
+            b'b' => committed(alloc, at as u64)?,
+            _ => Entry::Acked { upto: 1 },
+        })?;
+    }
     Ok(entries)
 }
 
@@ -125,9 +132,24 @@ fn loaded(alloc: Global, keeper: &mut MemoryKeeper) -> Result<[u64; 12], KeeperE
 #[test]
 fn loads_the_values_of_any_list(rt: HostRuntime) -> Result<(), Failed> {
     let alloc = rt.alloc();
-    let mut keeper = MemoryKeeper::new(entries(alloc)?, FailList::new(alloc), false);
-    let values = loaded(alloc, &mut keeper);
-    assert_eq!(rt; values, Ok([10, 1, 1000, 3, 1, 23, 2, 1, 1, 2, 1, 0]));
+    // position, sessions, moment, last number, floor of files, live numbers, sources, tables, runs, batches, acknowledged,
+    // floor of processes
+    for (letters, wanted) in [
+        ("", [0, 0, 0, 0, 0, 0, 0, 0, 0, 0, 0, 0]),
+        ("o", [1, 1, 0, 0, 0, 0, 0, 0, 0, 0, 0, 0]),
+        ("oct", [3, 1, 1000, 0, 0, 0, 0, 0, 0, 0, 0, 0]),
+        ("octe", [4, 1, 1000, 3, 0, 123, 1, 0, 0, 0, 0, 0]),
+        ("octee", [5, 1, 1000, 6, 0, 456, 1, 0, 0, 0, 0, 0]),
+        ("octe3", [5, 1, 1000, 3, 3, 2, 1, 0, 0, 0, 0, 0]),
+        ("octebbo", [7, 2, 1000, 3, 0, 123, 1, 0, 1, 2, 0, 0]),
+        ("ossct", [5, 1, 1000, 0, 0, 0, 1, 1, 0, 0, 0, 0]),
+        ("octes31bba", [10, 1, 1000, 3, 1, 23, 2, 1, 1, 2, 1, 0]),
+    ] {
+        let list = entries(alloc, letters)?;
+        let mut keeper = MemoryKeeper::new(list, FailList::new(alloc), false);
+        let values = loaded(alloc, &mut keeper);
+        assert_eq!(rt; values, Ok(wanted), "{letters}");
+    }
     Ok(())
 }
 
