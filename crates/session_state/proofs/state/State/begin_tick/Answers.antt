@@ -1,0 +1,44 @@
+use Rattle.std.proofs.Common.{Bool, max, length, arith, ◌∙◌, ◌≡◌, ◌+◌, ℕ, List, None, refl, ap, ◌∷◌, [], ◌++◌}
+use Rattle.std.proofs.lemmas.List.{length-replicate, with_items_is}
+use Rattle.entry_model.specs.declared.entry.Entry.TheVariants.{Ticked}
+use Rattle.entry_model.specs.Reserved.{RunsAndRoom}
+use Rattle.session_state.specs.Inside.{kept}
+use Rattle.session_state.specs.Tails.{EntriesAndRoom}
+use Rattle.session_state.specs.Ticks.{held_back_by}
+use Rattle.session_state.proofs.Added.{adds}
+use Rattle.session_state.proofs.Dues.{may_tick}
+use Rattle.session_state.proofs.Reserving.{reserved}
+use Rattle.session_state.proofs.state.State.begin_tick.Goals as goal
+
+pub returns-clause-ticked : goal.returns-clause-ticked
+returns-clause-ticked c =
+    let s = kept c.self.inside in
+    let free : held_back_by s ≡ None = ap held_back_by c.self.view_is ∙ c.requires.free in
+    let later = rw (← c.self.view_is) at c.requires.later in
+    rw (← c.self.view_is) (adds s _ (Ticked c.args.moment) refl c.self.invariant.image (λ K h. may_tick K s c.args.moment h c.self.invariant.runs c.requires.calendar later free) (record {
+      counts = λ i. record { position = s.counts.position + 1; sessions = s.counts.sessions; moment = c.args.moment; taken = s.counts.taken; runs = (c.in-Ok.ensures.cursors i).runs; batches = s.counts.batches; acked = s.counts.acked };
+      image = refl;
+      schedule = refl;
+      ticked = refl;
+      marks = c.push_reserved.ensures.items ∙ ap (λ (marks : List ℕ). marks ++ s.counts.position ∷ []) c.in_ok-reserve.ensures.items;
+      tail = ap (λ (t : EntriesAndRoom). t.entries) c.in-Ok.ensures.tail ∙ ap (λ (t : EntriesAndRoom). t.entries) c.in_ok-push.ensures.ok;
+    }))
+
+pub invariant_of-self-2 : goal.invariant_of-self-2
+invariant_of-self-2 c =
+    let s = kept c.self.inside in
+    let long : length c.forget.new.claims ≡ length c.as_mut_slice.result.now = ap (λ (claims : List Bool). length claims) c.forget.ensures ∙ simp length-replicate in
+    reserved s _ c.self.invariant (record {
+      image = refl;
+      position = refl;
+      low = omega (arith, c.if-self-max-ge-MOST.false, c.max.ensures, c.room.ensures, c.len-queries.ensures);
+      sessions = refl;
+      moment = c.requires.calendar;
+      runs = ap (λ (r : RunsAndRoom). r.runs) c.in-Ok.ensures.cursors;
+      batches = refl;
+      acked = refl;
+      schedule = c.self.invariant.schedule;
+      claims = ap (λ (claims : List Bool). length claims) (with_items_is c.self.inside.claims c.forget.new.claims (omega (arith, long, c.as_mut_slice.ensures.len))) ∙ long ∙ ap (λ (claims : List Bool). length claims) c.as_mut_slice.ensures.value ∙ c.self.invariant.claims;
+      tail_room = ap (λ (t : EntriesAndRoom). t.room) c.in-Ok.ensures.tail ∙ (λ i. max ((c.in_ok-push.ensures.ok i).room) (c.len-queries.ensures i));
+      run_room = ap (λ (r : RunsAndRoom). r.room) c.in-Ok.ensures.cursors ∙ ap (max s.run_room) c.len-queries.ensures;
+    })

@@ -1,0 +1,30 @@
+-- What keeps a tick from beginning.
+use Rattle.std.specs.Prelude.{ℕ, if◌then◌else◌, [], ◌∷◌, find, is_some, Option, Some, None}
+use Rattle.query_cursors.specs.Due as cursors
+use Rattle.event_store.specs.Owed.{owed_of}
+use Rattle.event_store.specs.Contents.{live_at}
+use Rattle.session_state.specs.declared.state.TickRefusal.{TickRefusal}
+use Rattle.session_state.specs.declared.state.TickRefusal.TheVariants.{StillDue, ExpiryOwed}
+use Rattle.session_state.specs.Kept.{Kept}
+
+-- the place of the first query that is due at the present tick
+abbrev pub first_due : Kept → Option ℕ
+first_due s = if s.ticked then cursors.first_due s.counts.runs s.schedule.queries s.counts.moment else None
+
+-- up to which number the events of a table are to expire at the present tick
+abbrev pub owed_at : Kept → ℕ → Option ℕ
+owed_at s table =
+    if s.ticked then owed_of s.schedule.events_expiry s.schedule.events_max s.counts.moment (live_at s.image table) else None
+
+-- the first table of which events are to expire
+abbrev pub first_owed : Kept → Option ℕ
+first_owed s = find (λ table. is_some (owed_at s table)) (0 ∷ 1 ∷ 2 ∷ [])
+
+abbrev pub refusal_of : Option ℕ → Option ℕ → Option TickRefusal
+refusal_of (Some at) owed = Some (StillDue at)
+refusal_of None (Some table) = Some (ExpiryOwed (record { 0 = table }))
+refusal_of None None = None
+
+-- the due query first, and then the table
+abbrev pub held_back_by : Kept → Option TickRefusal
+held_back_by s = refusal_of (first_due s) (first_owed s)

@@ -1,0 +1,693 @@
+//! The state of a session.
+
+ghost use Rattle.std.specs.Prelude.{◌≡◌, ℕ, ◌+◌, ◌<◌, ◌≤◌, ◌^◌, ◌↔◌, ◌⊎◌, All, max, IsTrue, IfOk, IfErr, IfSome, OnOk, OnErr, MatchBool, Some, None, Ok, Err, List, [], length, replicate, set, slice_get, option_map, true, false};
+ghost use Rattle.entry_model.specs.declared.entry.Entry.{Entry};
+ghost use Rattle.entry_model.specs.declared.restored.Restored.{Restored};
+ghost use Rattle.entry_model.specs.Fits.{Fits};
+ghost use Rattle.entry_model.specs.Schedules.{IsSound};
+ghost use Rattle.entry_model.specs.declared.entry.Entry.TheVariants.{Acked, Ticked, Configured, Appended, TableSet};
+ghost use Rattle.entry_model.specs.Legal.{IsEvent, width_of};
+ghost use Rattle.entry_model.specs.Next.{offset_at};
+ghost use Rattle.event_store.specs.Contents.{AreWide};
+ghost use Rattle.session_state.specs.Kept.{due_count};
+ghost use Rattle.session_state.specs.Stands.{Adds, Begins, Stands};
+ghost use Rattle.entry_model.specs.Views.{is_evented_table, is_recorded_table};
+ghost use Rattle.session_state.specs.Ticks.{held_back_by, first_due, owed_at};
+ghost use Rattle.std.specs.List.{cons_option};
+ghost use Rattle.session_state.specs.Computed.{shown_by};
+ghost use Rattle.session_state.specs.Cut.{CutValue};
+ghost use Rattle.session_state.specs.CutOf.{mark_from, IsCutOf};
+ghost use Rattle.session_state.specs.Cutting.{next_place, cut_of, next_cut, claimed_at, released, CutStands};
+ghost use Rattle.session_state.specs.Expiries.{expiry_of, expiries, AddsAll, AddsSome};
+ghost use Rattle.session_state.specs.Readings.{IsReading, entry_of, taken_of, event_count, refusal_to};
+ghost use Rattle.session_state.specs.declared.state.TickRefusal.{TickRefusal};
+ghost use Rattle.session_state.specs.declared.state.AppendError.{AppendError};
+ghost use Rattle.session_state.specs.declared.state.CommitRefusal.{CommitRefusal};
+ghost use Rattle.session_state.specs.Commits.{Commits, commit_refusal};
+ghost use Rattle.sql_meaning.specs.Meaning.{meaning};
+ghost use Rattle.event_store.specs.Contents.{rows_in};
+
+use crate::computed::{event_rows, schedule_rows, time_rows};
+use crate::cut::Cut;
+use crate::readings::{offset_of, offsets_with, refusal};
+use crate::tail::Tail;
+use entry_model::entry::{Batch, Entry, EntryList};
+use entry_model::restored::{Restored, TakenList};
+use event_store::{CutView, Image};
+use osq_value::{Copied, EventList, NoMemory, Reading, RowList, Sequence, Str, TableId, TextList};
+use pack_rules::schedule::{Form, Mode, Schedule};
+use query_cursors::Cursors;
+use std::alloc::Global;
+use std::marker::Model;
+
+/// How many entries and sessions a kept list has at most.
+const MOST: u64 = (1 << 63) - 1;
+
+/// The greatest number that a batch may have.
+const LAST_BATCH: u64 = 1 << 62;
+
+/// Why a tick does not begin.
+#[derive(Clone, Copy, PartialEq, Eq, Debug)]
+pub enum TickRefusal {
+    /// The query at this place of the schedule is due.
+    StillDue { at: u32 },
+    /// Events of this table are to expire.
+    ExpiryOwed { table: TableId },
+    NoMemory,
+}
+
+/// Why a reading is not added.
+#[derive(Clone, Copy, PartialEq, Eq, Debug)]
+pub enum AppendError {
+    /// The reading ends no further than the source was taken: up to the byte `kept`.
+    Backwards { kept: u64 },
+    /// The last number would pass 2^62.
+    NumbersSpent,
+    NoMemory,
+}
+
+/// Why a cut is not committed. The cut comes back.
+#[derive(Drop)]
+pub enum CommitRefusal {
+    /// The query's last batch is now the one of this number, which the cut had not seen.
+    Superseded { number: u64, cut: Cut },
+    /// A Configured or Ticked entry at this position came behind the cut.
+    Stale { position: u64, cut: Cut },
+    /// The batch's number would pass 2^62.
+    NumbersSpent { cut: Cut },
+}
+
+/// What a session has: the values of its list of entries, what it runs, and the entries that are not sealed yet.
+#[derive(Drop)]
+pub struct State {
+    position: u64,
+    sessions: u64,
+    moment: u64,
+    taken: TakenList,
+    cursors: Cursors,
+    batches: u64,
+    acked: u64,
+    image: Image,
+    schedule: Schedule,
+    ticked: bool,
+    /// The places of the session's Configured and Ticked entries.
+    marks: Vec<u64>,
+    claims: Vec<bool>,
+    tail: Tail,
+}
+
+impl Model for State {
+    ghost use Rattle.session_state.specs.Kept.{Kept, IsState};
+
+    ghost Value = { Kept };
+
+    ghost use Rattle.session_state.specs.Inside.{kept};
+
+    ghost view = { kept };
+
+    ghost invariant = { λ s. IsState (kept s) };
+}
+
+/// Makes room for so many commits, whichever queries they are of.
+fn make_room(tail: &mut Tail, cursors: &mut Cursors, commits: u64) -> Result<(), NoMemory>
+    ensures tail { OnOk result (tail.new ≡ record tail.old { room = max tail.old.room commits }) }
+    ensures cursors { OnOk result (cursors.new ≡ record cursors.old { room = max cursors.old.room commits }) }
+    ensures err { OnErr result ((tail.new ≡ tail.old) × (cursors.new ≡ cursors.old)) }
+{
+    let before = tail.room();
+    tail.reserve(commits)?;
+    match cursors.reserve(commits) {
+        Ok(()) => Ok(()),
+        Err(NoMemory) => {
+            tail.give_back(tail.room() - before);
+            Err(NoMemory)
+        }
+    }
+}
+
+/// No query is claimed any more.
+fn forget(claims: &mut [bool])
+    ensures { claims.new ≡ replicate (length claims.old) false }
+{
+    claims.fill(false);
+}
+
+/// The query at this place is not claimed any more.
+fn unclaim(claims: &mut [bool], place: u32)
+    ensures { claims.new ≡ set claims.old place false }
+{
+    let at = place as usize;
+    if at < claims.len() {
+        claims[at] = false;
+    }
+}
+
+/// So many queries, of which none is claimed.
+fn unclaimed(alloc: Global, count: usize) -> Result<Vec<bool>, NoMemory>
+    ensures { IfOk result (λ claims. claims.items ≡ replicate count false) }
+{
+    let claims = vec![in alloc; false; count]?;
+    Ok(claims)
+}
+
+impl State {
+    /// Opens a session over these values. The state stands for the entry that opens it.
+    pub fn begin(alloc: Global, restored: Restored) -> Result<State, NoMemory>
+        requires { Fits restored }
+        ensures { IfOk result (λ state. Begins restored state) }
+    {
+        if restored.position >= MOST || restored.sessions >= MOST {
+            return Err(NoMemory);
+        }
+        let image = Image::restore(alloc, &restored)?;
+        image.is_image();
+        let session = restored.sessions + 1;
+        let mut tail = Tail::new(alloc);
+        tail.push(Entry::Opened { session })?;
+        Ok(State {
+            position: restored.position + 1,
+            sessions: session,
+            moment: restored.moment,
+            taken: restored.taken,
+            cursors: Cursors::restore(restored.runs),
+            batches: restored.batches,
+            acked: restored.acked,
+            image,
+            schedule: Schedule {
+                queries: Sequence::new(alloc),
+                events_expiry: 3600,
+                events_max: 50000,
+                form: Form::Event,
+            },
+            ticked: false,
+            marks: Vec::new(alloc),
+            claims: Vec::new(alloc),
+            tail,
+        })
+    }
+
+    /// Adds an acknowledgement, and answers whether it did: it does where it is above the last one, and no batch is
+    /// acknowledged that there is not.
+    pub fn acknowledge(&mut self, upto: u64) -> Result<bool, NoMemory>
+        ensures answer { IfOk result (λ done. IsTrue done ↔ (self.old.counts.acked < upto) × (upto ≤ self.old.counts.batches)) }
+        ensures added { IfOk result (λ done. MatchBool done (Adds self.old (Acked upto) self.new) (self.new ≡ self.old)) }
+        ensures err { OnErr result (self.new ≡ self.old) }
+    {
+        if upto <= self.acked || self.batches < upto {
+            return Ok(false);
+        }
+        if self.position + self.tail.room() >= MOST {
+            return Err(NoMemory);
+        }
+        self.tail.push(Entry::Acked { upto })?;
+        self.position += 1;
+        self.acked = upto;
+        Ok(true)
+    }
+
+    /// Up to which number the events of an evented table are to expire at the present tick.
+    fn owed(&self, table: TableId) -> Option<u64>
+        requires { is_evented_table table.0 ≡ true }
+        ensures { result ≡ owed_at self.now table.0 }
+    {
+        if !self.ticked {
+            return None;
+        }
+        let expiry = self.schedule.events_expiry;
+        let most = self.schedule.events_max;
+        self.image.floor_owed(table, expiry, most, self.moment)
+    }
+
+    /// The place of the first query that is due at the present tick.
+    fn due(&self) -> Option<u32>
+        ensures { result ≡ first_due self.now }
+    {
+        if !self.ticked {
+            return None;
+        }
+        self.cursors.first_due(&self.schedule, self.moment)
+    }
+
+    /// What keeps a tick from beginning.
+    fn held_back(&self) -> Option<TickRefusal>
+        ensures { result ≡ held_back_by self.now }
+    {
+        if let Some(at) = self.due() {
+            return Some(TickRefusal::StillDue { at });
+        }
+        let table = if self.owed(TableId(0)).is_some() {
+            TableId(0)
+        } else if self.owed(TableId(1)).is_some() {
+            TableId(1)
+        } else if self.owed(TableId(2)).is_some() {
+            TableId(2)
+        } else {
+            return None;
+        };
+        Some(TickRefusal::ExpiryOwed { table })
+    }
+
+    /// Begins a tick, at this moment or at the last one, whichever is later, and forgets all claims. It does not begin
+    /// while a query of the last tick is due, or events are to expire.
+    pub fn tick(&mut self, moment: u64) -> Result<(), TickRefusal>
+        requires { moment ≤ 253402300799 }
+        ensures ticked { OnOk result (Adds self.old (Ticked (max moment self.old.counts.moment)) self.new) }
+        ensures claims { OnOk result (self.new.claims ≡ replicate (length self.old.claims) false) }
+        ensures refused { (refusal : TickRefusal) → held_back_by self.old ≡ Some refusal → result ≡ Err refusal }
+        ensures held_back { IfErr result (λ refusal. (refusal ≡ TickRefusal.NoMemory) ⊎ (held_back_by self.old ≡ Some refusal)) }
+        ensures err { OnErr result (self.new ≡ self.old) }
+    {
+        if let Some(refusal) = self.held_back() {
+            return Err(refusal);
+        }
+        match self.begin_tick(moment.max(self.moment)) {
+            Ok(()) => Ok(()),
+            Err(NoMemory) => Err(TickRefusal::NoMemory),
+        }
+    }
+
+    /// Adds a tick at this moment.
+    fn begin_tick(&mut self, moment: u64) -> Result<(), NoMemory>
+        requires calendar { moment ≤ 253402300799 }
+        requires free { held_back_by self.old ≡ None }
+        requires later { self.old.counts.moment ≤ moment }
+        ensures ticked { OnOk result (Adds self.old (Ticked moment) self.new) }
+        ensures claims { OnOk result (self.new.claims ≡ replicate (length self.old.claims) false) }
+        ensures err { OnErr result (self.new ≡ self.old) }
+    {
+        let queries = self.schedule.queries.len() as u64;
+        if self.position + self.tail.room().max(queries) >= MOST {
+            return Err(NoMemory);
+        }
+        self.marks.reserve(1)?;
+        self.tail.push(Entry::Ticked { moment })?;
+        let Ok(()) = make_room(&mut self.tail, &mut self.cursors, queries) else {
+            self.tail.pop();
+            return Err(NoMemory);
+        };
+        self.marks.push_reserved(self.position);
+        forget(self.claims.as_mut_slice());
+        self.position += 1;
+        self.moment = moment;
+        self.ticked = true;
+        Ok(())
+    }
+
+    /// Runs this schedule from now on, at this moment or at the last one, whichever is later, and forgets all claims.
+    pub fn configure(
+        &mut self,
+        alloc: Global,
+        document: TextList,
+        schedule: Schedule,
+        moment: u64,
+    ) -> Result<(), NoMemory>
+        requires sound { IsSound schedule }
+        requires calendar { moment ≤ 253402300799 }
+        ensures configured { OnOk result (Adds self.old (Configured document schedule (max moment self.old.counts.moment)) self.new) }
+        ensures claims { OnOk result (self.new.claims ≡ replicate (length schedule.queries) false) }
+        ensures err { OnErr result (self.new ≡ self.old) }
+    {
+        let queries = schedule.queries.len() as u64;
+        if self.position + self.tail.room().max(queries) >= MOST {
+            return Err(NoMemory);
+        }
+        let moment = moment.max(self.moment);
+        let kept = schedule.copy(alloc)?;
+        let claims = unclaimed(alloc, kept.queries.len())?;
+        self.marks.reserve(1)?;
+        self.tail.push(Entry::Configured {
+            document,
+            schedule,
+            moment,
+        })?;
+        let Ok(()) = make_room(&mut self.tail, &mut self.cursors, queries) else {
+            self.tail.pop();
+            return Err(NoMemory);
+        };
+        self.marks.push_reserved(self.position);
+        self.claims = claims;
+        self.schedule = kept;
+        self.position += 1;
+        self.moment = moment;
+        Ok(())
+    }
+
+    /// Takes the entries off that were added since the last time, to be sealed. The state stands for the same list.
+    pub fn take_tail(&mut self, alloc: Global) -> Result<EntryList, NoMemory>
+        ensures taken { IfOk result (λ taken. taken ≡ self.old.tail) }
+        ensures ok { OnOk result (self.new ≡ record self.old { tail = [] }) }
+        ensures cuts { (cut : CutValue) → IsCutOf self.old cut → IsCutOf self.new cut }
+        ensures err { OnErr result (self.new ≡ self.old) }
+    {
+        self.tail.take(alloc)
+    }
+
+    /// Adds a reading of the source, all of it or nothing, and answers the last number before and after.
+    pub fn append(
+        &mut self,
+        alloc: Global,
+        source: &Str,
+        reading: Reading,
+    ) -> Result<(u64, u64), AppendError>
+        requires { IsReading reading }
+        ensures added { OnOk result (Adds self.old (entry_of source.now self.old.counts.moment reading) self.new) }
+        ensures numbers { IfOk result (λ numbers. numbers ≡ (self.old.image.last, self.new.image.last)) }
+        ensures claims { self.new.claims ≡ self.old.claims }
+        ensures backwards { (kept : ℕ) → (result ≡ Err (AppendError.Backwards kept)) ↔ (kept ≡ offset_at self.old.counts.taken source.now) × (taken_of reading ≤ kept) }
+        ensures spent { (result ≡ Err AppendError.NumbersSpent) ↔ (offset_at self.old.counts.taken source.now < taken_of reading) × (2 ^ 62 < self.old.image.last + event_count reading) }
+        ensures err { OnErr result (self.new ≡ self.old) }
+    {
+        self.image.is_image();
+        if let Some(refusal) = self.refuses(source, &reading) {
+            return Err(refusal);
+        }
+        match self.add_reading(alloc, source, reading) {
+            Ok(numbers) => Ok(numbers),
+            Err(NoMemory) => Err(AppendError::NoMemory),
+        }
+    }
+
+    /// Why the reading may not be added.
+    fn refuses(&self, source: &Str, reading: &Reading) -> Option<AppendError>
+        requires { self.now.image.last ≤ 2 ^ 62 }
+        ensures { result ≡ refusal_to (offset_at self.now.counts.taken source.now) self.now.image.last reading.now }
+    {
+        let kept = offset_of(self.taken.as_slice(), source);
+        match reading {
+            Reading::Events {
+                taken,
+                events,
+                skipped: _,
+            } => refusal(kept, *taken, self.image.last(), events.len() as u64),
+            Reading::Table {
+                taken,
+                table: _,
+                rows: _,
+            } => refusal(kept, *taken, self.image.last(), 0),
+        }
+    }
+
+    /// Adds a reading that may be added.
+    fn add_reading(
+        &mut self,
+        alloc: Global,
+        source: &Str,
+        reading: Reading,
+    ) -> Result<(u64, u64), NoMemory>
+        requires reading { IsReading reading }
+        requires free { refusal_to (offset_at self.old.counts.taken source.now) self.old.image.last reading ≡ None }
+        ensures added { OnOk result (Adds self.old (entry_of source.now self.old.counts.moment reading) self.new) }
+        ensures numbers { IfOk result (λ numbers. numbers ≡ (self.old.image.last, self.new.image.last)) }
+        ensures claims { self.new.claims ≡ self.old.claims }
+        ensures err { OnErr result (self.new ≡ self.old) }
+    {
+        match reading {
+            Reading::Events {
+                taken,
+                events,
+                skipped,
+            } => self.add_events(alloc, source, taken, events, skipped),
+            Reading::Table { taken, table, rows } => {
+                self.add_table(alloc, source, taken, table, rows)
+            }
+        }
+    }
+
+    fn add_events(
+        &mut self,
+        alloc: Global,
+        source: &Str,
+        taken: u64,
+        events: EventList,
+        skipped: u64,
+    ) -> Result<(u64, u64), NoMemory>
+        requires events { All IsEvent events }
+        requires forwards { offset_at self.old.counts.taken source.now < taken }
+        requires numbers { self.old.image.last + length events ≤ 2 ^ 62 }
+        ensures added { OnOk result (Adds self.old (Appended source.now taken events skipped self.old.counts.moment) self.new) }
+        ensures numbers { IfOk result (λ numbers. numbers ≡ (self.old.image.last, self.new.image.last)) }
+        ensures claims { self.new.claims ≡ self.old.claims }
+        ensures err { OnErr result (self.new ≡ self.old) }
+    {
+        if self.position + self.tail.room() >= MOST {
+            return Err(NoMemory);
+        }
+        let stored = events.copy(alloc)?;
+        let offsets = offsets_with(alloc, self.taken.as_slice(), source, taken)?;
+        self.tail.push(Entry::Appended {
+            source: source.copy(alloc)?,
+            taken,
+            events,
+            skipped,
+            moment: self.moment,
+        })?;
+        let Ok(numbers) = self.image.append(stored, self.moment) else {
+            self.tail.pop();
+            return Err(NoMemory);
+        };
+        self.image.is_image();
+        self.taken = offsets;
+        self.position += 1;
+        Ok(numbers)
+    }
+
+    fn add_table(
+        &mut self,
+        alloc: Global,
+        source: &Str,
+        taken: u64,
+        table: TableId,
+        rows: RowList,
+    ) -> Result<(u64, u64), NoMemory>
+        requires recorded { is_recorded_table table.0 ≡ true }
+        requires wide { AreWide (width_of table.0) rows }
+        requires forwards { offset_at self.old.counts.taken source.now < taken }
+        ensures added { OnOk result (Adds self.old (TableSet source.now table rows taken) self.new) }
+        ensures numbers { IfOk result (λ numbers. numbers ≡ (self.old.image.last, self.new.image.last)) }
+        ensures claims { self.new.claims ≡ self.old.claims }
+        ensures err { OnErr result (self.new ≡ self.old) }
+    {
+        if self.position + self.tail.room() >= MOST {
+            return Err(NoMemory);
+        }
+        let stored = rows.copy(alloc)?;
+        let offsets = offsets_with(alloc, self.taken.as_slice(), source, taken)?;
+        self.tail.push(Entry::TableSet {
+            source: source.copy(alloc)?,
+            table,
+            rows,
+            taken,
+        })?;
+        self.image.set_table(table, stored)?;
+        self.image.is_image();
+        self.taken = offsets;
+        self.position += 1;
+        let last = self.image.last();
+        Ok((last, last))
+    }
+
+    /// Adds an expiry for each evented table of which events are to expire at the present tick, in the order of the
+    /// catalogue, all of them or none, and answers how many.
+    pub fn expire(&mut self) -> Result<u32, NoMemory>
+        ensures expired { OnOk result (AddsAll self.old (expiries self.old) self.new) }
+        ensures count { IfOk result (λ count. count ≡ length (expiries self.old)) }
+        ensures claims { self.new.claims ≡ self.old.claims }
+        ensures room { (self.new.tail_room ≡ self.old.tail_room) × (self.new.run_room ≡ self.old.run_room) }
+        ensures err { OnErr result (self.new ≡ self.old) }
+    {
+        if self.position + self.tail.room() >= MOST - 3 {
+            return Err(NoMemory);
+        }
+        self.tail.reserve_more(3)?;
+        let first = self.expire_table(TableId(0));
+        let second = self.expire_table(TableId(1));
+        let third = self.expire_table(TableId(2));
+        let count = first + second + third;
+        self.tail.give_back(u64::from(3 - count));
+        Ok(count)
+    }
+
+    /// Adds the expiry of a table where events of it are to expire, for which there is room beside that of commits, and
+    /// answers how many it added.
+    fn expire_table(&mut self, table: TableId) -> u32
+        requires evented { is_evented_table table.0 ≡ true }
+        requires room { due_count self.old < self.old.tail_room }
+        ensures expired { AddsSome self.old (expiry_of self.old table.0) self.new }
+        ensures count { result ≡ length (cons_option (expiry_of self.old table.0) []) }
+        ensures one { result ≤ 1 }
+        ensures room { self.new.tail_room + result ≡ self.old.tail_room }
+        ensures due { due_count self.new ≡ due_count self.old }
+        ensures same { (self.new.claims ≡ self.old.claims) × (self.new.run_room ≡ self.old.run_room) }
+    {
+        let Some(floor) = self.owed(table) else {
+            return 0;
+        };
+        self.image.expire(table, floor);
+        self.image.is_image();
+        self.tail.put(Entry::Expired {
+            table,
+            floor,
+            moment: self.moment,
+        });
+        self.position += 1;
+        1
+    }
+
+    /// What a query sees: of the events those above this number, and all other tables, at this moment.
+    fn shown(&self, alloc: Global, above: u64, moment: u64) -> Result<CutView, NoMemory>
+        requires { moment ≤ 253402300799 }
+        ensures { IfOk result (λ view. view ≡ shown_by self.now above moment) }
+    {
+        let mut view = self.image.slice(alloc, above)?;
+        view.set_computed(TableId(12), time_rows(alloc, moment)?)?;
+        let queries = self.schedule.queries.as_slice();
+        view.set_computed(TableId(13), schedule_rows(alloc, queries, &self.cursors)?)?;
+        view.set_computed(TableId(14), event_rows(alloc, &self.image)?)?;
+        Ok(view)
+    }
+
+    /// What a query sees at this moment, where no event is new to it.
+    pub fn tables_view(&self, alloc: Global, moment: u64) -> Result<CutView, NoMemory>
+        requires { moment ≤ 253402300799 }
+        ensures { IfOk result (λ view. view ≡ shown_by self.now self.now.image.last moment) }
+    {
+        self.shown(alloc, self.image.last(), moment)
+    }
+
+    /// The place of the query that is cut next.
+    fn next(&self) -> Option<u32>
+        ensures place { result ≡ next_place self.now }
+        ensures within { IfSome result (λ place. place < length self.now.schedule.queries) }
+    {
+        if !self.ticked {
+            return None;
+        }
+        self.cursors
+            .next_due(&self.schedule, self.claims.as_slice(), self.moment)
+    }
+
+    /// The cut of the query at this place of the schedule.
+    fn cut_of(&self, alloc: Global, place: u32) -> Result<Cut, NoMemory>
+        requires { place < length self.now.schedule.queries }
+        ensures { IfOk result (λ cut. Some cut ≡ option_map (cut_of self.now place) (slice_get self.now.schedule.queries place)) }
+    {
+        let key = &self.schedule.queries.as_slice()[place as usize].key;
+        let lo = match key.mode {
+            Mode::Evented => self.cursors.cursor(key),
+            Mode::Snapshot => 0,
+        };
+        Ok(Cut {
+            place,
+            key: key.copy(alloc)?,
+            spare: key.copy(alloc)?,
+            lo,
+            hi: self.image.last(),
+            position: self.position,
+            moment: self.moment,
+            last: self.cursors.number(key),
+            view: self.shown(alloc, lo, self.moment)?,
+        })
+    }
+
+    /// Claims the first due query that is not claimed, or where each one is the first due one, and gives its cut: what it
+    /// sees now. No entry is added.
+    pub fn claim_cut(&mut self, alloc: Global) -> Result<Option<Cut>, NoMemory>
+        ensures cut { IfOk result (λ given. given ≡ next_cut self.old) }
+        ensures none { (result ≡ Ok None) ↔ (first_due self.old ≡ None) }
+        ensures claimed { OnOk result (self.new ≡ claimed_at self.old (next_place self.old)) }
+        ensures own { IfOk result (λ given. IfSome given (IsCutOf self.new)) }
+        ensures stands { IfOk result (λ given. IfSome given (λ cut. (base : Restored) (added : List Entry) → Stands base added self.old → CutStands base added cut)) }
+        ensures cuts { (cut : CutValue) → IsCutOf self.old cut → IsCutOf self.new cut }
+        ensures err { OnErr result (self.new ≡ self.old) }
+    {
+        let Some(place) = self.next() else {
+            return Ok(None);
+        };
+        let Ok(cut) = self.cut_of(alloc, place) else {
+            return Err(NoMemory);
+        };
+        self.claims[place as usize] = true;
+        Ok(Some(cut))
+    }
+
+    /// The first Configured or Ticked entry of the session from this position on.
+    fn mark_from(&self, position: u64) -> Option<u64>
+        ensures { result ≡ mark_from self.now position }
+    {
+        self.marks.iter().copied().find(|mark| position <= *mark)
+    }
+
+    /// Gives a cut back: its query is not claimed any more, where nothing has forgotten the claim. It takes no memory.
+    pub fn release(&mut self, cut: Cut)
+        ensures released { self.new ≡ released self.old cut }
+        ensures cuts { (other : CutValue) → IsCutOf self.old other → IsCutOf self.new other }
+    {
+        if self.mark_from(cut.position()).is_none() {
+            unclaim(self.claims.as_mut_slice(), cut.place());
+        }
+    }
+
+    /// Adds the batch that answers a cut by these rows, under the next number, and answers the number. A cut that was made
+    /// before the query's last batch is refused, and so is one that a Configured or Ticked entry came behind. It takes no
+    /// memory.
+    pub fn commit(&mut self, cut: Cut, rows: RowList) -> Result<u64, CommitRefusal>
+        requires cut { IsCutOf self.old cut }
+        requires rows { rows ≡ meaning cut.key.text (rows_in cut.view) }
+        ensures number { IfOk result (λ number. number ≡ self.old.counts.batches + 1) }
+        ensures committed { OnOk result (Commits self.old cut rows self.new) }
+        ensures claims { OnOk result (self.new.claims ≡ set self.old.claims cut.place false) }
+        ensures refused { (refusal : CommitRefusal) → (result ≡ Err refusal) ↔ (commit_refusal self.old cut ≡ Some refusal) }
+        ensures err { OnErr result (self.new ≡ self.old) }
+    {
+        let number = self.cursors.number(cut.key());
+        if number != cut.last() {
+            return Err(CommitRefusal::Superseded { number, cut });
+        }
+        if let Some(position) = self.mark_from(cut.position()) {
+            return Err(CommitRefusal::Stale { position, cut });
+        }
+        if self.batches >= LAST_BATCH {
+            return Err(CommitRefusal::NumbersSpent { cut });
+        }
+        Ok(self.add_batch(cut, rows))
+    }
+
+    /// Adds the batch of a cut that nothing keeps from being committed, for which there is room, and answers its number.
+    fn add_batch(&mut self, cut: Cut, rows: RowList) -> u64
+        requires cut { IsCutOf self.old cut }
+        requires free { commit_refusal self.old cut ≡ None }
+        requires rows { rows ≡ meaning cut.key.text (rows_in cut.view) }
+        ensures number { result ≡ self.old.counts.batches + 1 }
+        ensures committed { Commits self.old cut rows self.new }
+        ensures claims { self.new.claims ≡ set self.old.claims cut.place false }
+    {
+        let number = self.batches + 1;
+        let Cut {
+            place,
+            key,
+            spare,
+            lo,
+            hi,
+            position,
+            moment,
+            last: _,
+            view: _,
+        } = cut;
+        self.cursors.record_commit(spare, number, hi, moment);
+        unclaim(self.claims.as_mut_slice(), place);
+        self.tail.put(Entry::Committed {
+            batch: Batch {
+                number,
+                query: key,
+                lo,
+                hi,
+                cut: position,
+                moment,
+                rows,
+            },
+        });
+        self.batches = number;
+        self.position += 1;
+        number
+    }
+}

@@ -1,6 +1,0 @@
-use Rattle.std.proofs.Common.{◌≡◌, take}
-use Rattle.shared_store.specs.Computed.{schedule_shown}
-use Rattle.shared_store.proofs.computed.schedule_rows.Given as goal
-
-abbrev pub invariant-loop-scheduled : goal.invariant-loop-scheduled
-invariant-loop-scheduled l = l.rows ≡ schedule_shown l.cursors.runs (take l.scheduled-index l.queries)
