@@ -1,0 +1,5 @@
+pub mod Commands
+pub mod Given
+pub mod Left
+pub mod Names
+pub mod Texts
