@@ -54,13 +54,13 @@ unfoldable pub has_required : CommandName → List Given → Bool
 has_required command gs = list_all (λ name. stands name gs) (required command)
 
 -- there are at most a thousand sources
-unfoldable pub names_few : List Given → Bool
-names_few gs = nat_le (count_by (λ g. is_source g.name) gs) 1000
+unfoldable pub has_few_sources : List Given → Bool
+has_few_sources gs = nat_le (count_by (λ g. is_source g.name) gs) 1000
 
 -- the options are those of a run of the command
 unfoldable pub are_options : CommandName → List Given → Bool
 are_options command gs =
-    list_all (is_right command) gs && has_required command gs && names_few gs && none_repeats gs
+    list_all (is_right command) gs && has_required command gs && has_few_sources gs && none_repeats gs
     && (stands Start gs || not (stands Step gs))
 
 -- the sources of one kind, in the order of the words
@@ -79,33 +79,36 @@ default_agent = codes "5.10.0"
 
 unfoldable pub replay_of : List Given → ReplayWords
 replay_of gs = record {
-    config = value_or [] Config gs;
-    host = value_or [] Host gs;
-    platform = value_or default_platform Platform gs;
-    agent = value_or default_agent Agent gs;
-    sources = sources_of gs;
-    start = number_of Start gs;
-    step = number_or 60 Step gs;
-    ticks = number_or 60 Ticks gs;
-    records = number_or 10000 Records gs }
+  config = value_or [] Config gs;
+  host = value_or [] Host gs;
+  platform = value_or default_platform Platform gs;
+  agent = value_or default_agent Agent gs;
+  sources = sources_of gs;
+  start = number_of Start gs;
+  step = number_or 60 Step gs;
+  ticks = number_or 60 Ticks gs;
+  records = number_or 10000 Records gs;
+}
 
 unfoldable pub query_of : List Given → QueryWords
 query_of gs = record {
-    text = value_or [] Text gs;
-    config = value_of Config gs;
-    sources = sources_of gs;
-    start = number_of Start gs;
-    step = number_or 60 Step gs;
-    ticks = number_or 1000000 Ticks gs;
-    records = number_or 10000 Records gs;
-    explain = stands Explain gs }
+  text = value_or [] Text gs;
+  config = value_of Config gs;
+  sources = sources_of gs;
+  start = number_of Start gs;
+  step = number_or 60 Step gs;
+  ticks = number_or 1000000 Ticks gs;
+  records = number_or 10000 Records gs;
+  explain = stands Explain gs;
+}
 
 unfoldable pub check_of : List Given → CheckWords
 check_of gs = record {
-    config = value_or [] Config gs;
-    host = value_or [] Host gs;
-    platform = value_or default_platform Platform gs;
-    agent = value_or default_agent Agent gs }
+  config = value_or [] Config gs;
+  host = value_or [] Host gs;
+  platform = value_or default_platform Platform gs;
+  agent = value_or default_agent Agent gs;
+}
 
 -- what the options of a command ask for
 abbrev pub asked_by : CommandName → List Given → CommandWords

@@ -13,7 +13,7 @@ use osq_value::{Sequence, Str};
 use std::alloc::Global;
 
 /// The commands.
-#[derive(Clone, Copy, Debug)]
+#[derive(Clone, Copy)]
 pub(crate) enum CommandName {
     Replay,
     Query,
@@ -113,7 +113,7 @@ impl CommandName {
     {
         self.are_right(options)
             && self.has_required(options)
-            && options.names_few()
+            && options.has_few_sources()
             && options.none_repeats()
             && (options.stands(Name::Start) || !options.stands(Name::Step))
     }

@@ -10,7 +10,7 @@ use crate::name::{Name, Takes};
 use crate::number::{is_text, number_in};
 
 /// An option: its name, and the text behind it, if one stands there.
-#[derive(Clone, Copy, Debug)]
+#[derive(Clone, Copy)]
 pub(crate) struct GivenOption<'a> {
     pub(crate) name: Name,
     pub(crate) value: Option<&'a str>,

@@ -5,7 +5,7 @@ ghost use Rattle.std.specs.List.{list_any};
 ghost use Rattle.program_words.specs.Names.{is_source, name_of, place, same_name, takes};
 
 /// The name of an option.
-#[derive(Clone, Copy, Debug)]
+#[derive(Clone, Copy)]
 pub(crate) enum Name {
     Config,
     Host,
@@ -25,7 +25,7 @@ pub(crate) enum Name {
 }
 
 /// What stands behind a name.
-#[derive(Clone, Copy, Debug)]
+#[derive(Clone, Copy)]
 pub(crate) enum Takes {
     /// Nothing: the option is a flag.
     Nothing,

@@ -3,7 +3,7 @@
 ghost use Rattle.std.specs.Prelude.{◌≡◌, ◌++◌, IfOk, OnOk};
 ghost use Rattle.std.specs.Option.{option_copied};
 ghost use Rattle.std.specs.List.{list_any};
-ghost use Rattle.program_words.specs.Commands.{names_few, sources_named};
+ghost use Rattle.program_words.specs.Commands.{has_few_sources, sources_named};
 ghost use Rattle.program_words.specs.Given.{none_repeats, number_of, number_or, repeats, stands, value_of, value_or};
 ghost use Rattle.program_words.specs.Left.{given, left, options_in};
 
@@ -132,9 +132,9 @@ impl<'w, 'a> OptionWords<'w, 'a> {
     }
 
     /// At most a thousand of the options name a source.
-    #[tactic(auto, unfolding(crate::specs::Commands::names_few))]
-    pub(crate) fn names_few(self) -> bool
-        ensures { result ≡ names_few (options_in self.entry) }
+    #[tactic(auto, unfolding(crate::specs::Commands::has_few_sources))]
+    pub(crate) fn has_few_sources(self) -> bool
+        ensures { result ≡ has_few_sources (options_in self.entry) }
     {
         let mut count = 0;
         let mut options = self.options();

@@ -4,9 +4,7 @@ ghost use Rattle.std.specs.Prelude.{◌≡◌, ◌↔◌, IfOk, MatchOption, Non
 ghost use Rattle.program_words.specs.Commands.{asked_by, check_of, has_refused, is_refused, paths_of, query_of, replay_of, sources_of, words_of};
 ghost use Rattle.program_words.specs.Left.{options_in};
 
-use crate::command::{
-    CheckWords, CommandName, CommandWords, Paths, QueryWords, ReplayWords,
-};
+use crate::command::{CheckWords, CommandName, CommandWords, Paths, QueryWords, ReplayWords};
 use crate::error::WordsError;
 use crate::name::Name;
 use crate::options::OptionWords;
@@ -138,10 +136,7 @@ pub fn read_words(alloc: Global, words: &[&str]) -> Result<CommandWords, WordsEr
     let Some((command, options)) = command_in(words) else {
         return Err(WordsError::Usage);
     };
-    match asked_by(alloc, command, options) {
-        Ok(asked) => Ok(asked),
-        Err(NoMemory) => Err(WordsError::NoMemory),
-    }
+    Ok(asked_by(alloc, command, options)?)
 }
 
 /// Reads what the program opens for the words of a command; Usage exactly where they are those of no command.
