@@ -1,2 +1,5 @@
 pub mod Digits
 pub mod Mapped
+pub mod Orders
+pub mod Spellings
+pub mod Swaps

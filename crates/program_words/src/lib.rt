@@ -4,6 +4,7 @@
 pub mod command;
 pub mod error;
 mod given;
+pub mod laws;
 mod name;
 mod number;
 mod options;
