@@ -3,3 +3,4 @@ pub mod Mapped
 pub mod Orders
 pub mod Spellings
 pub mod Swaps
+pub mod Within

@@ -1,18 +1,18 @@
 -- Two options of different names change places.
 use Rattle.std.proofs.Common.{◌≡◌, ℕ, ◌&&◌, ◌||◌, not, Bool, true, false, cond, nat_eq, nat_le, List, [], ◌∷◌, ◌++◌, Option, Some, None, refl, ap, sym, ◌∙◌, arith, map, unwrap_or}
-use Rattle.std.specs.Prelude.{bytes_eq, count_by, option_and_then}
-use Rattle.std.specs.List.{find, list_all, list_any}
+use Rattle.std.specs.Prelude.{bytes_eq, option_and_then}
+use Rattle.std.specs.List.{list_any}
 use Rattle.std.proofs.lemmas.Bool.Decides.{nat_tests, same_from_decides}
 use Rattle.std.proofs.lemmas.Slice.Eq.{bytes_eq-Decides}
 use Rattle.program_words.specs.declared.name.Name.{Name}
-use Rattle.program_words.specs.declared.name.Name.TheVariants.{Config, Host, Platform, Agent, Text, Audit, Changes, Tables, Start, Step, Ticks, Records, Explain, Other}
+use Rattle.program_words.specs.declared.name.Name.TheVariants.{Config, Host, Platform, Agent, Text, Audit, Changes, Tables, Start, Step, Ticks, Records, Explain}
 use Rattle.program_words.specs.declared.command.CommandName.{CommandName}
 use Rattle.program_words.specs.declared.command.CommandName.TheVariants.{Replay, Query, Check}
 use Rattle.program_words.specs.declared.command.CommandWords.TheVariants.{Replay as AsReplay, Query as AsQuery, Check as AsCheck}
 use Rattle.program_words.specs.declared.source.SourceKind.{SourceKind}
 use Rattle.program_words.specs.declared.source.SourceKind.TheVariants.{Audit as AuditLog, Changes as ChangeList, Tables as TableLines}
 use Rattle.program_words.specs.Names.{is_source, place, same_name, takes}
-use Rattle.program_words.specs.Given.{Given, fits, is_named, none_repeats, number_of, number_or, number_taken, repeats, same_value, stands, value_of, value_or}
+use Rattle.program_words.specs.Given.{Given, is_named, none_repeats, number_of, number_or, number_taken, repeats, same_value, stands, value_of, value_or}
 use Rattle.program_words.specs.Commands.{are_options, asked_by, check_of, command_with, default_agent, default_platform, has_few_sources, has_required, is_right, query_of, replay_of, required, sources_named, sources_of}
 use Rattle.program_words.specs.Laws.{AnyOrder}
 use Rattle.program_words.proofs.Swaps.{count_by-swap, filter-swap, find-swap, list_all-same, list_all-swap, list_any-swap}

@@ -1,6 +1,6 @@
 -- The commands: the options of each, and what it is asked by them.
-use Rattle.std.specs.Prelude.{◌≡◌, ℕ, ◌++◌, ◌&&◌, ◌||◌, not, Bool, bytes_eq, codes, count_by, filter, if◌then◌else◌, map, nat_le, List, [], ◌∷◌, length, Option, None, Some, option_and_then, unwrap_or}
-use Rattle.std.specs.List.{find, list_all, list_any}
+use Rattle.std.specs.Prelude.{ℕ, ◌++◌, ◌&&◌, ◌||◌, not, Bool, bytes_eq, codes, count_by, filter, if◌then◌else◌, map, nat_le, List, [], ◌∷◌, length, Option, None, Some, option_and_then, unwrap_or}
+use Rattle.std.specs.List.{list_all, list_any}
 use Rattle.std.specs.Option.{option_map}
 use Rattle.program_words.specs.declared.name.Name.{Name}
 use Rattle.program_words.specs.declared.name.Name.TheVariants.{Config, Host, Platform, Agent, Text, Audit, Changes, Tables, Start, Step, Ticks, Records, Explain}

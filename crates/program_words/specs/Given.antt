@@ -1,5 +1,5 @@
 -- The options that words spell, in their order.
-use Rattle.std.specs.Prelude.{ℕ, ◌==◌, ◌&&◌, ◌||◌, not, Bool, true, false, bytes_eq, codes, drop, if◌then◌else◌, nat_eq, nat_le, nat_lt, List, [], ◌∷◌, length, Option, None, Some, is_none, is_some, option_and_then, unwrap_or}
+use Rattle.std.specs.Prelude.{ℕ, ◌==◌, ◌&&◌, not, Bool, true, false, bytes_eq, codes, drop, if◌then◌else◌, nat_eq, nat_le, nat_lt, List, [], ◌∷◌, length, Option, None, Some, is_none, is_some, option_and_then, unwrap_or}
 use Rattle.std.specs.List.{after_first, before_first, find, list_any, position_or_len, starts_with}
 use Rattle.program_words.specs.declared.name.Name.{Name}
 use Rattle.program_words.specs.declared.name.Name.TheVariants.{Other}

@@ -1,5 +1,5 @@
 -- What holds of the words of every command.
-use Rattle.std.specs.Prelude.{◌≡◌, ℕ, ◌++◌, Bool, true, false, codes, List, ◌∷◌}
+use Rattle.std.specs.Prelude.{◌≡◌, ℕ, ◌++◌, true, false, codes, List, ◌∷◌}
 use Rattle.program_words.specs.declared.command.CommandName.{CommandName}
 use Rattle.program_words.specs.Names.{name_of, same_name, takes}
 use Rattle.program_words.specs.Given.{Given, options_of, takes_word}

@@ -1,3 +1,4 @@
+pub mod Bounds
 pub mod Commands
 pub mod Given
 pub mod Laws

@@ -1,6 +1,7 @@
 //! Reading the words of a command.
 
 ghost use Rattle.std.specs.Prelude.{◌≡◌, ◌↔◌, IfOk, MatchOption, None, Some, Err, map};
+ghost use Rattle.program_words.specs.Bounds.{ArePathsBounded, IsBounded};
 ghost use Rattle.program_words.specs.Commands.{asked_by, check_of, has_refused, is_refused, paths_of, query_of, replay_of, sources_of, words_of};
 ghost use Rattle.program_words.specs.Left.{options_in};
 
@@ -129,9 +130,11 @@ fn asked_by(
 
 /// Reads the words of a command. The answer is Usage exactly where they are those of no command, so that memory is wanting only where they
 /// are right.
+#[tactic(auto, using(crate::proofs::Within::words_bounded))]
 pub fn read_words(alloc: Global, words: &[&str]) -> Result<CommandWords, WordsError>
     ensures command { IfOk result (λ command. words_of (map (λ w. w.now) words.now) ≡ Some command) }
     ensures usage { (result ≡ Err WordsError.Usage) ↔ (words_of (map (λ w. w.now) words.now) ≡ None) }
+    ensures bounds { IfOk result IsBounded }
 {
     let Some((command, options)) = command_in(words) else {
         return Err(WordsError::Usage);
@@ -140,9 +143,11 @@ pub fn read_words(alloc: Global, words: &[&str]) -> Result<CommandWords, WordsEr
 }
 
 /// Reads what the program opens for the words of a command; Usage exactly where they are those of no command.
+#[tactic(auto, using(crate::proofs::Within::paths_bounded))]
 pub fn paths_of(alloc: Global, words: &[&str]) -> Result<Paths, WordsError>
     ensures paths { IfOk result (λ paths. paths_of (map (λ w. w.now) words.now) ≡ Some paths) }
     ensures usage { (result ≡ Err WordsError.Usage) ↔ (paths_of (map (λ w. w.now) words.now) ≡ None) }
+    ensures bounds { IfOk result ArePathsBounded }
 {
     match read_words(alloc, words) {
         Ok(command) => Ok(command.into_paths(alloc)),
