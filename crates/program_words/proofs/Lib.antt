@@ -1,6 +1,8 @@
 pub mod Digits
 pub mod Mapped
 pub mod Orders
+pub mod Sources
 pub mod Spellings
 pub mod Swaps
+pub mod Tests
 pub mod Within

@@ -25,7 +25,7 @@ named_apart : (name : Name) (g h : Given) → same_name g.name h.name ≡ false 
 unfolding is_named
 named_apart name g h different = apart (place name) (place g.name) (place h.name) different
 
-same_bytes : (xs ys : List ℕ) → bytes_eq xs ys ≡ bytes_eq ys xs
+pub same_bytes : (xs ys : List ℕ) → bytes_eq xs ys ≡ bytes_eq ys xs
 same_bytes xs ys =
     let there = bytes_eq-Decides xs ys in
     let back = bytes_eq-Decides ys xs in

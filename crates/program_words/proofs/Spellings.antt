@@ -12,19 +12,12 @@ use Rattle.program_words.specs.declared.name.Name.{Name}
 use Rattle.program_words.specs.declared.name.Name.TheVariants.{Other}
 use Rattle.program_words.specs.Names.{name_of, names, takes}
 use Rattle.program_words.specs.Given.{Given, awaits, behind_dashes, is_sign, option_of, options_of, takes_word, with_value}
+use Rattle.program_words.proofs.Tests.{first, second}
 use Rattle.program_words.specs.Laws.{BothSpellings}
 
 -- no byte of the text is the sign
 abbrev no_sign : List ℕ → Bool
 no_sign text = list_all (λ b. not (is_sign b)) text
-
-first : (a b : Bool) → a && b ≡ true → a ≡ true
-first true b holds = refl
-first false b holds = holds
-
-second : (a b : Bool) → a && b ≡ true → b ≡ true
-second true b holds = holds
-second false b holds = absurd cc
 
 -- the name of the entry that was found, or Other
 abbrev name_in : Option (List ℕ × Name) → Name

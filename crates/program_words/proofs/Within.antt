@@ -20,15 +20,9 @@ use Rattle.program_words.specs.Texts.{digits_value, is_number, is_text, number_i
 use Rattle.program_words.specs.Names.{is_source, place, same_name, takes}
 use Rattle.program_words.specs.Given.{Given, fits, is_named, none_repeats, options_of, number_of, number_or, number_taken, stands, value_of, value_or}
 use Rattle.program_words.specs.Commands.{are_options, asked_by, check_of, command_named, command_with, has_few_sources, has_option, has_refused, has_required, is_right, paths_in, query_of, replay_of, required, sources_named, sources_of, words_of}
+use Rattle.program_words.proofs.Sources.{sources_own}
+use Rattle.program_words.proofs.Tests.{first, second}
 use Rattle.program_words.specs.Bounds.{ArePathsBounded, ClockBounds, HostBounds, IsBounded, RunBounds}
-
-pub first : (a b : Bool) → a && b ≡ true → a ≡ true
-first true b holds = refl
-first false b holds = holds
-
-pub second : (a b : Bool) → a && b ≡ true → b ≡ true
-second true b holds = holds
-second false b holds = absurd cc
 
 abbrev Between : ℕ → ℕ → ℕ → Type 0
 Between least most n = (least ≤ n) × (n ≤ most)
@@ -154,7 +148,8 @@ host_within command gs right some =
 
 -- the parts of `are_options`
 abbrev Parts : CommandName → List Given → Type 0
-Parts command gs = (list_all (is_right command) gs ≡ true) × (has_required command gs ≡ true) × (has_few_sources gs ≡ true)
+Parts command gs =
+    (list_all (is_right command) gs ≡ true) × (has_required command gs ≡ true) × (has_few_sources gs ≡ true) × (none_repeats gs ≡ true)
 
 pub parts_of : (command : CommandName) (gs : List Given) → are_options command gs ≡ true → Parts command gs
 unfolding are_options
@@ -165,7 +160,7 @@ parts_of command gs are =
     let four = first (all && have && few && none_repeats gs) _ are in
     let three = first (all && have && few) _ four in
     let two = first (all && have) _ three in
-    (first all _ two, second all _ two, second (all && have) _ three)
+    (first all _ two, second all _ two, second (all && have) _ three, second (all && have && few) _ four)
 
 has_host : (command : CommandName) (gs : List Given) → required command ≡ Config ∷ Host ∷ [] → has_required command gs ≡ true → stands Host gs ≡ true
 unfolding has_required
@@ -173,9 +168,9 @@ has_host command gs is have =
     let both : list_all (λ name. stands name gs) (Config ∷ Host ∷ []) ≡ true = subst (λ names. list_all (λ name. stands name gs) names ≡ true) is have in
     first (stands Host gs) _ (second (stands Config gs) _ both)
 
-run_within : (gs : List Given) (rounds : ℕ) → Between 1 1000000 rounds → has_few_sources gs ≡ true → RunBounds (number_of Start gs) (number_or 60 Step gs) (number_or rounds Ticks gs) (number_or 10000 Records gs) (sources_of gs)
+run_within : (command : CommandName) (gs : List Given) (rounds : ℕ) → Between 1 1000000 rounds → Parts command gs → RunBounds (number_of Start gs) (number_or 60 Step gs) (number_or rounds Ticks gs) (number_or 10000 Records gs) (sources_of gs)
 unfolding takes
-run_within gs rounds within few =
+run_within command gs rounds within (right, have, few, none) =
     let ticks = number_or-between rounds Ticks gs 1 1000000 refl within in
     let records = number_or-between 10000 Records gs 1 1000000 refl (omega arith, omega arith) in
     record {
@@ -184,27 +179,22 @@ run_within gs rounds within few =
       ticks_in = ticks.1;
       some_records = records.0;
       records_in = records.1;
-      sources_in = sources_within gs few;
+      sources_in = record { few = sources_within gs few; own_paths = sources_own command gs right none };
     }
 
-asked_within : (command : CommandName) (gs : List Given) → are_options command gs ≡ true → IsBounded (asked_by command gs)
+asked_within : (command : CommandName) (gs : List Given) → Parts command gs → IsBounded (asked_by command gs)
 unfolding replay_of query_of check_of required IsBounded
-asked_within Replay gs are =
-    let (right, have, few) = parts_of Replay gs are in
-    (run_within gs 60 (omega arith, omega arith) few, host_within Replay gs right (has_host Replay gs refl have))
-asked_within Query gs are =
-    let (right, have, few) = parts_of Query gs are in
-    run_within gs 1000000 (omega arith, omega arith) few
-asked_within Check gs are =
-    let (right, have, few) = parts_of Check gs are in
-    host_within Check gs right (has_host Check gs refl have)
+asked_within Replay gs parts =
+    (run_within Replay gs 60 (omega arith, omega arith) parts, host_within Replay gs parts.0 (has_host Replay gs refl parts.1))
+asked_within Query gs parts = run_within Query gs 1000000 (omega arith, omega arith) parts
+asked_within Check gs parts = host_within Check gs parts.0 (has_host Check gs refl parts.1)
 
 asked_bounded : (gs : List Given) (refused : Bool) (named : Option CommandName) (command : CommandWords) → cond refused None (option_and_then (command_with gs) named) ≡ Some command → IsBounded command
 asked_bounded gs true named command is = absurd cc
 asked_bounded gs false None command is = absurd cc
 asked_bounded gs false (Some name) command is =
     let asked = cond_some (are_options name gs) (asked_by name gs) command is in
-    subst IsBounded asked.1 (asked_within name gs asked.0)
+    subst IsBounded asked.1 (asked_within name gs (parts_of name gs asked.0))
 
 -- the words of a command are bounded
 pub words_bounded : (words : List (List ℕ)) (command : CommandWords) → words_of words ≡ Some command → IsBounded command
@@ -217,4 +207,5 @@ pub paths_bounded : (command : CommandWords) → IsBounded command → ArePathsB
 unfolding IsBounded ArePathsBounded
 paths_bounded (AsReplay words) bounded = (bounded.0.clock, bounded.0.sources_in)
 paths_bounded (AsQuery words) bounded = (bounded.clock, bounded.sources_in)
-paths_bounded (AsCheck words) bounded = (record { start_in = tt; step_in = omega arith }, omega arith)
+paths_bounded (AsCheck words) bounded =
+    (record { start_in = tt; step_in = omega arith }, record { few = omega arith; own_paths = λ i j d before within. absurd (omega arith) })
