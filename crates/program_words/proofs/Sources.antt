@@ -1,5 +1,5 @@
 -- No two sources of a command have one path.
-use Rattle.std.proofs.Common.{◌≡◌, ◌≢◌, ℕ, zero, suc, ◌+◌, ◌<◌, ◌&&◌, ◌||◌, not, Bool, true, false, cond, length, List, [], ◌∷◌, ◌++◌, Option, Some, None, refl, ap, sym, ◌∙◌, arith, map, unwrap_or, subst, append_assoc}
+use Rattle.std.proofs.Common.{◌≡◌, ◌≢◌, ℕ, zero, suc, ◌<◌, ◌&&◌, ◌||◌, not, Bool, true, false, cond, length, List, [], ◌∷◌, ◌++◌, Option, Some, None, refl, ap, sym, ◌∙◌, arith, map, unwrap_or, append_assoc}
 use Rattle.std.specs.Prelude.{bytes_eq, filter, is_some, slice_index_or, AllPairs}
 use Rattle.std.specs.List.{All, list_all, list_any}
 use Rattle.std.proofs.lemmas.List.Folds.{list_any-append}
@@ -14,7 +14,7 @@ use Rattle.program_words.specs.declared.source.SourceName.{SourceName}
 use Rattle.program_words.specs.Names.{is_source, place, same_name, takes}
 use Rattle.program_words.specs.Given.{Given, fits, is_named, none_repeats, repeats, same_value}
 use Rattle.program_words.specs.Commands.{has_option, is_right, sources_named, sources_of}
-use Rattle.program_words.proofs.Tests.{first, second, neither_first, neither_second}
+use Rattle.program_words.proofs.Conditions.{first, second, neither_first, neither_second}
 use Rattle.program_words.proofs.Orders.{same_bytes}
 
 -- ---- lists of sources

@@ -1,5 +1,5 @@
 -- A value behind the sign `=`, and as the next word.
-use Rattle.std.proofs.Common.{◌≡◌, ℕ, ◌+◌, ◌&&◌, not, Bool, true, false, cond, nat_lt, length, List, [], ◌∷◌, ◌++◌, Option, Some, None, refl, ap, sym, ◌∙◌, arith, take, drop, subst}
+use Rattle.std.proofs.Common.{◌≡◌, ℕ, ◌+◌, not, Bool, true, false, cond, nat_lt, length, List, [], ◌∷◌, ◌++◌, Option, Some, None, refl, ap, sym, ◌∙◌, arith, take, drop, subst}
 use Rattle.std.specs.Prelude.{bytes_eq}
 use Rattle.std.specs.Option.{option_map_or}
 use Rattle.std.specs.List.{after_first, before_first, find, list_all, position_or_len}
@@ -12,7 +12,7 @@ use Rattle.program_words.specs.declared.name.Name.{Name}
 use Rattle.program_words.specs.declared.name.Name.TheVariants.{Other}
 use Rattle.program_words.specs.Names.{name_of, names, takes}
 use Rattle.program_words.specs.Given.{Given, awaits, behind_dashes, is_sign, option_of, options_of, takes_word, with_value}
-use Rattle.program_words.proofs.Tests.{first, second}
+use Rattle.program_words.proofs.Conditions.{first, second}
 use Rattle.program_words.specs.Laws.{BothSpellings}
 
 -- no byte of the text is the sign

@@ -21,7 +21,7 @@ use Rattle.program_words.specs.Names.{is_source, place, same_name, takes}
 use Rattle.program_words.specs.Given.{Given, fits, is_named, none_repeats, options_of, number_of, number_or, number_taken, stands, value_of, value_or}
 use Rattle.program_words.specs.Commands.{are_options, asked_by, check_of, command_named, command_with, has_few_sources, has_option, has_refused, has_required, is_right, paths_in, query_of, replay_of, required, sources_named, sources_of, words_of}
 use Rattle.program_words.proofs.Sources.{sources_own}
-use Rattle.program_words.proofs.Tests.{first, second}
+use Rattle.program_words.proofs.Conditions.{first, second}
 use Rattle.program_words.specs.Bounds.{ArePathsBounded, ClockBounds, HostBounds, IsBounded, RunBounds}
 
 abbrev Between : ℕ → ℕ → ℕ → Type 0

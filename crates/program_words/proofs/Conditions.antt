@@ -1,4 +1,4 @@
--- Tests of which all hold, or none.
+-- Conditions joined by and, and by or.
 use Rattle.std.proofs.Common.{◌≡◌, ◌&&◌, ◌||◌, Bool, true, false, refl}
 
 pub first : (a b : Bool) → a && b ≡ true → a ≡ true
