@@ -11,3 +11,6 @@ mod text;
 pub use configured::{Configured, read_configured};
 pub use error::ConfiguredError;
 pub use naming::{key_of, kind_of};
+
+#[cfg(test)]
+mod tests;
