@@ -1,0 +1,5 @@
+pub mod Feeding
+pub mod Joining
+pub mod Readings
+pub mod Stepping
+pub mod Taking
