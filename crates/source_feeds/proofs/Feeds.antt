@@ -2,6 +2,7 @@
 use Rattle.std.proofs.Common.{◌≡◌, ◌⊎◌, inl, inr, ℕ, ◌+◌, ◌-◌, ◌^◌, ◌≤◌, ◌<◌, min, true, false, List, [], ◌∷◌, ◌++◌, length, drop, refl, sym, ap, subst, ◌∙◌, arith, append_assoc, Result, Ok, Err, OnOk, IfErr}
 use Rattle.std.specs.Prelude.{All}
 use Rattle.std.proofs.lemmas.Bool.{true≢false}
+use Rattle.osq_value.specs.declared.reading.Category.{Category}
 use Rattle.osq_value.specs.declared.reading.Reading.{Reading}
 use Rattle.publisher_core.specs.declared.error.StepError.{StepError}
 use Rattle.publisher_core.specs.declared.record.Piece.{Piece}
@@ -14,10 +15,10 @@ use Rattle.source_feeds.specs.Feeding.{Fed, Feeding, HasRead, IsLeft, IsOpen, co
 use Rattle.source_feeds.specs.Joining.{Rise, skipped_told}
 use Rattle.source_feeds.specs.Readings.{IsReading}
 use Rattle.source_feeds.specs.Stepping.{IsStep}
-use Rattle.source_feeds.specs.Taking.{Takes, TakesAll}
+use Rattle.source_feeds.specs.Taking.{ReadsTo, Takes, TakesAll}
 use Rattle.source_feeds.proofs.Joins.{reads_skip, rises, skipped_of-append}
 use Rattle.source_feeds.proofs.Shapes.{good_readings}
-use Rattle.source_feeds.proofs.Steps.{behind, still_full, takes_all, takes_of}
+use Rattle.source_feeds.proofs.Steps.{behind, reads_to, still_full, takes_all, takes_of}
 
 -- a feed that was started, or is spent
 pub started : {T : Type 0} (result : Result T StepError) (kind : SourceKind) (old new : Reader) → HasRead kind old → OnOk result (new ≡ record old { is_begun = true }) → IfErr result (λ error. new ≡ record old { is_begun = true; is_spent = true })
@@ -90,6 +91,10 @@ stepped tells before middle after old new kept given most readings f (pieces, re
             (ap skipped_told read ∙ reads_skip old.reader.kind pieces);
       };
       few = steps.count;
+      whole = λ told.
+          subst (λ (k : SourceKind). ReadsTo k old.reader.paths kept (drop kept before) (given ++ pieces) new.reader.taken) (same.kind ∙ f.kind)
+          (subst (λ (p : List Category). ReadsTo new.reader.kind p kept (drop kept before) (given ++ pieces) new.reader.taken) same.paths
+          (reads_to new.reader kept (given ++ pieces) (f.stream ++ steps.fresh) before after steps.stands (lefts told)));
       takes = λ told. subst (λ (k : SourceKind). Takes k old.reader.paths old.reader.taken (drop old.reader.taken before) most pieces new.reader.taken) f.kind
           (takes_of tells old.reader new.reader kept given pieces f.stream before middle after most f.stands steps same.kind same.paths up (lefts told) (end told));
       over = λ told over.

@@ -1,6 +1,5 @@
 -- What the readings of a step tell.
-use Rattle.std.proofs.Common.{◌≡◌, ℕ, ◌+◌, ◌<◌, List, [], ◌∷◌, ◌++◌, length, map, flat_map, refl, sym, ap, subst, ◌∙◌, arith, append_assoc, append-nil, take, get_or}
-use Rattle.std.specs.Prelude.{min, ◌-◌, ◌^◌}
+use Rattle.std.proofs.Common.{◌≡◌, ℕ, ◌+◌, ◌<◌, List, [], ◌∷◌, ◌++◌, length, map, flat_map, refl, sym, ap, subst, ◌∙◌, arith, append_assoc, append-nil, length-append, suc, ◌⊎◌, inl, inr, ◌≤◌, min, take, get_or}
 use Rattle.std.specs.Option.{option_to_list}
 use Rattle.std.proofs.lemmas.List.{map-append, take_more}
 use Rattle.std.proofs.lemmas.Grind.{flat_map-append}
@@ -19,6 +18,7 @@ use Rattle.publisher_core.specs.Standing.{Gives}
 use Rattle.publisher_core.specs.Stepping.{GrowsBy}
 use Rattle.publisher_core.proofs.Given.{size_ended}
 use Rattle.source_feeds.specs.Joining.{AreReadingsOf, Join, Rise, events_told, skipped_in, skipped_told, taken_of}
+use Rattle.source_feeds.specs.Taking.{Takes, TakesFront, front_lines}
 use Rattle.source_feeds.proofs.Lasts.{joined_last, last_place}
 use Rattle.source_feeds.proofs.Splits.{has_last}
 
@@ -128,3 +128,23 @@ pub skipped_next : (readings : List Reading) (at : ℕ) (reading : Reading) → 
 skipped_next readings at reading within is =
     let one = skipped_told-append (take at readings) (reading ∷ []) in
     ap skipped_told (take_more readings at reading within ∙ ap (λ (r : Reading). take at readings ++ r ∷ []) (sym is)) ∙ omega (arith, one)
+
+-- offsets of readings one after another rise on
+pub rise_on : (before between after : ℕ) (xs ys : List Reading) → Rise before xs between → Rise between ys after → Rise before (xs ++ ys) after
+rise_on before between after [] ys first last = subst (λ (n : ℕ). Rise n ys after) first last
+rise_on before between after (reading ∷ xs) ys first last = (first.0, rise_on (taken_of reading) between after xs ys first.1 last)
+
+table_lines : (start : ℕ) (lines : List (List ℕ)) (pieces : List Piece) → LinesGive TableGives start lines pieces → length pieces ≡ length lines
+table_lines start [] [] gives = refl
+table_lines start [] (piece ∷ pieces) gives = absurd gives
+table_lines start (line ∷ lines) [] gives = absurd gives
+table_lines start (line ∷ lines) (piece ∷ pieces) gives = ap suc (table_lines (start + length line + 1) lines pieces gives.2)
+
+pub count_lines : (paths : List Category) (from most to : ℕ) (bytes : List ℕ) (pieces : List Piece) → Takes Tables paths from bytes most pieces to → min most (length (front_lines bytes)) ≤ length pieces
+count_lines paths from most to bytes pieces takes = by_all takes.all where
+  by_all : (length pieces ≡ most) ⊎ TakesFront Tables from bytes takes.reads.lines → min most (length (front_lines bytes)) ≤ length pieces
+  by_all (inl full) = omega (arith, full)
+  by_all (inr begins) =
+      let lines = table_lines from takes.reads.lines pieces takes.reads.gives in
+      let front = ap length begins.1 ∙ length-append (front_lines bytes) begins.0 in
+      omega (arith, lines, front)

@@ -17,7 +17,7 @@ use Rattle.publisher_core.specs.Stepping.{HoldsLast, IsDry, SameSource, Steps, S
 use Rattle.publisher_core.proofs.Given.{ended-append}
 use Rattle.publisher_core.proofs.Standing.{over_dry}
 use Rattle.source_feeds.specs.Feeding.{IsLeft}
-use Rattle.source_feeds.specs.Taking.{BeginWith, IsBehindLastFeed, Takes, TakesAll, TakesFront, TakesGroups, front_lines}
+use Rattle.source_feeds.specs.Taking.{BeginWith, IsBehindLastFeed, ReadsTo, Takes, TakesAll, TakesFront, TakesGroups, front_lines}
 use Rattle.source_feeds.proofs.Cuts.{Longer, compare, front_taken, more_lines, plain_first, plain_last, whole_lines}
 use Rattle.source_feeds.proofs.Groups.{held_begins, held_groups, short_groups}
 use Rattle.source_feeds.proofs.Splits.{audit_split, gives_split}
@@ -176,12 +176,14 @@ takes_by : (old new : Reader) (kept : ℕ) (given pieces : List Piece) (stream f
 takes_by old new kept given pieces stream fresh before after most s t b left few all =
     let bytes = bytes_behind before after left.dropped (ended s.lines) (ended (b.more ++ t.held) ++ t.rest) (stream ++ fresh) kept old.taken left.size left.bytes b.bytes s.taken in
     record {
-      lines = b.more;
-      rest = ended t.held ++ (t.rest ++ after);
-      cut = bytes ∙ append_assoc (ended (b.more ++ t.held)) t.rest after ∙ spelt b.more t.held (t.rest ++ after);
-      plain = plain_first b.more t.held b.plain;
-      gives = b.gives;
-      place = b.place;
+      reads = record {
+        lines = b.more;
+        rest = ended t.held ++ (t.rest ++ after);
+        cut = bytes ∙ append_assoc (ended (b.more ++ t.held)) t.rest after ∙ spelt b.more t.held (t.rest ++ after);
+        plain = plain_first b.more t.held b.plain;
+        gives = b.gives;
+        place = b.place;
+      };
       few = few;
       all = by_all (all bytes);
     }
@@ -230,6 +232,19 @@ still_full tells old new kept given pieces stream before middle after most s ste
       let sum = length-append (ended (b.more ++ d.stands.held) ++ d.stands.rest) after in
       let read = size_read old new kept given pieces stream steps.fresh s d.stands b in
       inr (omega (arith, enough, bytes, sum, read))
+
+-- what a session has taken so far of a source that tells its bytes
+pub reads_to : (new : Reader) (kept : ℕ) (pieces : List Piece) (stream before after : List ℕ) → Stands new pieces kept stream → IsLeft before after kept stream → ReadsTo new.kind new.paths kept (drop kept before) pieces new.taken
+reads_to new kept pieces stream before after t left =
+    let tail : drop kept before ≡ stream ++ after = ap (λ (n : ℕ). drop n before) (sym left.size) ∙ ap (drop (length left.dropped)) left.bytes ∙ drop-append_seam left.dropped (stream ++ after) in
+    record {
+      lines = t.lines;
+      rest = (ended t.held ++ t.rest) ++ after;
+      cut = tail ∙ ap (λ (bytes : List ℕ). bytes ++ after) (t.cut ∙ spelt t.lines t.held t.rest) ∙ append_assoc (ended t.lines) (ended t.held ++ t.rest) after;
+      plain = plain_first t.lines t.held t.plain;
+      gives = t.gives;
+      place = t.taken;
+    }
 
 -- lines end with a line feed
 ends_with_feed : (line : List ℕ) (lines : List (List ℕ)) → (begun : List ℕ) × (ended (line ∷ lines) ≡ begun ++ 10 ∷ [])

@@ -37,17 +37,21 @@ TakesFront Audit from bytes lines = BeginWith (front_lines bytes) lines ⊎ Take
 TakesFront Changes from bytes lines = BeginWith (front_lines bytes) lines
 TakesFront Tables from bytes lines = BeginWith (front_lines bytes) lines
 
--- What a step takes of a source that has these bytes behind the offset `from`, where it may take `most` records, and where it ends: the
--- records of the first lines, exactly as many as it may, or of all lines of the first 16777216 bytes.
-pub record Takes (kind : SourceKind) (paths : List Category) (from : ℕ) (bytes : List ℕ) (most : ℕ) (pieces : List Piece) (to : ℕ) : Type 0 where
+-- of a source that has these bytes behind the offset `from` these are the records of the lines between `from` and `to`
+pub record ReadsTo (kind : SourceKind) (paths : List Category) (from : ℕ) (bytes : List ℕ) (pieces : List Piece) (to : ℕ) : Type 0 where
   pub lines : List (List ℕ)
   pub rest : List ℕ
   pub cut : bytes ≡ ended lines ++ rest
   pub plain : HaveNoFeed lines
   pub gives : Gives kind paths from lines pieces
   pub place : to ≡ from + length (ended lines)
+
+-- What a step takes of a source that has these bytes behind the offset `from`, where it may take `most` records: as many records of the
+-- first lines, or all lines of the first 16777216 bytes.
+pub record Takes (kind : SourceKind) (paths : List Category) (from : ℕ) (bytes : List ℕ) (most : ℕ) (pieces : List Piece) (to : ℕ) : Type 0 where
+  pub reads : ReadsTo kind paths from bytes pieces to
   pub few : length pieces ≤ most
-  pub all : (length pieces ≡ most) ⊎ TakesFront kind from bytes lines
+  pub all : (length pieces ≡ most) ⊎ TakesFront kind from bytes reads.lines
 
 -- the place is behind the last line feed of the bytes at or after `kept`, or `kept` where there is none
 pub record IsBehindLastFeed (kept : ℕ) (bytes : List ℕ) (place : ℕ) : Type 0 where

@@ -5,6 +5,7 @@ ghost use Rattle.osq_outside.specs.Causes.{FaultHasCause};
 ghost use Rattle.publisher_core.specs.declared.error.StepError.{StepError};
 ghost use Rattle.publisher_core.specs.declared.record.Piece.{Piece};
 ghost use Rattle.publisher_core.specs.Standing.{is_at_end};
+ghost use Rattle.publisher_core.specs.Stepping.{GrowsBy};
 ghost use Rattle.source_feeds.specs.Feeding.{Fed, IsOpen, SameFeed};
 ghost use Rattle.source_feeds.specs.Joining.{Rise};
 ghost use Rattle.source_feeds.specs.Readings.{IsReading};
@@ -121,6 +122,7 @@ impl Feed {
             → IfOk result (λ readings. IsStep S.tells before (S.left source.new) self.old self.new kept given most readings) }
         ensures each { IfOk result (λ readings. All IsReading readings) }
         ensures rise { IfOk result (λ readings. Rise self.old.reader.taken readings self.new.reader.taken) }
+        ensures grown { IfOk result (λ readings. GrowsBy self.old.reader.taken self.new.reader.taken readings) }
         ensures same { OnOk result (SameFeed self.old self.new) }
         ensures spent { IfErr result (λ error. self.new.reader.is_spent ≡ true) }
         ensures source { (self.new.name ≡ self.old.name) × (self.new.kind ≡ self.old.kind) }

@@ -2,6 +2,7 @@
 #![tactic(auto)]
 
 pub mod feed;
+pub mod laws;
 mod skips;
 
 pub use feed::Feed;

@@ -34,3 +34,8 @@ returns-in-Ok-clause-rise g c =
     let h = c.self.invariant (ap (λ (f : Feeding). f.reader.is_spent) c.self.view_is ∙ c.requires.begun.1) in
     subst (λ (f : Feeding). Rise f.reader.taken c.in-Ok.readings c.step.new.self.taken) c.self.view_is
     (shaped g.S.Source.tells _ _ c.self.inside.kind c.self.inside.publisher c.step.new.self c.args.most c.in-Ok.readings h (c.in-Ok.ensures.steps h.pieces h.kept h.stream h.stands) (c.in-Ok.ensures.grown h.pieces h.kept h.stream h.stands) c.in-Ok.ensures.same).rise
+
+pub returns-in-Ok-clause-grown : goal.returns-in-Ok-clause-grown
+returns-in-Ok-clause-grown g c =
+    let h = c.self.invariant (ap (λ (f : Feeding). f.reader.is_spent) c.self.view_is ∙ c.requires.begun.1) in
+    subst (λ (f : Feeding). GrowsBy f.reader.taken c.step.new.self.taken c.in-Ok.readings) c.self.view_is (c.in-Ok.ensures.grown h.pieces h.kept h.stream h.stands)
