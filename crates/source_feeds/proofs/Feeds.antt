@@ -1,5 +1,5 @@
 -- What a feed stands for behind its calls.
-use Rattle.std.proofs.Common.{◌≡◌, ◌⊎◌, inl, inr, ℕ, ◌+◌, ◌-◌, ◌^◌, ◌≤◌, ◌<◌, min, true, false, List, [], ◌∷◌, ◌++◌, length, drop, refl, sym, ap, subst, ◌∙◌, arith, append_assoc, Result, Ok, Err, OnOk, IfErr}
+use Rattle.std.proofs.Common.{◌≡◌, ℕ, ◌+◌, ◌≤◌, true, false, List, [], ◌∷◌, ◌++◌, length, drop, sym, ap, subst, ◌∙◌, arith, append_assoc, Result, Ok, Err, OnOk, IfErr}
 use Rattle.std.specs.Prelude.{All}
 use Rattle.std.proofs.lemmas.Bool.{true≢false}
 use Rattle.osq_value.specs.declared.reading.Category.{Category}
@@ -8,8 +8,7 @@ use Rattle.publisher_core.specs.declared.error.StepError.{StepError}
 use Rattle.publisher_core.specs.declared.record.Piece.{Piece}
 use Rattle.publisher_core.specs.declared.record.SourceKind.{SourceKind}
 use Rattle.publisher_core.specs.Readings.{readings_of, skipped_of}
-use Rattle.publisher_core.specs.Records.{ended}
-use Rattle.publisher_core.specs.Standing.{Gives, Reader, Stands}
+use Rattle.publisher_core.specs.Standing.{Reader, Stands}
 use Rattle.publisher_core.specs.Stepping.{GrowsBy, SameSource, Steps}
 use Rattle.source_feeds.specs.Feeding.{Fed, Feeding, HasRead, IsLeft, IsOpen, counted}
 use Rattle.source_feeds.specs.Joining.{Rise, skipped_told}

@@ -1,19 +1,18 @@
 -- The last group of the lines of a step.
-use Rattle.std.proofs.Common.{◌≡◌, ◌⊎◌, inl, inr, ℕ, ◌+◌, ◌<◌, Bool, true, false, List, [], ◌∷◌, ◌++◌, length, take, map, flat_map, is_some, IsTrue, Option, Some, None, refl, sym, ap, subst, ◌∙◌, arith, append_assoc, length-append}
+use Rattle.std.proofs.Common.{◌≡◌, ◌⊎◌, inl, inr, ℕ, ◌+◌, Bool, true, false, List, [], ◌∷◌, ◌++◌, length, take, map, flat_map, is_some, IsTrue, Option, Some, None, refl, sym, ap, subst, ◌∙◌, arith, append_assoc}
 use Rattle.std.proofs.lemmas.List.{append_cancel_left}
 use Rattle.std.proofs.lemmas.Bool.{true≢false}
 use Rattle.std.proofs.lemmas.Grind.{flat_map-append}
 use Rattle.std.proofs.Math.Seq.{take-append_seam}
 use Rattle.audit_records.specs.declared.line.AuditLine.{AuditLine}
-use Rattle.audit_records.specs.Groups.{goes_on, groups_of, whole}
-use Rattle.audit_records.specs.Runs.{AreRunsOf, AreWholeRuns, BeginsAnew, IsRun}
+use Rattle.audit_records.specs.Groups.{groups_of, whole}
+use Rattle.audit_records.specs.Runs.{AreWholeRuns, BeginsAnew, IsRun}
 use Rattle.audit_records.proofs.Runs.{groups_of-runs}
 use Rattle.publisher_core.specs.declared.gathering.AuditRecord.{AuditRecord}
-use Rattle.publisher_core.specs.declared.gathering.Gathering.{Gathering}
 use Rattle.publisher_core.specs.declared.record.Piece.{Piece}
 use Rattle.publisher_core.specs.declared.record.SourceKind.TheVariants.{Audit}
-use Rattle.publisher_core.specs.Audit.{items_of, line_in}
-use Rattle.publisher_core.specs.AuditParts.{Item, AreRecordsOf, BeginsWithLine, groups_in, lines_in}
+use Rattle.publisher_core.specs.Audit.{items_of}
+use Rattle.publisher_core.specs.AuditParts.{Item, AreRecordsOf, BeginsWithLine, lines_in}
 use Rattle.publisher_core.specs.Gathered as gathered
 use Rattle.publisher_core.specs.Gathered.{IsBody, skipped_line}
 use Rattle.publisher_core.specs.Records.{ended}

@@ -1,11 +1,10 @@
 -- What a step takes, from what its publisher stands for before and behind it.
-use Rattle.std.proofs.Common.{◌≡◌, ◌⊎◌, inl, inr, ℕ, ◌+◌, ◌≤◌, ◌<◌, Bool, true, false, ◌&&◌, ◌==◌, List, [], ◌∷◌, ◌++◌, length, take, drop, refl, sym, ap, subst, ◌∙◌, arith, append_assoc, append-nil, length-append}
+use Rattle.std.proofs.Common.{◌≡◌, ◌⊎◌, inl, inr, ℕ, ◌+◌, ◌≤◌, ◌<◌, Bool, true, false, ◌&&◌, ◌==◌, List, [], ◌∷◌, ◌++◌, length, drop, refl, sym, ap, subst, ◌∙◌, arith, append_assoc, append-nil, length-append}
 use Rattle.std.proofs.lemmas.Bool.{true≢false}
 use Rattle.std.proofs.Math.Seq.{drop-append_seam}
 use Rattle.osq_value.specs.declared.reading.Category.{Category}
-use Rattle.audit_records.specs.declared.line.AuditLine.{AuditLine}
 use Rattle.audit_records.specs.Groups.{groups_of, whole}
-use Rattle.record_lines.specs.Lines.{HasNoFeed, lines_of}
+use Rattle.record_lines.specs.Lines.{lines_of}
 use Rattle.publisher_core.specs.declared.record.Piece.{Piece}
 use Rattle.publisher_core.specs.declared.record.SourceKind.{SourceKind}
 use Rattle.publisher_core.specs.declared.record.SourceKind.TheVariants.{Audit, Changes, Tables}
@@ -13,11 +12,11 @@ use Rattle.publisher_core.specs.Audit.{items_of}
 use Rattle.publisher_core.specs.AuditParts.{BeginsWithLine, lines_in}
 use Rattle.publisher_core.specs.Records.{ended, HaveNoFeed}
 use Rattle.publisher_core.specs.Standing.{Gives, Reader, Stands, Waits, is_at_end}
-use Rattle.publisher_core.specs.Stepping.{HoldsLast, IsDry, SameSource, Steps, STEP_BYTES}
+use Rattle.publisher_core.specs.Stepping.{HoldsLast, IsDry, Steps, STEP_BYTES}
 use Rattle.publisher_core.proofs.Given.{ended-append}
 use Rattle.publisher_core.proofs.Standing.{over_dry}
 use Rattle.source_feeds.specs.Feeding.{IsLeft}
-use Rattle.source_feeds.specs.Taking.{BeginWith, IsBehindLastFeed, ReadsTo, Takes, TakesAll, TakesFront, TakesGroups, front_lines}
+use Rattle.source_feeds.specs.Taking.{BeginWith, ReadsTo, Takes, TakesAll, TakesFront, TakesGroups, front_lines}
 use Rattle.source_feeds.proofs.Cuts.{Longer, compare, front_taken, more_lines, plain_first, plain_last, whole_lines}
 use Rattle.source_feeds.proofs.Groups.{held_begins, held_groups, short_groups}
 use Rattle.source_feeds.proofs.Splits.{audit_split, gives_split}

@@ -1,5 +1,5 @@
-use Rattle.std.proofs.Common.{◌≡◌, ◌∙◌, List, [], ap, subst, sym}
-use Rattle.publisher_core.specs.Standing.{Reader, Stands}
+use Rattle.std.proofs.Common.{◌∙◌, [], ap, subst, sym}
+use Rattle.publisher_core.specs.Standing.{Stands}
 use Rattle.source_feeds.specs.Feeding.{Feeding}
 use Rattle.source_feeds.proofs.Feeds.{started, started_fed}
 use Rattle.source_feeds.proofs.feed.Feed.start.Goals as goal

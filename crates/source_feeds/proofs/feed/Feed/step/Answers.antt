@@ -1,5 +1,4 @@
-use Rattle.std.proofs.Common.{◌≡◌, ◌∙◌, ◌+◌, ℕ, List, ap, subst, sym, refl}
-use Rattle.std.specs.Prelude.{All}
+use Rattle.std.proofs.Common.{◌∙◌, ◌+◌, List, ap, subst, sym, refl}
 use Rattle.osq_value.specs.declared.reading.Reading.{Reading}
 use Rattle.publisher_core.specs.Stepping.{GrowsBy}
 use Rattle.source_feeds.specs.Feeding.{Feeding, Fed, counted}
