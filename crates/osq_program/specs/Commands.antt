@@ -1,5 +1,5 @@
 -- The commands, and the words of each.
-use Rattle.std.specs.Prelude.{◌≡◌, ◌≢◌, ◌⊎◌, ℕ, ◌==◌, ◌&&◌, ◌||◌, Bool, if◌then◌else◌, List, length, Option, None, Some, codes}
+use Rattle.std.specs.Prelude.{◌≡◌, ◌≢◌, ◌⊎◌, ℕ, ◌==◌, ◌&&◌, ◌||◌, Bool, if◌then◌else◌, is_some, List, length, Option, None, Some, codes}
 use Rattle.std.specs.Option.{option_map}
 use Rattle.osq_program.specs.Words.{is_at, is_host, is_value, number_of, word_at}
 
@@ -17,6 +17,10 @@ pub record Query : Type 0 where
   pub start : ℕ
   pub tables : Option (List ℕ)  -- the source of table lines, if there is one
 
+-- the plan of one text
+pub record Explain : Type 0 where
+  pub text : List ℕ
+
 -- the schedule that a configuration gives a host
 pub record Check : Type 0 where
   pub config : List ℕ
@@ -27,6 +31,7 @@ pub record Check : Type 0 where
 pub data Command : Type 0 where
   Replays : (replay : Replay) → Command
   Queries : (query : Query) → Command
+  Explains : (explain : Explain) → Command
   Checks : (check : Check) → Command
 
 -- the words that name the others
@@ -63,6 +68,20 @@ query_of words =
     then query_with (word_at words 2) (number_of (word_at words 4)) (Some (word_at words 6))
     else None)
 
+abbrev pub has_explain_names : List (List ℕ) → Bool
+has_explain_names words = is_at words 1 (codes "--explain") && is_at words 2 (codes "--text")
+
+abbrev pub explain_with : List ℕ → Option Explain
+explain_with text = if is_value text then Some (record { text = text }) else None
+
+-- `query --explain --text T`, in this order, or the same and then `--start N`, a number that nothing is done with
+abbrev pub explain_of : List (List ℕ) → Option Explain
+explain_of words =
+    if (length words == 4) && has_explain_names words then explain_with (word_at words 3)
+    else (if (length words == 6) && has_explain_names words && is_at words 4 (codes "--start") && is_some (number_of (word_at words 5))
+    then explain_with (word_at words 3)
+    else None)
+
 abbrev pub has_check_names : List (List ℕ) → Bool
 has_check_names words = is_at words 1 (codes "--config") && is_at words 3 (codes "--host")
 
@@ -92,9 +111,10 @@ check_of words =
 abbrev pub words_of : List (List ℕ) → Option Command
 words_of words =
     if is_at words 0 (codes "replay") then option_map Replays (replay_of words)
+    else (if is_at words 0 (codes "query") && is_at words 1 (codes "--explain") then option_map Explains (explain_of words)
     else (if is_at words 0 (codes "query") then option_map Queries (query_of words)
     else (if is_at words 0 (codes "check") then option_map Checks (check_of words)
-    else None))
+    else None)))
 
 abbrev pub count_of : Option (List ℕ) → ℕ
 count_of None = 0
@@ -104,6 +124,7 @@ count_of (Some name) = 1
 abbrev pub sources_of : Command → ℕ
 sources_of (Replays replay) = 1
 sources_of (Queries query) = count_of query.tables
+sources_of (Explains explain) = 0
 sources_of (Checks check) = 0
 
 -- the words are those of no command, or there are other sources than they name

@@ -37,7 +37,7 @@ use sql_planner::{plan_of, run_plan};
 use std::alloc::Global;
 
 /// The query that the text asks for.
-fn asked(alloc: Global, text: &str) -> Result<Query, Status>
+pub(crate) fn asked(alloc: Global, text: &str) -> Result<Query, Status>
     ensures query { IfOk result (λ query. query_in text.now ≡ Some (query_of query)) }
     ensures accepted { OnOk result (text_fault text.now ≡ None) }
     ensures cause { IfErr result (IsCaused (record no_causes { query = IsRefusedAt text.now })) }

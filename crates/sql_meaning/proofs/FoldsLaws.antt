@@ -14,7 +14,7 @@ use Rattle.sql_meaning.specs.Firsts.{same_values}
 use Rattle.sql_scalar.specs.Arithmetic.{whole, within}
 use Rattle.sql_meaning.specs.Folds.{different, sum_over, total}
 use Rattle.sql_meaning.specs.Looks.{chosen, nearer_of}
-use Rattle.sql_meaning.proofs.Equality.{same_value}
+use Rattle.sql_meaning.specs.SameValues.{same_value}
 use Rattle.sql_meaning.proofs.HashedLaws.{insert_key-made}
 
 abbrev alone : Value → List Value

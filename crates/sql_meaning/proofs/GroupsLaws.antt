@@ -6,6 +6,11 @@ use Rattle.std.proofs.lemmas.List.Elements.{filter-append}
 use Rattle.osq_value.specs.declared.value.Value.{Value}
 use Rattle.sql_meaning.specs.Firsts.{same_values, firsts_by}
 use Rattle.sql_meaning.specs.declared.groups.Keyed.{Keyed}
+use Rattle.sql_meaning.specs.declared.joined.Joined.{Joined}
+use Rattle.sql_meaning.specs.Keyed.{member_of}
+use Rattle.sql_meaning.specs.Lent.{values_in}
+use Rattle.sql_meaning.specs.Worths.{worths}
+use Rattle.sql_meaning.proofs.Mapped.{groups_mapped, maps_twice}
 use Rattle.sql_meaning.specs.Groups.{groups_by}
 use Rattle.sql_meaning.proofs.FirstsLaws.{same_values-exact, same_values-itself, same_values-turned, any_firsts, differs, firsts_by-push, has_key}
 
@@ -140,45 +145,27 @@ module _ {X : Type 0} (key : X → List Value) where
     groups-are xs = lists_from xs (firsts_by key xs)
 
 abbrev pub key_in : Keyed → List Value
-key_in member = member.key
+key_in member = worths member.key
 
-abbrev pub row_in : Keyed → List Value
+abbrev pub row_in : Keyed → Joined
 row_in member = member.row
 
--- a row with the values that f gives of it
-abbrev pub keyed_by : (List Value → List Value) → List Value → Keyed
-keyed_by f row = record { key = f row; row = row }
+lent_back : (rows : List Joined) (f : List Value → List Value) → map (λ (pair : List Value × Joined). pair.1) (map (λ row. (f (values_in row), row)) rows) ≡ rows
+lent_back [] f = refl
+lent_back (row ∷ rows) f = ap (λ (rest : List Joined). row ∷ rest) (lent_back rows f)
 
-module _ (f : List Value → List Value) where
-  kept_if : (p : Keyed → Bool) (row : List Value) (rows : List (List Value)) (kept : List Keyed) → kept ≡ map (keyed_by f) rows → (s : Bool)
-      → cond s (keyed_by f row ∷ kept) kept ≡ map (keyed_by f) (cond s (row ∷ rows) rows)
-  kept_if p row rows kept h true = ap (λ (members : List Keyed). keyed_by f row ∷ members) h
-  kept_if p row rows kept h false = h
+all_back : (lists : List (List Joined)) (f : List Value → List Value) → map (map (λ (pair : List Value × Joined). pair.1)) (map (map (λ row. (f (values_in row), row))) lists) ≡ lists
+all_back [] f = refl
+all_back (rows ∷ lists) f = ap₂ (λ (first : List Joined) (rest : List (List Joined)). first ∷ rest) (lent_back rows f) (all_back lists f)
 
-  filter_keyed : (p : Keyed → Bool) (rows : List (List Value)) → filter p (map (keyed_by f) rows) ≡ map (keyed_by f) (filter (λ row. p (keyed_by f row)) rows)
-  filter_keyed p [] = refl
-  filter_keyed p (row ∷ rows) = kept_if p row (filter (λ r. p (keyed_by f r)) rows) (filter p (map (keyed_by f) rows)) (filter_keyed p rows) (p (keyed_by f row))
-
-  rows_back : (rows : List (List Value)) → map row_in (map (keyed_by f) rows) ≡ rows
-  rows_back [] = refl
-  rows_back (row ∷ rows) = ap (λ (rest : List (List Value)). row ∷ rest) (rows_back rows)
-
-  firsts_keyed : (rows : List (List Value)) → firsts_by key_in (map (keyed_by f) rows) ≡ map (keyed_by f) (firsts_by f rows)
-  firsts_keyed [] = refl
-  firsts_keyed (row ∷ rows) =
-      ap (λ (members : List Keyed). keyed_by f row ∷ filter (differs key_in (keyed_by f row)) members) (firsts_keyed rows)
-      ∙ ap (λ (members : List Keyed). keyed_by f row ∷ members) (filter_keyed (differs key_in (keyed_by f row)) (firsts_by f rows))
-
-  rows_keyed : (rows firsts : List (List Value)) → map (rows_of key_in row_in (map (keyed_by f) rows)) (map (keyed_by f) firsts) ≡ map (λ first. filter (λ row. same_values (f first) (f row)) rows) firsts
-  rows_keyed rows [] = refl
-  rows_keyed rows (first ∷ firsts) =
-      ap₂ (λ (g : List (List Value)) (gs : List (List (List Value))). g ∷ gs)
-      (ap (map row_in) (filter_keyed (λ member. same_values (f first) member.key) rows) ∙ rows_back (filter (λ row. same_values (f first) (f row)) rows))
-      (rows_keyed rows firsts)
-
-  -- grouping rows by values that are kept beside them is grouping the rows
-  pub groups-keyed : (rows : List (List Value)) → map (map row_in) (groups_by key_in (map (keyed_by f) rows)) ≡ groups_by f rows
-  groups-keyed rows =
-      groups-are key_in row_in (map (keyed_by f) rows)
-      ∙ ap (map (rows_of key_in row_in (map (keyed_by f) rows))) (firsts_keyed rows)
-      ∙ rows_keyed rows (firsts_by f rows)
+-- grouping rows by values that are kept beside them is grouping the rows
+pub groups-keyed : (f : List Value → List Value) (members : List Keyed) (rows : List Joined) → map member_of members ≡ map (λ row. (f (values_in row), row)) rows
+    → map (map values_in) (map (map row_in) (groups_by key_in members)) ≡ groups_by f (map values_in rows)
+groups-keyed f members rows are =
+    let first : List Value × Joined → List Value = λ pair. pair.0 in
+    let second : List Value × Joined → Joined = λ pair. pair.1 in
+    ap (map (map values_in))
+    (sym (maps_twice second member_of (groups_by key_in members))
+    ∙ ap (map (map second)) (sym (groups_mapped member_of first members) ∙ ap (λ (pairs : List (List Value × Joined)). groups_by first pairs) are ∙ groups_mapped (λ row. (f (values_in row), row)) first rows)
+    ∙ all_back (groups_by (λ row. f (values_in row)) rows) f)
+    ∙ sym (groups_mapped values_in f rows)

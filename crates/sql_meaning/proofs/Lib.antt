@@ -6,6 +6,8 @@ pub mod GroupsLaws
 pub mod HashedLaws
 pub mod Known
 pub mod KnownMeaning
+pub mod Lending
+pub mod Mapped
 pub mod OrderLaws
 pub mod Parts
 pub mod Sorting

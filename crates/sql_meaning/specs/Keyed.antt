@@ -3,7 +3,15 @@ use Rattle.std.specs.Prelude.{List}
 use Rattle.osq_value.specs.declared.value.Value.{Value}
 use Rattle.sql_names.specs.Exprs.{ExprTree}
 use Rattle.sql_meaning.specs.declared.groups.Keyed.{Keyed}
+use Rattle.sql_meaning.specs.declared.joined.Joined.{Joined}
+use Rattle.sql_meaning.specs.Lent.{values_in}
 use Rattle.sql_meaning.specs.Steps.{key_values}
+use Rattle.sql_meaning.specs.Worths.{worths}
 
-abbrev pub keyed_by : List ExprTree → List Value → Keyed
-keyed_by keys row = record { key = key_values keys row; row = row }
+-- a row with the values of GROUP BY
+abbrev pub keyed_by : List ExprTree → Joined → List Value × Joined
+keyed_by keys row = (key_values keys (values_in row), row)
+
+-- the same of a member
+abbrev pub member_of : Keyed → List Value × Joined
+member_of member = (worths member.key, member.row)

@@ -2,11 +2,11 @@
 ghost use Rattle.std.specs.Prelude.{◌≡◌, take};
 ghost use Rattle.sql_meaning.specs.Cut.{cut_by, kept_by, passed_over};
 
-use osq_value::{Row, RowList};
+use osq_value::Sequence;
 
 /// The rows behind the first `skip`, where a negative number or none skips none, and of these the first `limit`, where a
 /// negative number or none keeps all. The rows stay where they are, and no memory is taken.
-pub fn cut(rows: RowList, limit: Option<i64>, skip: Option<i64>) -> RowList
+pub fn cut<T: Drop>(rows: Sequence<T>, limit: Option<i64>, skip: Option<i64>) -> Sequence<T>
     ensures { result ≡ cut_by limit skip rows }
 {
     let mut kept = rows.into_vec();
@@ -14,11 +14,11 @@ pub fn cut(rows: RowList, limit: Option<i64>, skip: Option<i64>) -> RowList
     let rest = kept.len() - passed;
     kept.rotate_left(passed);
     kept.truncate(rest);
-    RowList::from_vec(first_rows(kept, limit))
+    Sequence::from_vec(first_rows(kept, limit))
 }
 
 /// The rows that LIMIT keeps.
-fn first_rows(rows: Vec<Row>, limit: Option<i64>) -> Vec<Row>
+fn first_rows<T: Drop>(rows: Vec<T>, limit: Option<i64>) -> Vec<T>
     ensures { result.items ≡ kept_by limit rows.items }
 {
     let mut kept = rows;

@@ -1,14 +1,19 @@
 //! What an expression is worth over a row, or over a group of rows.
-ghost use Rattle.std.specs.Prelude.{◌≡◌, ◌++◌, IfOk, map, length};
+ghost use Rattle.std.specs.Prelude.{◌≡◌, IfOk, map, unwrap_or};
+ghost use Rattle.osq_value.specs.declared.value.Value.TheVariants.{Null};
 ghost use Rattle.std.specs.Option.{option_copied};
 ghost use Rattle.sql_names.specs.View.{expr_of, step_of, steps_of, exprs_of, aggregate_of};
 ghost use Rattle.sql_meaning.specs.Expressions.{affinity_of as affinity_in, alone, cast_of, holds as holds_in, is_true as is_true_value, negated as negated_by, value_at, value_of, value_after, value_by, values_of};
-ghost use Rattle.sql_meaning.specs.Over.{environment_of, worth_of};
+ghost use Rattle.sql_meaning.specs.Lent.{values_in};
+ghost use Rattle.sql_meaning.specs.Over.{environment_of};
+ghost use Rattle.sql_meaning.specs.Worths.{worth_of};
 ghost use Rattle.sql_meaning.specs.Steps.{first_row};
 ghost use Rattle.sql_scalar.specs.Comparison.{in_of, between_of};
 
 use crate::folds::{count_rows, fold_values};
-use osq_value::{Affinity, Copied, NoMemory, Row, Value, cast_int, cast_text};
+use crate::joined::{Joined, value_in, value_in_first};
+use crate::worth::Worth;
+use osq_value::{Affinity, NoMemory, Row, Value, cast_int, cast_text};
 use sql_names::tree::{Aggregate, Expr, ExprStep};
 use sql_parser::tree::Operator;
 use sql_scalar::{apply, call, minus, negation, truth};
@@ -18,45 +23,11 @@ use std::alloc::Global;
 #[derive(Clone, Copy)]
 pub enum Over<'a> {
     /// A row by itself: an aggregate over it is Null.
-    Row {
-        values: &'a [Value],
-    },
-    /// The rows of a group: a column outside the aggregates is that of the first row, Null where there is none.
-    Group {
-        rows: &'a [Row],
-    },
-    /// Two rows as one, the values of the right one behind those of the left one.
-    Pair {
-        left: &'a [Value],
-        right: &'a [Value],
-    },
-}
-
-/// What an expression is worth: a value that stands in the row or in the expression, or one that was made.
-#[derive(Drop)]
-pub enum Worth<'a> {
-    Held { value: &'a Value },
-    Made { value: Value },
-}
-
-impl<'a> Worth<'a> {
-    fn as_value(&self) -> &Value
-        ensures { result.now ≡ worth_of self.now }
-    {
-        match self {
-            Worth::Held { value } => value,
-            Worth::Made { value } => value,
-        }
-    }
-
-    fn into_value(self, alloc: Global) -> Result<Value, NoMemory>
-        ensures { IfOk result (λ value. value ≡ worth_of self.entry) }
-    {
-        match self {
-            Worth::Held { value } => value.copy(alloc),
-            Worth::Made { value } => Ok(value),
-        }
-    }
+    Row { values: &'a [Value] },
+    /// A joined row by itself.
+    Lent { row: Joined<'a> },
+    /// The joined rows of a group: a column outside the aggregates is that of the first row, Null where there is none.
+    Group { rows: &'a [Joined<'a>] },
 }
 
 /// The value of an expression over a row. A column whose place lies beyond the row is Null, and so is an aggregate.
@@ -70,7 +41,7 @@ pub fn evaluate(alloc: Global, expression: &Expr, row: &Row) -> Result<Value, No
 }
 
 /// The value of an expression over a row or a group.
-pub(crate) fn value(alloc: Global, over: Over, expr: &Expr) -> Result<Value, NoMemory>
+fn value(alloc: Global, over: Over, expr: &Expr) -> Result<Value, NoMemory>
     ensures { IfOk result (λ value. value ≡ value_of (environment_of over.entry) (expr_of expr.now)) }
 {
     evaluate_over(alloc, over, expr)?.into_value(alloc)
@@ -115,32 +86,17 @@ fn column(over: Over, place: u32) -> Worth
     ensures { worth_of result ≡ value_at (environment_of over.entry).row place }
 {
     match over {
-        Over::Row { values } => held(values, place as usize),
-        Over::Group { rows } => match rows.first() {
-            None => Worth::Made { value: Value::Null },
-            Some(row) => held(row.as_slice(), place as usize),
-        },
-        Over::Pair { left, right } => held_of_two(left, right, place),
+        Over::Row { values } => held(values.get(place as usize)),
+        Over::Lent { row } => held(value_in(row, place)),
+        Over::Group { rows } => held(value_in_first(rows, place)),
     }
 }
 
-/// The value at a place among those of two rows, Null beyond the end.
-fn held_of_two<'a>(left: &'a [Value], right: &'a [Value], place: u32) -> Worth<'a>
-    ensures { worth_of result ≡ value_at (left.now ++ right.now) place }
+/// A value that was found, and else Null.
+fn held(found: Option<&Value>) -> Worth
+    ensures { worth_of result ≡ unwrap_or (option_copied found.entry) Null }
 {
-    let at = place as usize;
-    if at < left.len() {
-        held(left, at)
-    } else {
-        held(right, at - left.len())
-    }
-}
-
-/// The value at a place, Null beyond the end.
-fn held(values: &[Value], place: usize) -> Worth
-    ensures { worth_of result ≡ value_at values.now place }
-{
-    match values.get(place) {
+    match found {
         None => Worth::Made { value: Value::Null },
         Some(value) => Worth::Held { value },
     }
@@ -196,7 +152,11 @@ fn between(alloc: Global, side: Side, low: Side, high: Side) -> Result<Value, No
 
 /// What an expression is worth over a row or a group.
 #[cycle(evaluate)]
-fn evaluate_over<'a>(alloc: Global, over: Over<'a>, expr: &'a Expr) -> Result<Worth<'a>, NoMemory>
+pub(crate) fn evaluate_over<'a>(
+    alloc: Global,
+    over: Over<'a>,
+    expr: &'a Expr,
+) -> Result<Worth<'a>, NoMemory>
     ensures { IfOk result (λ w. worth_of w ≡ value_of (environment_of over.entry) (expr_of expr.now)) }
 {
     match expr {
@@ -332,7 +292,7 @@ fn folded(alloc: Global, over: Over, aggregate: &Aggregate) -> Result<Value, NoM
 {
     match over {
         Over::Row { .. } => Ok(Value::Null),
-        Over::Pair { .. } => Ok(Value::Null),
+        Over::Lent { .. } => Ok(Value::Null),
         Over::Group { rows } => match &aggregate.argument {
             None => count_rows(aggregate.fold, rows.len()),
             Some(argument) => {
@@ -345,14 +305,12 @@ fn folded(alloc: Global, over: Over, aggregate: &Aggregate) -> Result<Value, NoM
 
 /// The values of an expression over each row by itself.
 #[cycle(evaluate)]
-fn column_values(alloc: Global, rows: &[Row], expr: &Expr) -> Result<Row, NoMemory>
-    ensures { IfOk result (λ values. values ≡ map (λ row. value_of (alone row) (expr_of expr.now)) rows.now) }
+fn column_values(alloc: Global, rows: &[Joined], expr: &Expr) -> Result<Row, NoMemory>
+    ensures { IfOk result (λ values. values ≡ map (λ row. value_of (alone row) (expr_of expr.now)) (map values_in rows.now)) }
 {
-    let mut values = Row::new(alloc);
+    let mut values = Row::with_capacity(alloc, rows.len())?;
     for row in rows {
-        let over = Over::Row {
-            values: row.as_slice(),
-        };
+        let over = Over::Lent { row: *row };
         values.push(evaluate_over(alloc, over, expr)?.into_value(alloc)?)?;
     }
     Ok(values)

@@ -2,18 +2,24 @@
 ghost use Rattle.std.specs.Prelude.{◌≡◌, IfOk, map, take};
 ghost use Rattle.sql_meaning.specs.Firsts.{firsts_by};
 ghost use Rattle.sql_meaning.specs.Fronts.{fronted};
+ghost use Rattle.sql_meaning.specs.Worths.{worths};
 
 use crate::front::Front;
+use crate::worth::{ResultRowList, Worth};
 use indexmap::IndexSet;
-use osq_value::{NoMemory, RowList, Value};
+use osq_value::NoMemory;
 use std::alloc::Global;
 
 /// The rows whose first `width` values no earlier row has, as DISTINCT keeps them: Null is equal to Null, and no number
 /// to a text. Each row is hashed once, and moved.
-pub fn firsts(alloc: Global, rows: RowList, width: usize) -> Result<RowList, NoMemory>
-    ensures { IfOk result (λ firsts. firsts ≡ firsts_by (λ row. take width row) rows) }
+pub fn firsts<'a>(
+    alloc: Global,
+    rows: ResultRowList<'a>,
+    width: usize,
+) -> Result<ResultRowList<'a>, NoMemory>
+    ensures { IfOk result (λ firsts. firsts ≡ firsts_by (λ row. take width (worths row)) rows.entry) }
 {
-    let mut firsts = RowList::new(alloc);
+    let mut firsts = ResultRowList::new(alloc);
     for front in first_fronts(alloc, rows, width)? {
         firsts.push(front.items)?;
     }
@@ -21,12 +27,12 @@ pub fn firsts(alloc: Global, rows: RowList, width: usize) -> Result<RowList, NoM
 }
 
 /// The same rows, which are found by their hash.
-fn first_fronts(
+fn first_fronts<'a>(
     alloc: Global,
-    rows: RowList,
+    rows: ResultRowList<'a>,
     width: usize,
-) -> Result<IndexSet<Front<Value>>, NoMemory>
-    ensures { IfOk result (λ firsts. firsts.keys ≡ map (fronted width) (firsts_by (λ row. take width row) rows)) }
+) -> Result<IndexSet<Front<Worth<'a>>>, NoMemory>
+    ensures { IfOk result (λ firsts. firsts.keys ≡ map (fronted width) (firsts_by (λ row. take width (worths row)) rows.entry)) }
 {
     let mut firsts = IndexSet::new(alloc);
     for items in rows.into_vec() {

@@ -1,4 +1,5 @@
 mod Chains
 mod Joined
+mod OneTable
 mod Pieces
 mod Walked

@@ -3,3 +3,5 @@ pub mod Explained
 pub mod Joining
 pub mod Literals
 pub mod Plans
+pub mod Pushed
+pub mod Running

@@ -141,7 +141,7 @@ fn of_sides(op: ConstraintOp, place: Option<Place>, literal: Option<Literal>) ->
 }
 
 /// How an operator compares a column with a literal.
-fn compares_by(op: Operator) -> Option<ConstraintOp>
+pub(crate) fn compares_by(op: Operator) -> Option<ConstraintOp>
     ensures { result ≡ compares_by op }
 {
     match op {

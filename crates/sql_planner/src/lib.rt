@@ -9,6 +9,7 @@ mod planning;
 mod running;
 #[cfg(test)]
 mod running_tests;
+mod single;
 #[cfg(test)]
 mod tests;
 

@@ -261,6 +261,43 @@ fn joins_of_large_tables(rt: HostRuntime) -> Result<(), Failed> {
     Ok(())
 }
 
+/// What the flag `--explain` leaves of a text. The clock stands beyond its last moment, and there is a kept list; neither is looked at.
+fn explains(alloc: Global, text: &str, left: &Left<'_>) -> Result<bool, NoMemory> {
+    let case = Case {
+        text,
+        tables: None,
+        start: 253_402_300_800,
+        is_opened: true,
+        ..PLAIN
+    };
+    let mut outside = outside(alloc, &case)?;
+    let words = ["query", "--explain", "--text", text, "--start", "1000"];
+    let status = run_plain(alloc, &words, &mut outside);
+    let is_same = status.number() == left.number;
+    let has_lines = outside.results.written().as_slice() == left.results.as_bytes();
+    let has_status = outside.status.written().as_slice() == left.status.as_bytes();
+    Ok(is_same & has_lines & has_status)
+}
+
+#[test]
+fn explained_texts(rt: HostRuntime) -> Result<(), Failed> {
+    let joined = Left {
+        number: 0,
+        results: "scan process_events as p where pid > 10\nhash join users as u on uid = p.uid\n",
+        status: "",
+    };
+    let text =
+        "SELECT u.username FROM process_events p JOIN users u ON u.uid = p.uid WHERE p.pid > 10";
+    assert!(rt; explains(rt.alloc(), text, &joined)?);
+    let refused = Left {
+        number: 12,
+        results: "",
+        status: "osqd: status 12 QueryRefused place=7 kind=NoColumn\n",
+    };
+    assert!(rt; explains(rt.alloc(), "SELECT x FROM users", &refused)?);
+    Ok(())
+}
+
 #[test]
 fn refused_queries(rt: HostRuntime) -> Result<(), Failed> {
     let rows = [

@@ -1,5 +1,6 @@
 use Rattle.std.proofs.Common.{◌∙◌}
-use Rattle.sql_meaning.specs.Over.{environment_of, worth_of}
+use Rattle.sql_meaning.specs.Over.{environment_of}
+use Rattle.sql_meaning.specs.Worths.{worth_of}
 use Rattle.sql_meaning.proofs.Parts.{in-then, value_then, affinity_then, values_then}
 use Rattle.sql_meaning.proofs.expressions.+evaluate.Goals as goal
 

@@ -1,7 +1,9 @@
 use Rattle.std.proofs.Common.{◌≡◌, map, take}
 use Rattle.sql_names.specs.View.{expr_of, steps_of, exprs_of}
 use Rattle.sql_meaning.specs.Expressions.{affinity_after, alone, value_of, value_after, values_of}
-use Rattle.sql_meaning.specs.Over.{environment_of, worth_of}
+use Rattle.sql_meaning.specs.Lent.{values_in}
+use Rattle.sql_meaning.specs.Over.{environment_of}
+use Rattle.sql_meaning.specs.Worths.{worth_of}
 use Rattle.sql_scalar.specs.Comparison.{in_of}
 use Rattle.sql_meaning.proofs.expressions.+evaluate.Given as goal
 
@@ -14,7 +16,7 @@ invariant-chain-loop-step l =
     × (l.affinity ≡ affinity_after l.fn.affinity (steps_of (take l.step-index l.steps)))
 
 abbrev pub invariant-column_values-loop-row : goal.invariant-column_values-loop-row
-invariant-column_values-loop-row l = l.values ≡ map (λ row. value_of (alone row) (expr_of l.expr)) (take l.row-index l.rows)
+invariant-column_values-loop-row l = l.values ≡ map (λ row. value_of (alone row) (expr_of l.expr)) (map values_in (take l.row-index l.rows))
 
 abbrev pub invariant-values-loop-expr : goal.invariant-values-loop-expr
 invariant-values-loop-expr l = l.row ≡ values_of (environment_of l.over) (exprs_of (take l.expr-index l.exprs))

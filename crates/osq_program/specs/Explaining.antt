@@ -1,0 +1,36 @@
+-- What `query --explain` does.
+use Rattle.std.specs.Prelude.{◌≡◌, ℕ, List, ◌++◌, take, None, Some}
+use Rattle.sql_names.specs.Resolved.{QueryTree}
+use Rattle.sql_names.specs.TextFaults.{text_fault}
+use Rattle.sql_names.specs.Texts.{query_in}
+use Rattle.sql_planner.specs.Explained.{explained}
+use Rattle.sql_planner.specs.Plans.{planned}
+use Rattle.osq_program.specs.declared.status.Status.{Status}
+use Rattle.osq_program.specs.declared.status.Status.TheVariants.{Ok as Done, SinkFault}
+use Rattle.osq_program.specs.Answers.{Causes, IsCaused, IsSpentStatus, IsDoneStatus, IsRefusal, no_causes}
+use Rattle.osq_program.specs.Commands.{Explain}
+use Rattle.osq_program.specs.Querying.{IsRefusedAt}
+use Rattle.osq_program.specs.Told.{Told}
+
+-- the text is a query, and these bytes show the plan of it
+pub record ShowsPlan (w : Explain) (shown : List ℕ) : Type 0 where
+  pub accepted : text_fault w.text ≡ None
+  pub query : QueryTree
+  pub read : query_in w.text ≡ Some query
+  pub are : shown ≡ explained (planned query)
+
+-- the causes: a text that is no query, and behind one that is a fault of the sink
+abbrev pub causes_of : Explain → Told → Causes
+causes_of w told = record no_causes { query = IsRefusedAt w.text; sink = (text_fault w.text ≡ None) × told.results_failed }
+
+-- what each answer leaves in the results: at a fault of the sink a front part of the plan's text, at any other refusal nothing
+abbrev pub Leaves : Explain → Told → Status → Type 0
+Leaves w told Done = (shown : List ℕ) × ShowsPlan w shown × (told.sink_tells → told.results_after ≡ told.results_before ++ shown)
+Leaves w told SinkFault = (shown : List ℕ) × ShowsPlan w shown × (told.sink_tells → (count : ℕ) × (told.results_after ≡ told.results_before ++ take count shown))
+Leaves w told _ = told.sink_tells → told.results_after ≡ told.results_before
+
+pub record IsExplain (w : Explain) (told : Told) (status : Status) : Type 0 where
+  pub leaves : Leaves w told status
+  pub quiet : IsDoneStatus status → told.sink_tells → told.status_after ≡ told.status_before
+  pub unspent : IsSpentStatus status → ⊥
+  pub cause : IsRefusal status → IsCaused (causes_of w told) status
