@@ -10,7 +10,7 @@ use Rattle.source_feeds.proofs.feed.Feed.step.Goals as goal
 pub invariant_of-self : goal.invariant_of-self
 invariant_of-self g c = λ unspent.
     let h = c.self.invariant (ap (λ (f : Feeding). f.reader.is_spent) c.self.view_is ∙ c.requires.begun.1) in
-    (shaped g.S.Source.tells _ _ c.self.inside.kind c.self.inside.publisher c.step.new.self c.args.most c.in-Ok.readings h (c.in-Ok.ensures.steps h.pieces h.kept h.stream h.stands) (c.in-Ok.ensures.grown h.pieces h.kept h.stream h.stands) c.in-Ok.ensures.same).read
+    (shaped g.S.Source.tells _ _ c.self.inside.kind c.self.inside.publisher c.step.new.self _ c.in-Ok.readings h (c.in-Ok.ensures.steps h.pieces h.kept h.stream h.stands) (c.in-Ok.ensures.grown h.pieces h.kept h.stream h.stands) c.in-Ok.ensures.same).read
 
 pub returns-in-Ok-clause-steps : goal.returns-in-Ok-clause-steps
 returns-in-Ok-clause-steps g c = λ before kept given fed.
@@ -26,13 +26,13 @@ returns-in-Ok-clause-steps g c = λ before kept given fed.
 pub returns-in-Ok-clause-each : goal.returns-in-Ok-clause-each
 returns-in-Ok-clause-each g c =
     let h = c.self.invariant (ap (λ (f : Feeding). f.reader.is_spent) c.self.view_is ∙ c.requires.begun.1) in
-    (shaped g.S.Source.tells _ _ c.self.inside.kind c.self.inside.publisher c.step.new.self c.args.most c.in-Ok.readings h (c.in-Ok.ensures.steps h.pieces h.kept h.stream h.stands) (c.in-Ok.ensures.grown h.pieces h.kept h.stream h.stands) c.in-Ok.ensures.same).each
+    (shaped g.S.Source.tells _ _ c.self.inside.kind c.self.inside.publisher c.step.new.self _ c.in-Ok.readings h (c.in-Ok.ensures.steps h.pieces h.kept h.stream h.stands) (c.in-Ok.ensures.grown h.pieces h.kept h.stream h.stands) c.in-Ok.ensures.same).each
 
 pub returns-in-Ok-clause-rise : goal.returns-in-Ok-clause-rise
 returns-in-Ok-clause-rise g c =
     let h = c.self.invariant (ap (λ (f : Feeding). f.reader.is_spent) c.self.view_is ∙ c.requires.begun.1) in
     subst (λ (f : Feeding). Rise f.reader.taken c.in-Ok.readings c.step.new.self.taken) c.self.view_is
-    (shaped g.S.Source.tells _ _ c.self.inside.kind c.self.inside.publisher c.step.new.self c.args.most c.in-Ok.readings h (c.in-Ok.ensures.steps h.pieces h.kept h.stream h.stands) (c.in-Ok.ensures.grown h.pieces h.kept h.stream h.stands) c.in-Ok.ensures.same).rise
+    (shaped g.S.Source.tells _ _ c.self.inside.kind c.self.inside.publisher c.step.new.self _ c.in-Ok.readings h (c.in-Ok.ensures.steps h.pieces h.kept h.stream h.stands) (c.in-Ok.ensures.grown h.pieces h.kept h.stream h.stands) c.in-Ok.ensures.same).rise
 
 pub returns-in-Ok-clause-grown : goal.returns-in-Ok-clause-grown
 returns-in-Ok-clause-grown g c =
