@@ -324,8 +324,8 @@ use Rattle.std.specs.Prelude.{All}
 use Rattle.entry_model.specs.Legal.{IsEvent}
 use Rattle.store_bench.proofs.reading.Given as goal
 
-abbrev pub invariant-loop-_ : goal.invariant-loop-_
-invariant-loop-_ l = All IsEvent l.events
+abbrev pub invariant-loop : goal.invariant-loop
+invariant-loop l = All IsEvent l.events
 """,
     "add_many": """\
 use Rattle.turn_lock.specs.Words.{IsSame, IsAtRest}
@@ -339,8 +339,8 @@ use Rattle.turn_lock.specs.Words.{IsAtRest}
 use Rattle.shared_store.specs.Words.{IsSeatOf}
 use Rattle.store_bench.proofs.cuts.Given as goal
 
-abbrev pub invariant-loop-_ : goal.invariant-loop-_
-invariant-loop-_ g l = IsSeatOf l.store l.seat × IsAtRest l.seat
+abbrev pub invariant-loop : goal.invariant-loop
+invariant-loop g l = IsSeatOf l.store l.seat × IsAtRest l.seat
 """,
 }
 

@@ -65,10 +65,14 @@ ends_said notes_by start mid new now said result same seat sees stands = record 
 
 module _ {T : Type 0} {g : Ghosts T Restored Noted} (start : Restored) (old mid new : TurnSeat T Restored Noted g) where
   -- the cut of a turn is given in it, and is no older than what the seat had seen
-  pub gives : (now : Kept) (result : Result (Option CutValue) NoMemory) → seen new ≡ seen mid ++ stamp (number mid) (given_by result) → IfOk result (λ given. IfSome given (λ cut. IsGiven cut (notes_of new)))
+  gives : (now : Kept) (result : Result (Option CutValue) NoMemory) → seen new ≡ seen mid ++ stamp (number mid) (given_by result) → IfOk result (λ given. IfSome given (λ cut. IsGiven cut (notes_of new)))
   gives now (Ok None) sees = tt
   gives now (Ok (Some cut)) sees = (notes_of mid, [], ap (λ (l : List (ℕ × Noted)). entries l) sees ∙ entries-stamp (seen mid) (number mid) (Given cut ∷ []))
   gives now (Err y) sees = tt
+
+  pub gives_said : (now : Kept) (said result : Result (Option CutValue) NoMemory) → said ≡ result → seen new ≡ seen mid ++ stamp (number mid) (given_by said) → IfOk result (λ given. IfSome given (λ cut. IsGiven cut (notes_of new)))
+  gives_said now said result same sees =
+      gives now result (sees ∙ ap (λ (x : Result (Option CutValue) NoMemory). seen mid ++ stamp (number mid) (given_by x)) same)
 
   pub gives_no_older : (now : Kept) (result : Result (Option CutValue) NoMemory) → Overhears old mid → StandsFor start (notes_of mid ++ given_by result) now → IfOk result (λ given. IfSome given (IsNoOlder start (notes_of old)))
   gives_no_older now (Ok None) overhears left = tt

@@ -1,14 +1,10 @@
-use Rattle.std.proofs.Common.{◌≡◌, ◌++◌, Option, Result, ap, ◌∙◌}
-use Rattle.osq_value.specs.declared.memory.NoMemory.{NoMemory}
-use Rattle.session_state.specs.Cut.{CutValue}
-use Rattle.turn_lock.specs.Turns.{stamp}
-use Rattle.turn_lock.specs.Words.{number, seen}
+use Rattle.std.proofs.Common.{◌≡◌, ap, ◌∙◌}
 use Rattle.shared_store.specs.declared.noted.Gave.{Gave}
 use Rattle.shared_store.specs.Notes.{given_by}
 use Rattle.shared_store.specs.Turns.{notes_of}
 use Rattle.shared_store.specs.Words.{start_of}
 use Rattle.shared_store.proofs.Shares.{by_cut, noted_cut, ungiven}
-use Rattle.shared_store.proofs.Turning.{stands_said, ends_said, gives, gives_no_older}
+use Rattle.shared_store.proofs.Turning.{stands_said, ends_said, gives_said, gives_no_older}
 use Rattle.shared_store.proofs.store.Store.claim_cut.Goals as goal
 
 pub pass-requires-clause-stands : goal.pass-requires-clause-stands
@@ -42,8 +38,7 @@ returns-clause-given g c =
     let result = c.claim_cut-result.result in
     let mid = c.turn-turn.new.seat in
     let same : c.of.result.value.0.value ≡ result = ap (λ (x : Gave). x.0.value) c.of.ensures ∙ c.of-said.ensures in
-    let sees = c.pass.ensures.seen ∙ ap (λ (x : Result (Option CutValue) NoMemory). seen mid ++ stamp (number mid) (given_by x)) same in
-    gives (start_of c.args.self.now) c.args.seat.now mid c.pass.new.seat c.claim_cut-result.new.self result sees
+    gives_said (start_of c.args.self.now) c.args.seat.now mid c.pass.new.seat c.claim_cut-result.new.self c.of.result.value.0.value result same c.pass.ensures.seen
 
 pub returns-clause-no_older : goal.returns-clause-no_older
 returns-clause-no_older g c =
