@@ -77,6 +77,7 @@ default_platform = codes "linux"
 abbrev pub default_agent : List ℕ
 default_agent = codes "5.10.0"
 
+-- what the options of each command ask for; one that the command must have is there, so the empty text in its place never counts
 unfoldable pub replay_of : List Given → ReplayWords
 replay_of gs = record {
   config = value_or [] Config gs;
@@ -110,7 +111,6 @@ check_of gs = record {
   agent = value_or default_agent Agent gs;
 }
 
--- what the options of a command ask for
 abbrev pub asked_by : CommandName → List Given → CommandWords
 asked_by ReplayName gs = Replay (replay_of gs)
 asked_by QueryName gs = Query (query_of gs)
