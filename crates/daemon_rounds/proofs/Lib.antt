@@ -1,0 +1,5 @@
+pub mod Adding
+pub mod Answered
+pub mod Offsets
+pub mod Settled
+pub mod Told

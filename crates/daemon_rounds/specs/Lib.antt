@@ -1,0 +1,4 @@
+pub mod Adding
+pub mod Answering
+pub mod Appending
+pub mod Telling

@@ -1,0 +1,9 @@
+//! Why a part of a tick isn't done.
+
+/// Why a part of a tick isn't done. What was added up to there stays in the state, and is not sealed.
+#[derive(Clone, Copy, PartialEq, Eq, Debug)]
+pub enum RoundError {
+    /// The next event's or the next batch's number would pass 2^62.
+    NumbersSpent,
+    NoMemory,
+}
