@@ -1,5 +1,6 @@
 pub mod Queues
 pub mod Expiring
+pub mod Orders
 pub mod Images
 pub mod Kept
 pub mod Views

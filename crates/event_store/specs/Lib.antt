@@ -1,4 +1,5 @@
 pub mod Queues
+pub mod Orders
 pub mod Owed
 pub mod Recorded
 pub mod Contents

@@ -1,6 +1,6 @@
 //! The live events of one table.
 
-ghost use Rattle.std.specs.Prelude.{◌≡◌, ◌<◌, ◌∷◌, [], ◌++◌, length, take, slice_index_or, OnOk, OnErr, IfOk, IfNone};
+ghost use Rattle.std.specs.Prelude.{◌≡◌, ◌-◌, ◌<◌, ◌||◌, ◌∷◌, [], ◌++◌, nat_le, length, take, slice_index_or, OnOk, OnErr, IfOk, IfNone};
 ghost use Rattle.std.specs.Option.{option_to_list};
 ghost use Rattle.entry_model.specs.Fits.{IsRisingFrom};
 ghost use Rattle.event_store.specs.Queues.{above, rows_above, begins_upto};
@@ -16,6 +16,11 @@ use std::marker::Model;
 #[derive(Drop)]
 pub struct EventQueue {
     held: VecDeque<Live>,
+    /// The moment of the event that was pushed last.
+    latest: u64,
+    /// No event was pushed with an earlier moment than the one before it, so that the events that are old stand at the
+    /// front.
+    in_order: bool,
 }
 
 impl Model for EventQueue {
@@ -25,6 +30,18 @@ impl Model for EventQueue {
     ghost Value = { List Live };
 
     ghost view = { λ q. q.held.items };
+
+    ghost use Rattle.std.specs.Prelude.{◌≡◌, true};
+    ghost use Rattle.event_store.specs.Orders.{IsInOrder};
+
+    ghost invariant = { λ q. q.in_order ≡ true → IsInOrder 0 q.latest q.held.items };
+}
+
+/// The event is `expiry` seconds old at the moment, or as many as may be kept come later.
+fn must_go(event: &Live, later: u64, expiry: u64, max: u64, moment: u64) -> bool
+    ensures { result ≡ (nat_le expiry (moment - event.now.moment) || nat_le max later) }
+{
+    moment.saturating_sub(event.moment) >= expiry || later >= max
 }
 
 impl EventQueue {
@@ -34,6 +51,8 @@ impl EventQueue {
     {
         EventQueue {
             held: VecDeque::new(alloc),
+            latest: 0,
+            in_order: true,
         }
     }
 
@@ -49,7 +68,10 @@ impl EventQueue {
         ensures ok { OnOk result (self.new ≡ self.old ++ event ∷ []) }
         ensures err { OnErr result (self.new ≡ self.old) }
     {
+        let moment = event.moment;
         self.held.push_back(event)?;
+        self.in_order &= self.latest <= moment;
+        self.latest = moment;
         Ok(())
     }
 
@@ -103,7 +125,7 @@ impl EventQueue {
     }
 
     /// The number of the last event that must go: one that is `expiry` seconds old at the moment, or after which come as
-    /// many as may be kept.
+    /// many as may be kept. Where the moments are in order it looks at no more than one event that may stay.
     pub fn floor_owed(&self, expiry: u64, max: u64, moment: u64) -> Option<u64>
         requires { IsRisingFrom 0 self.now }
         ensures { result ≡ owed_of expiry max moment self.now }
@@ -113,8 +135,10 @@ impl EventQueue {
         for at in 0..self.held.len() {
             let event = &self.held[at];
             later -= 1;
-            if moment.saturating_sub(event.moment) >= expiry || later as u64 >= max {
+            if must_go(event, later as u64, expiry, max, moment) {
                 owed = Some(event.number);
+            } else if self.in_order {
+                return owed;
             }
         }
         owed

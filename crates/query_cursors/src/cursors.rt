@@ -1,29 +1,34 @@
 //! The last batches of queries, and which query comes next.
 
-ghost use Rattle.std.specs.Prelude.{◌≡◌, ◌<◌, ◌≤◌, ◌^◌, All, OnOk, OnErr, IfSome, false, length, find, max, option_copied};
+ghost use Rattle.std.specs.Prelude.{◌≡◌, ◌<◌, ◌≤◌, ◌^◌, All, OnOk, OnErr, IfOk, IfSome, [], false, length, find, max, set, Some, option_copied};
 ghost use Rattle.pack_rules.specs.Keys.{same_key};
 ghost use Rattle.entry_model.specs.Reserved.{has_run, noted};
 ghost use Rattle.query_cursors.specs.Due.{run_of, first_due, first_free, next_of, cursor_of, number_of};
+ghost use Rattle.query_cursors.specs.Places.{places_of, run_at, reserved_of, placed_run, places_noted, first_placed, free_placed};
 
+use crate::index::find_places;
 use crate::interval::due;
 use entry_model::reserved::ReservedRuns;
 use entry_model::restored::{Run, RunList};
 use osq_value::NoMemory;
 use pack_rules::schedule::{QueryKey, Schedule, Scheduled};
+use std::alloc::Global;
 use std::marker::Model;
 
-/// The last batch of each query, with room for queries that have none yet.
+/// The last batch of each query, with room for queries that have none yet, and where the queries of a schedule have
+/// theirs.
 #[derive(Drop)]
 pub struct Cursors {
     reserved: ReservedRuns,
+    places: Vec<Option<usize>>,
 }
 
 impl Model for Cursors {
-    ghost use Rattle.entry_model.specs.Reserved.{RunsAndRoom};
+    ghost use Rattle.query_cursors.specs.Places.{Indexed};
 
-    ghost Value = { RunsAndRoom };
+    ghost Value = { Indexed };
 
-    ghost view = { λ c. c.reserved };
+    ghost view = { λ c. record { runs = c.reserved.runs; room = c.reserved.room; places = c.places.items } };
 }
 
 /// The run of the query, if it has one.
@@ -33,42 +38,98 @@ fn find_run<'a>(runs: &'a [Run], key: &QueryKey) -> Option<&'a Run>
     runs.iter().find(|run| run.key.is(key))
 }
 
-/// The place of the first query that is due.
-fn find_due(queries: &[Scheduled], runs: &[Run], moment: u64) -> Option<usize>
-    ensures place { result ≡ first_due runs.now queries.now moment }
-    ensures within { IfSome result (λ place. place < length queries.now) }
+/// The run at this place, if there is one.
+fn run_at(runs: &[Run], place: Option<usize>) -> Option<&Run>
+    ensures { option_copied result ≡ run_at runs.now place }
 {
-    queries.iter().position(|scheduled| due(scheduled, find_run(runs, &scheduled.key), moment))
+    match place {
+        None => None,
+        Some(place) => runs.get(place),
+    }
 }
 
-/// The place of the first query that is due and not claimed.
-fn find_free(queries: &[Scheduled], runs: &[Run], claimed: &[bool], moment: u64) -> Option<usize>
-    ensures place { result ≡ first_free runs.now queries.now claimed.now moment }
+/// The place of the first query that is due, where each has its run at its place.
+fn find_due(
+    queries: &[Scheduled],
+    places: &[Option<usize>],
+    runs: &[Run],
+    moment: u64,
+) -> Option<usize>
+    ensures place { result ≡ first_placed runs.now places.now queries.now moment }
     ensures within { IfSome result (λ place. place < length queries.now) }
 {
-    queries.iter().zip(claimed.iter()).position(|(scheduled, claimed)| {
-        due(scheduled, find_run(runs, &scheduled.key), moment) && !*claimed
-    })
+    queries.iter().zip(places.iter()).position(|(scheduled, place)| due(
+        scheduled,
+        run_at(runs, *place),
+        moment,
+    ))
 }
 
-/// The place of the first query that is due and not claimed, else of the first that is due.
-fn find_next(queries: &[Scheduled], runs: &[Run], claimed: &[bool], moment: u64) -> Option<usize>
-    ensures place { result ≡ next_of runs.now queries.now claimed.now moment }
+/// The place of the first query that is due and not claimed, where each has its run at its place.
+fn find_free(
+    queries: &[Scheduled],
+    places: &[Option<usize>],
+    runs: &[Run],
+    claimed: &[bool],
+    moment: u64,
+) -> Option<usize>
+    ensures place { result ≡ free_placed runs.now places.now queries.now claimed.now moment }
     ensures within { IfSome result (λ place. place < length queries.now) }
 {
-    match find_free(queries, runs, claimed, moment) {
-        Some(place) => Some(place),
-        None => find_due(queries, runs, moment),
+    queries
+        .iter()
+        .zip(places.iter())
+        .zip(claimed.iter())
+        .position(|((scheduled, place), claimed)| {
+            due(scheduled, run_at(runs, *place), moment) && !*claimed
+        })
+}
+
+/// The query at this place of the schedule has its run there.
+fn place_at(places: &mut [Option<usize>], at: usize, place: usize)
+    ensures { places.new ≡ set places.old at (Some place) }
+{
+    if at < places.len() {
+        places[at] = Some(place);
     }
 }
 
 impl Cursors {
-    /// These runs, with no room for more. It takes no memory.
-    pub fn restore(runs: RunList) -> Cursors
-        ensures { result ≡ record { runs = runs; room = 0 } }
+    /// These runs, with no room for more, and no schedule. It takes no memory.
+    pub fn restore(alloc: Global, runs: RunList) -> Cursors
+        ensures { result ≡ record { runs = runs; room = 0; places = [] } }
     {
         Cursors {
             reserved: ReservedRuns::of(runs),
+            places: Vec::new(alloc),
+        }
+    }
+
+    /// The places of the runs of these queries, in as many steps as there are runs and queries.
+    pub fn find_places(
+        &self,
+        alloc: Global,
+        queries: &[Scheduled],
+    ) -> Result<Vec<Option<usize>>, NoMemory>
+        ensures { IfOk result (λ places. places.items ≡ places_of self.now.runs queries.now) }
+    {
+        find_places(alloc, self.reserved.as_slice(), queries)
+    }
+
+    /// Takes these as the places of the runs of a schedule's queries. It takes no memory.
+    pub fn set_places(&mut self, places: Vec<Option<usize>>)
+        ensures { self.new ≡ record self.old { places = places.items } }
+    {
+        self.places = places;
+    }
+
+    /// The run of the query at this place of the schedule, by its place. It takes no memory, and one step.
+    pub fn placed_run(&self, at: usize) -> Option<&Run>
+        ensures { option_copied result ≡ placed_run self.now at }
+    {
+        match self.places.get(at) {
+            None => None,
+            Some(place) => run_at(self.reserved.as_slice(), *place),
         }
     }
 
@@ -99,32 +160,64 @@ impl Cursors {
         }
     }
 
+    /// The place of the first of these queries that is due, by the places of their runs.
+    fn due_place(&self, queries: &[Scheduled], moment: u64) -> Option<usize>
+        requires { self.now.places ≡ places_of self.now.runs queries.now }
+        ensures place { result ≡ first_due self.now.runs queries.now moment }
+        ensures within { IfSome result (λ place. place < length queries.now) }
+    {
+        find_due(
+            queries,
+            self.places.as_slice(),
+            self.reserved.as_slice(),
+            moment,
+        )
+    }
+
+    /// The place of the first of these queries that is due and not claimed, by the places of their runs.
+    fn free_place(&self, queries: &[Scheduled], claimed: &[bool], moment: u64) -> Option<usize>
+        requires { self.now.places ≡ places_of self.now.runs queries.now }
+        ensures place { result ≡ first_free self.now.runs queries.now claimed.now moment }
+        ensures within { IfSome result (λ place. place < length queries.now) }
+    {
+        let runs = self.reserved.as_slice();
+        find_free(queries, self.places.as_slice(), runs, claimed, moment)
+    }
+
+    /// The place of the first of these queries that is due and not claimed, else of the first that is due.
+    fn next_place(&self, queries: &[Scheduled], claimed: &[bool], moment: u64) -> Option<usize>
+        requires { self.now.places ≡ places_of self.now.runs queries.now }
+        ensures place { result ≡ next_of self.now.runs queries.now claimed.now moment }
+        ensures within { IfSome result (λ place. place < length queries.now) }
+    {
+        match self.free_place(queries, claimed, moment) {
+            Some(place) => Some(place),
+            None => self.due_place(queries, moment),
+        }
+    }
+
     /// The place of the query to cut next: the first that is due and not claimed, else the first that is due; none exactly
-    /// where no query is due. It takes no memory.
+    /// where no query is due. It takes no memory, and a step a query.
     pub fn next_due(&self, schedule: &Schedule, claimed: &[bool], moment: u64) -> Option<u32>
         requires count { length schedule.now.queries ≤ 10000 }
         requires claims { length claimed.now ≡ length schedule.now.queries }
+        requires places { self.now.places ≡ places_of self.now.runs schedule.now.queries }
         ensures place { result ≡ next_of self.now.runs schedule.now.queries claimed.now moment }
         ensures within { IfSome result (λ place. place < length schedule.now.queries) }
     {
-        let queries = schedule.queries.as_slice();
-        let runs = self.reserved.as_slice();
-        match find_next(queries, runs, claimed, moment) {
+        match self.next_place(schedule.queries.as_slice(), claimed, moment) {
             None => None,
             Some(place) => Some(place as u32),
         }
     }
 
-    /// The place of the first query that is due; none exactly where no query is. It takes no memory.
+    /// The place of the first query that is due; none exactly where no query is. It takes no memory, and a step a query.
     pub fn first_due(&self, schedule: &Schedule, moment: u64) -> Option<u32>
-        requires { length schedule.now.queries ≤ 10000 }
+        requires count { length schedule.now.queries ≤ 10000 }
+        requires places { self.now.places ≡ places_of self.now.runs schedule.now.queries }
         ensures { result ≡ first_due self.now.runs schedule.now.queries moment }
     {
-        match find_due(
-            schedule.queries.as_slice(),
-            self.reserved.as_slice(),
-            moment,
-        ) {
+        match self.due_place(schedule.queries.as_slice(), moment) {
             None => None,
             Some(place) => Some(place as u32),
         }
@@ -138,12 +231,18 @@ impl Cursors {
         self.reserved.reserve_runs(room)
     }
 
-    /// Notes one more batch of the query. It takes no memory: a query without a run has its run where there is room.
-    pub fn record_commit(&mut self, key: QueryKey, number: u64, hi: u64, moment: u64)
+    /// Notes one more batch of the query that stands at this place of the schedule. It takes no memory: a query without a
+    /// run has its run where there is room.
+    pub fn record_commit(&mut self, at: u32, key: QueryKey, number: u64, hi: u64, moment: u64)
         requires counts { All (λ run. run.count < 2 ^ 63) self.old.runs }
         requires room { has_run self.old.runs key ≡ false → 0 < self.old.room }
-        ensures { self.new ≡ noted self.old key number hi moment }
+        ensures noted { reserved_of self.new ≡ noted (reserved_of self.old) key number hi moment }
+        ensures places { self.new.places ≡ places_noted self.old at key }
     {
+        let count = self.reserved.as_slice().len();
         self.reserved.record_run(key, number, hi, moment);
+        if count < self.reserved.as_slice().len() {
+            place_at(&mut self.places, at as usize, count);
+        }
     }
 }

@@ -2,6 +2,7 @@
 #![tactic(auto)]
 
 pub mod cursors;
+mod index;
 pub mod interval;
 
 pub use cursors::Cursors;

@@ -1,5 +1,5 @@
 -- A batch of a cut that nothing outdates may be committed, and the state keeps what is known of it.
-use Rattle.std.proofs.Common.{◌≡◌, ℕ, suc, ◌+◌, ◌-◌, ◌<◌, ◌≤◌, ◌^◌, Bool, true, false, cond, List, [], ◌∷◌, ◌++◌, length, Option, Some, None, refl, sym, ap, ◌∙◌, subst, arith, append_assoc, length-append}
+use Rattle.std.proofs.Common.{◌≡◌, ℕ, suc, ◌+◌, ◌-◌, ◌<◌, ◌≤◌, ◌^◌, Bool, true, false, cond, List, [], ◌∷◌, ◌++◌, length, set, Option, Some, None, refl, sym, ap, ◌∙◌, subst, arith, append_assoc, length-append}
 use Rattle.std.specs.Prelude.{All, find, is_some, not, nat_le, nat_lt, ◌==◌, if◌then◌else◌}
 use Rattle.std.specs.List.{list_any}
 use Rattle.std.proofs.lemmas.Bool.Decides.{nat_tests}
@@ -24,6 +24,8 @@ use Rattle.entry_model.proofs.Lasts.{last_of-append}
 use Rattle.event_store.specs.Contents.{rows_in}
 use Rattle.query_cursors.specs.Due as cursors
 use Rattle.query_cursors.specs.Due.{run_of}
+use Rattle.query_cursors.specs.Places.{places_of}
+use Rattle.query_cursors.proofs.Noting.{places_kept}
 use Rattle.session_state.specs.declared.state.CommitRefusal.TheVariants.{Superseded, NumbersSpent}
 use Rattle.session_state.specs.Kept.{Counts, Kept, IsRun, IsState}
 use Rattle.session_state.specs.Rooms.{all_due, is_new, all_new}
@@ -178,6 +180,11 @@ module _ (s : Kept) (cut : CutValue) (is : IsState s) (of : IsCutOf s cut) (free
           let room = is.run_room in
           omega (arith, left, room)
       by_run false e = let left = new_left number e in omega (arith, left)
+
+  pub places_left : (number : ℕ) → (if has_run s.counts.runs cut.key then s.places else set s.places cut.place (Some (length s.counts.runs))) ≡ places_of (with_batch s.counts.runs cut.key number cut.hi cut.moment) s.schedule.queries
+  places_left number =
+      ap (λ (places : List (Option ℕ)). if has_run s.counts.runs cut.key then places else set places cut.place (Some (length s.counts.runs))) is.places
+      ∙ places_kept cut.key number cut.hi cut.moment s.counts.runs s.schedule.queries cut.place current.scheduled is.schedule.order current.stands current.key
 
   pub runs_known : (number : ℕ) → number ≤ s.counts.batches + 1 → All (IsRun (s.counts.batches + 1)) (with_batch s.counts.runs cut.key number cut.hi cut.moment)
   runs_known number next =

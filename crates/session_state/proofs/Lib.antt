@@ -9,3 +9,5 @@ pub mod Reserving
 pub mod Known
 pub mod Cutting
 pub mod Committing
+pub mod Marked
+pub mod Placed

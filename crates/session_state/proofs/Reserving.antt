@@ -1,11 +1,14 @@
 -- A state that made room for a commit of each query is a state again.
-use Rattle.std.proofs.Common.{◌≡◌, ℕ, ◌+◌, ◌<◌, ◌≤◌, ◌^◌, List, length, max, sym, subst, arith}
+use Rattle.std.proofs.Common.{◌≡◌, ℕ, ◌+◌, ◌<◌, ◌≤◌, ◌^◌, List, [], ◌∷◌, ◌++◌, length, max, sym, ap, ◌∙◌, subst, arith}
 use Rattle.std.specs.Prelude.{All}
 use Rattle.entry_model.specs.declared.restored.Run.{Run}
 use Rattle.entry_model.specs.Schedules.{IsSound}
 use Rattle.event_store.specs.Contents.{IsImage}
 use Rattle.session_state.specs.Kept.{Kept, IsRun, IsState, due_count}
+use Rattle.query_cursors.specs.Places.{places_of}
+use Rattle.session_state.specs.Marks.{IsRising, behind_marks}
 use Rattle.session_state.specs.Rooms.{all_new}
+use Rattle.session_state.proofs.Marked.{rising_more, behind_more}
 use Rattle.session_state.proofs.Rooms.{few_due, few_new}
 
 -- the new state has one entry more, and room for a commit of each query of its schedule
@@ -22,6 +25,8 @@ pub record Reserves (s new : Kept) : Type 0 where
   pub claims : length new.claims ≡ length new.schedule.queries
   pub tail_room : new.tail_room ≡ max s.tail_room (length new.schedule.queries)
   pub run_room : new.run_room ≡ max s.run_room (length new.schedule.queries)
+  pub places : new.places ≡ places_of new.counts.runs new.schedule.queries
+  pub marks : new.marks ≡ s.marks ++ s.counts.position ∷ []
 
 pub reserved : (s new : Kept) → IsState s → Reserves s new → IsState new
 reserved s new is r =
@@ -46,4 +51,7 @@ reserved s new is r =
       claims = r.claims;
       room = subst (λ (room : ℕ). due_count new ≤ room) (sym r.tail_room) (few_due new.counts.runs new.counts.moment s.tail_room new.schedule.queries);
       run_room = subst (λ (room : ℕ). length (all_new new.counts.runs new.schedule.queries) ≤ room) (sym r.run_room) (few_new new.counts.runs s.run_room new.schedule.queries);
+      places = r.places;
+      rising = subst (IsRising 0) (sym r.marks) (rising_more 0 s.marks s.counts.position is.rising is.past);
+      past = (let behind = ap (behind_marks 0) r.marks ∙ behind_more 0 s.marks s.counts.position in omega (arith, behind, position));
     }

@@ -21,6 +21,11 @@ use Rattle.session_state.specs.Computed.{shown_by}
 abbrev pub next_place : Kept → Option ℕ
 next_place s = if s.ticked then cursors.next_of s.counts.runs s.schedule.queries s.claims s.counts.moment else None
 
+-- above which number the events of a query of this mode are, where its last batch ended there
+abbrev pub lower_from : Mode → ℕ → ℕ
+lower_from Evented end = end
+lower_from Snapshot end = 0
+
 -- above which number the query's events are
 abbrev pub lower_at : Kept → QueryKey → Mode → ℕ
 lower_at s query Evented = cursors.cursor_of s.counts.runs query

@@ -12,6 +12,7 @@ kept s =
       marks = s.marks.items;
       claims = s.claims.items;
       run_room = s.cursors.room;
+      places = s.cursors.places;
       tail = s.tail.entries;
       tail_room = s.tail.room;
     }

@@ -1,5 +1,5 @@
 -- What contracts see of a session's state.
-use Rattle.std.specs.Prelude.{◌≡◌, ℕ, ◌+◌, ◌<◌, ◌≤◌, ◌^◌, List, Bool, length, All}
+use Rattle.std.specs.Prelude.{◌≡◌, ℕ, ◌+◌, ◌<◌, ◌≤◌, ◌^◌, List, Bool, Option, length, All}
 use Rattle.pack_rules.specs.declared.schedule.Schedule.{Schedule}
 use Rattle.entry_model.specs.declared.entry.Entry.{Entry}
 use Rattle.entry_model.specs.declared.entry.Entry.TheVariants.{Opened, Configured, Ticked, Appended, TableSet, Expired, Committed, Acked}
@@ -9,6 +9,8 @@ use Rattle.entry_model.specs.declared.restored.Taken.{Taken}
 use Rattle.entry_model.specs.Next.{with_offset, with_batch}
 use Rattle.entry_model.specs.Schedules.{IsSound}
 use Rattle.event_store.specs.Contents.{Contents, IsImage}
+use Rattle.query_cursors.specs.Places.{places_of}
+use Rattle.session_state.specs.Marks.{IsRising, behind_marks}
 use Rattle.session_state.specs.Rooms.{all_due, all_new}
 
 -- the values of a kept list, but for its events and tables
@@ -45,6 +47,7 @@ pub record Kept : Type 0 where
   pub marks : List ℕ  -- the places of its Configured and Ticked entries
   pub claims : List Bool  -- which queries of the schedule are claimed
   pub run_room : ℕ  -- for how many queries without a batch there is room
+  pub places : List (Option ℕ)  -- where each query of the schedule has its last batch among those of all
   pub tail : List Entry  -- the entries that are not taken yet
   pub tail_room : ℕ  -- for how many more there is room
 
@@ -72,3 +75,6 @@ pub record IsState (s : Kept) : Type 0 where
   pub claims : length s.claims ≡ length s.schedule.queries
   pub room : due_count s ≤ s.tail_room  -- for a commit of each due query
   pub run_room : length (all_new s.counts.runs s.schedule.queries) ≤ s.run_room
+  pub places : s.places ≡ places_of s.counts.runs s.schedule.queries
+  pub rising : IsRising 0 s.marks
+  pub past : behind_marks 0 s.marks ≤ s.counts.position

@@ -1,5 +1,5 @@
 -- The entries of a session after which a cut that was made before is out of date.
-use Rattle.std.specs.Prelude.{ℕ, suc, List, [], ◌∷◌, ◌++◌}
+use Rattle.std.specs.Prelude.{ℕ, suc, ◌+◌, ◌≤◌, List, [], ◌∷◌, ◌++◌}
 use Rattle.entry_model.specs.declared.entry.Entry.{Entry}
 use Rattle.entry_model.specs.declared.entry.Entry.TheVariants.{Configured, Ticked}
 
@@ -13,3 +13,13 @@ mark_in place _ = []
 abbrev pub marks_from : ℕ → List Entry → List ℕ
 marks_from place [] = []
 marks_from place (entry ∷ rest) = mark_in place entry ++ marks_from (suc place) rest
+
+-- each place is behind the one before it, and the first one is not before this one
+abbrev pub IsRising : ℕ → List ℕ → Type 0
+IsRising from [] = Unit {0}
+IsRising from (mark ∷ rest) = (from ≤ mark) × IsRising (mark + 1) rest
+
+-- the first place behind all of them
+abbrev pub behind_marks : ℕ → List ℕ → ℕ
+behind_marks from [] = from
+behind_marks from (mark ∷ rest) = behind_marks (mark + 1) rest

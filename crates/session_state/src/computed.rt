@@ -5,6 +5,7 @@ ghost use Rattle.osq_value.specs.Catalogue.{width_of, table_name};
 ghost use Rattle.entry_model.specs.Schedules.{IsRunnable};
 ghost use Rattle.entry_model.specs.Views.{is_evented_table};
 ghost use Rattle.event_store.specs.Contents.{AreWide, IsImage};
+ghost use Rattle.query_cursors.specs.Places.{places_of};
 ghost use Rattle.session_state.specs.Kept.{IsRun};
 ghost use Rattle.session_state.specs.Computed.{time_shown, query_shown, schedule_shown, live_shown, events_shown};
 
@@ -55,11 +56,12 @@ pub(crate) fn schedule_rows(
 ) -> Result<RowList, NoMemory>
     requires runnable { All IsRunnable queries.now }
     requires runs { All (IsRun (2 ^ 62)) cursors.now.runs }
+    requires places { cursors.now.places ≡ places_of cursors.now.runs queries.now }
     ensures { IfOk result (λ rows. rows ≡ schedule_shown cursors.now.runs queries.now) }
 {
     let mut rows = RowList::with_capacity(alloc, queries.len())?;
-    for scheduled in queries {
-        rows.push(query_row(alloc, scheduled, cursors.run(&scheduled.key))?)?;
+    for at in 0..queries.len() {
+        rows.push(query_row(alloc, &queries[at], cursors.placed_run(at))?)?;
     }
     Ok(rows)
 }

@@ -1,6 +1,6 @@
 //! The state of a session.
 
-ghost use Rattle.std.specs.Prelude.{◌≡◌, ℕ, ◌+◌, ◌<◌, ◌≤◌, ◌^◌, ◌↔◌, ◌⊎◌, All, max, IsTrue, IfOk, IfErr, IfSome, OnOk, OnErr, MatchBool, Some, None, Ok, Err, List, [], length, replicate, set, slice_get, option_map, true, false};
+ghost use Rattle.std.specs.Prelude.{◌≡◌, ℕ, ◌+◌, ◌<◌, ◌≤◌, ◌^◌, ◌↔◌, ◌⊎◌, All, max, IsTrue, IfOk, IfErr, IfSome, OnOk, OnErr, MatchBool, Some, None, Ok, Err, List, [], length, replicate, set, slice_get, option_map, option_copied, find, get_or, nat_le, ◌-◌, true, false};
 ghost use Rattle.entry_model.specs.declared.entry.Entry.{Entry};
 ghost use Rattle.entry_model.specs.declared.restored.Restored.{Restored};
 ghost use Rattle.entry_model.specs.Fits.{Fits};
@@ -14,10 +14,12 @@ ghost use Rattle.session_state.specs.Stands.{Adds, Begins, Stands};
 ghost use Rattle.entry_model.specs.Views.{is_evented_table, is_recorded_table};
 ghost use Rattle.session_state.specs.Ticks.{held_back_by, first_due, owed_at};
 ghost use Rattle.std.specs.List.{cons_option};
+ghost use Rattle.std.specs.Option.{option_map_or};
 ghost use Rattle.session_state.specs.Computed.{shown_by};
 ghost use Rattle.session_state.specs.Cut.{CutValue};
 ghost use Rattle.session_state.specs.CutOf.{mark_from, IsCutOf};
-ghost use Rattle.session_state.specs.Cutting.{next_place, cut_of, next_cut, claimed_at, released, CutStands};
+ghost use Rattle.session_state.specs.Marks.{IsRising};
+ghost use Rattle.session_state.specs.Cutting.{next_place, lower_from, cut_of, next_cut, claimed_at, released, CutStands};
 ghost use Rattle.session_state.specs.Expiries.{expiry_of, expiries, AddsAll, AddsSome};
 ghost use Rattle.session_state.specs.Readings.{IsReading, entry_of, taken_of, event_count, refusal_to};
 ghost use Rattle.session_state.specs.declared.state.TickRefusal.{TickRefusal};
@@ -32,7 +34,7 @@ use crate::cut::Cut;
 use crate::readings::{offset_of, offsets_with, refusal};
 use crate::tail::Tail;
 use entry_model::entry::{Batch, Entry, EntryList};
-use entry_model::restored::{Restored, TakenList};
+use entry_model::restored::{Restored, Run, TakenList};
 use event_store::{CutView, Image};
 use osq_value::{Copied, EventList, NoMemory, Reading, RowList, Sequence, Str, TableId, TextList};
 use pack_rules::schedule::{Form, Mode, Schedule};
@@ -150,6 +152,54 @@ fn unclaimed(alloc: Global, count: usize) -> Result<Vec<bool>, NoMemory>
     Ok(claims)
 }
 
+/// The number of a run and its end, 0 where there is no run.
+fn number_and_end(run: Option<&Run>) -> (u64, u64)
+    ensures number { result.0 ≡ option_map_or (λ run. run.number) (option_copied run.entry) 0 }
+    ensures end { result.1 ≡ option_map_or (λ run. run.hi) (option_copied run.entry) 0 }
+{
+    match run {
+        None => (0, 0),
+        Some(run) => (run.number, run.hi),
+    }
+}
+
+/// Above which number the events of a query of this mode are, where its last batch ended there.
+fn lower_from(mode: Mode, end: u64) -> u64
+    ensures { result ≡ lower_from mode end }
+{
+    match mode {
+        Mode::Evented => end,
+        Mode::Snapshot => 0,
+    }
+}
+
+/// The mark before this place of the list is at the position or behind it.
+fn reaches_back(marks: &[u64], at: usize, position: u64) -> bool
+    requires { at ≤ length marks.now }
+    ensures { IsTrue result ↔ (0 < at) × (position ≤ get_or marks.now (at - 1) 0) }
+{
+    at > 0 && position <= marks[at - 1]
+}
+
+/// The mark at this place of the list, if there is one.
+fn mark_at(marks: &[u64], at: usize) -> Option<u64>
+    ensures { result ≡ slice_get marks.now at }
+{
+    marks.get(at).copied()
+}
+
+/// The first of rising marks that is at this position or behind it. It is looked for from the back.
+fn first_mark(marks: &[u64], position: u64) -> Option<u64>
+    requires { IsRising 0 marks.now }
+    ensures { result ≡ find (λ mark. nat_le position mark) marks.now }
+{
+    let mut at = marks.len();
+    while reaches_back(marks, at, position) {
+        at -= 1;
+    }
+    mark_at(marks, at)
+}
+
 impl State {
     /// Opens a session over these values. The state stands for the entry that opens it.
     pub fn begin(alloc: Global, restored: Restored) -> Result<State, NoMemory>
@@ -169,7 +219,7 @@ impl State {
             sessions: session,
             moment: restored.moment,
             taken: restored.taken,
-            cursors: Cursors::restore(restored.runs),
+            cursors: Cursors::restore(alloc, restored.runs),
             batches: restored.batches,
             acked: restored.acked,
             image,
@@ -321,6 +371,7 @@ impl State {
         let moment = moment.max(self.moment);
         let kept = schedule.copy(alloc)?;
         let claims = unclaimed(alloc, kept.queries.len())?;
+        let places = self.cursors.find_places(alloc, kept.queries.as_slice())?;
         self.marks.reserve(1)?;
         self.tail.push(Entry::Configured {
             document,
@@ -333,6 +384,7 @@ impl State {
         };
         self.marks.push_reserved(self.position);
         self.claims = claims;
+        self.cursors.set_places(places);
         self.schedule = kept;
         self.position += 1;
         self.moment = moment;
@@ -579,10 +631,8 @@ impl State {
         ensures { IfOk result (λ cut. Some cut ≡ option_map (cut_of self.now place) (slice_get self.now.schedule.queries place)) }
     {
         let key = &self.schedule.queries.as_slice()[place as usize].key;
-        let lo = match key.mode {
-            Mode::Evented => self.cursors.cursor(key),
-            Mode::Snapshot => 0,
-        };
+        let (last, end) = number_and_end(self.cursors.placed_run(place as usize));
+        let lo = lower_from(key.mode, end);
         Ok(Cut {
             place,
             key: key.copy(alloc)?,
@@ -591,7 +641,7 @@ impl State {
             hi: self.image.last(),
             position: self.position,
             moment: self.moment,
-            last: self.cursors.number(key),
+            last,
             view: self.shown(alloc, lo, self.moment)?,
         })
     }
@@ -617,11 +667,12 @@ impl State {
         Ok(Some(cut))
     }
 
-    /// The first Configured or Ticked entry of the session from this position on.
+    /// The first Configured or Ticked entry of the session from this position on, in as many steps as there are such
+    /// entries behind it.
     fn mark_from(&self, position: u64) -> Option<u64>
         ensures { result ≡ mark_from self.now position }
     {
-        self.marks.iter().copied().find(|mark| position <= *mark)
+        first_mark(self.marks.as_slice(), position)
     }
 
     /// Gives a cut back: its query is not claimed any more, where nothing has forgotten the claim. It takes no memory.
@@ -680,7 +731,7 @@ impl State {
             last: _,
             view: _,
         } = cut;
-        self.cursors.record_commit(spare, number, hi, moment);
+        self.cursors.record_commit(place, spare, number, hi, moment);
         unclaim(self.claims.as_mut_slice(), place);
         self.tail.put(Entry::Committed {
             batch: Batch {

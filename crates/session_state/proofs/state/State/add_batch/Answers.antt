@@ -3,11 +3,12 @@ use Rattle.std.specs.Prelude.{All}
 use Rattle.std.proofs.lemmas.List.{append-nil, length-set, with_items_is}
 use Rattle.pack_rules.specs.declared.schedule.QueryKey.{QueryKey}
 use Rattle.entry_model.specs.Reserved.{RunsAndRoom, has_run, noted}
+use Rattle.query_cursors.specs.Places.{reserved_of, places_of, places_noted}
 use Rattle.session_state.specs.Inside.{kept}
 use Rattle.session_state.specs.Kept.{IsRun}
 use Rattle.session_state.specs.Rooms.{all_due, all_new}
 use Rattle.session_state.specs.Cut.{CutValue}
-use Rattle.session_state.proofs.Committing.{ready, has_run_room, has_room, room_left, run_room_left, runs_known, commits_given}
+use Rattle.session_state.proofs.Committing.{ready, has_run_room, has_room, room_left, run_room_left, places_left, runs_known, commits_given}
 use Rattle.session_state.proofs.state.State.add_batch.Goals as goal
 
 pub record_commit-requires-clause-room : goal.record_commit-requires-clause-room
@@ -36,7 +37,7 @@ invariant_of-self c =
     let bound = r.free.bound in
     let acked = is.acked in
     let long : length c.unclaim.new.claims ≡ length c.as_mut_slice.result.now = ap (λ (claims : List Bool). length claims) c.unclaim.ensures ∙ simp length-set in
-    let noted_is : c.record_commit.new.self ≡ noted c.self.inside.cursors cut.key number cut.hi cut.moment = c.record_commit.ensures ∙ ap (λ (key : QueryKey). noted c.self.inside.cursors key number cut.hi cut.moment) c.cut.invariant in
+    let noted_is : reserved_of c.record_commit.new.self ≡ noted (reserved_of c.self.inside.cursors) cut.key number cut.hi cut.moment = c.record_commit.ensures.noted ∙ ap (λ (key : QueryKey). noted (reserved_of c.self.inside.cursors) key number cut.hi cut.moment) c.cut.invariant in
     record {
       image = is.image;
       position = omega (arith, position, left);
@@ -49,6 +50,9 @@ invariant_of-self c =
       claims = ap (λ (claims : List Bool). length claims) (with_items_is c.self.inside.claims c.unclaim.new.claims (omega (arith, long, c.as_mut_slice.ensures.len))) ∙ long ∙ ap (λ (claims : List Bool). length claims) c.as_mut_slice.ensures.value ∙ is.claims;
       room = subst (λ (v : RunsAndRoom). length (all_due v.runs s.counts.moment s.schedule.queries) ≤ c.put.new.self.room) (sym noted_is) (room_left s cut r.is r.of r.free number c.put.new.self.room left);
       run_room = subst (λ (v : RunsAndRoom). length (all_new v.runs s.schedule.queries) ≤ v.room) (sym noted_is) (run_room_left s cut r.is r.of r.free number);
+      places = c.record_commit.ensures.places ∙ ap (λ (key : QueryKey). places_noted c.self.inside.cursors cut.place key) c.cut.invariant ∙ places_left s cut r.is r.of r.free number ∙ ap (λ (v : RunsAndRoom). places_of v.runs s.schedule.queries) (sym noted_is);
+      rising = is.rising;
+      past = (let past = is.past in omega (arith, past));
     }
 
 pub returns-clause-committed : goal.returns-clause-committed
@@ -57,7 +61,7 @@ returns-clause-committed c =
     let cut : CutValue = record { place = c.cut.inside.place; key = c.cut.inside.key; lo = c.cut.inside.lo; hi = c.cut.inside.hi; position = c.cut.inside.position; moment = c.cut.inside.moment; last = c.cut.inside.last; view = c.cut.inside.view } in
     let r = ready s c.args.self.now c.self.view_is cut c.args.cut c.cut.view_is c.self.invariant c.requires.cut c.requires.free in
     let number = s.counts.batches + 1 in
-    let noted_is : c.record_commit.new.self ≡ noted c.self.inside.cursors cut.key number cut.hi cut.moment = c.record_commit.ensures ∙ ap (λ (key : QueryKey). noted c.self.inside.cursors key number cut.hi cut.moment) c.cut.invariant in
+    let noted_is : reserved_of c.record_commit.new.self ≡ noted (reserved_of c.self.inside.cursors) cut.key number cut.hi cut.moment = c.record_commit.ensures.noted ∙ ap (λ (key : QueryKey). noted (reserved_of c.self.inside.cursors) key number cut.hi cut.moment) c.cut.invariant in
     commits_given s c.args.self.now c.self.view_is cut c.args.cut c.cut.view_is r _ c.args.rows c.requires.rows (record {
       counts = λ i. record { position = s.counts.position + 1; sessions = s.counts.sessions; moment = s.counts.moment; taken = s.counts.taken; runs = (noted_is i).runs; batches = number; acked = s.counts.acked };
       image = refl;

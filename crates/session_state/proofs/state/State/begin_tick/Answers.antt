@@ -1,7 +1,7 @@
-use Rattle.std.proofs.Common.{Bool, max, length, arith, ◌∙◌, ◌≡◌, ◌+◌, ℕ, List, None, refl, ap, ◌∷◌, [], ◌++◌}
+use Rattle.std.proofs.Common.{Bool, max, length, arith, ◌∙◌, ◌≡◌, ◌+◌, ℕ, List, None, refl, sym, ap, ◌∷◌, [], ◌++◌}
 use Rattle.std.proofs.lemmas.List.{length-replicate, with_items_is}
 use Rattle.entry_model.specs.declared.entry.Entry.TheVariants.{Ticked}
-use Rattle.entry_model.specs.Reserved.{RunsAndRoom}
+use Rattle.query_cursors.specs.Places.{Indexed, places_of}
 use Rattle.session_state.specs.Inside.{kept}
 use Rattle.session_state.specs.Tails.{EntriesAndRoom}
 use Rattle.session_state.specs.Ticks.{held_back_by}
@@ -34,11 +34,13 @@ invariant_of-self-2 c =
       low = omega (arith, c.if-self-max-ge-MOST.false, c.max.ensures, c.room.ensures, c.len-queries.ensures);
       sessions = refl;
       moment = c.requires.calendar;
-      runs = ap (λ (r : RunsAndRoom). r.runs) c.in-Ok.ensures.cursors;
+      runs = ap (λ (r : Indexed). r.runs) c.in-Ok.ensures.cursors;
       batches = refl;
       acked = refl;
       schedule = c.self.invariant.schedule;
       claims = ap (λ (claims : List Bool). length claims) (with_items_is c.self.inside.claims c.forget.new.claims (omega (arith, long, c.as_mut_slice.ensures.len))) ∙ long ∙ ap (λ (claims : List Bool). length claims) c.as_mut_slice.ensures.value ∙ c.self.invariant.claims;
       tail_room = ap (λ (t : EntriesAndRoom). t.room) c.in-Ok.ensures.tail ∙ (λ i. max ((c.in_ok-push.ensures.ok i).room) (c.len-queries.ensures i));
-      run_room = ap (λ (r : RunsAndRoom). r.room) c.in-Ok.ensures.cursors ∙ ap (max s.run_room) c.len-queries.ensures;
+      run_room = ap (λ (r : Indexed). r.room) c.in-Ok.ensures.cursors ∙ ap (max s.run_room) c.len-queries.ensures;
+      places = ap (λ (r : Indexed). r.places) c.in-Ok.ensures.cursors ∙ c.self.invariant.places ∙ sym (ap (λ (r : Indexed). places_of r.runs s.schedule.queries) c.in-Ok.ensures.cursors);
+      marks = c.push_reserved.ensures.items ∙ ap (λ (marks : List ℕ). marks ++ s.counts.position ∷ []) c.in_ok-reserve.ensures.items;
     })

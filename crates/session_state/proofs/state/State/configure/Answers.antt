@@ -2,7 +2,7 @@ use Rattle.std.proofs.Common.{◌≡◌, Bool, length, sym, subst, ◌∙◌, �
 use Rattle.std.proofs.lemmas.List.{length-replicate}
 use Rattle.pack_rules.specs.declared.schedule.Schedule.{Schedule}
 use Rattle.entry_model.specs.declared.entry.Entry.TheVariants.{Configured}
-use Rattle.entry_model.specs.Reserved.{RunsAndRoom}
+use Rattle.query_cursors.specs.Places.{Indexed, places_of}
 use Rattle.entry_model.specs.Schedules.{IsSound}
 use Rattle.session_state.specs.Inside.{kept}
 use Rattle.session_state.specs.Kept.{Counts}
@@ -19,8 +19,9 @@ returns-clause-configured c =
     let moment = max a.moment s.counts.moment in
     let known = c.self.invariant.moment in
     let low = c.requires.calendar in
+    let runs = ap (λ (r : Indexed). r.runs) c.set_places.ensures ∙ ap (λ (r : Indexed). r.runs) c.in-Ok.ensures.cursors in
     rw (← c.self.view_is) (adds s _ (Configured a.document a.schedule moment) refl c.self.invariant.image (λ K h. (c.requires.sound, record { later = (let now = ap (λ (c : Counts). c.moment) h.counts in omega (arith, now)); calendar = omega (arith, known, low) })) (record {
-      counts = λ i. record { position = counts.position + 1; sessions = counts.sessions; moment = c.max-moment.ensures i; taken = counts.taken; runs = (c.in-Ok.ensures.cursors i).runs; batches = counts.batches; acked = counts.acked };
+      counts = λ i. record { position = counts.position + 1; sessions = counts.sessions; moment = c.max-moment.ensures i; taken = counts.taken; runs = runs i; batches = counts.batches; acked = counts.acked };
       image = refl;
       schedule = c.in_ok-kept.ensures;
       ticked = refl;
@@ -35,17 +36,20 @@ invariant_of-self-2 c =
     let count : c.len-queries.result ≡ length c.in_ok-kept.kept.queries = c.len-queries.ensures ∙ sym same in
     let known = c.self.invariant.moment in
     let calendar = c.requires.calendar in
+    let runs = ap (λ (r : Indexed). r.runs) c.set_places.ensures ∙ ap (λ (r : Indexed). r.runs) c.in-Ok.ensures.cursors in
     reserved s _ c.self.invariant (record {
       image = refl;
       position = refl;
       low = omega (arith, c.if-self-max-ge-MOST.false, c.max.ensures, c.room.ensures, count);
       sessions = refl;
       moment = omega (arith, c.max-moment.ensures, known, calendar);
-      runs = ap (λ (r : RunsAndRoom). r.runs) c.in-Ok.ensures.cursors;
+      runs = runs;
       batches = refl;
       acked = refl;
       schedule = subst IsSound (sym c.in_ok-kept.ensures) c.requires.sound;
       claims = ap (λ (claims : List Bool). length claims) c.in_ok-claims.ensures ∙ simp length-replicate c.len.ensures;
       tail_room = ap (λ (t : EntriesAndRoom). t.room) c.in-Ok.ensures.tail ∙ (λ i. max ((c.in_ok-push.ensures.ok i).room) (count i));
-      run_room = ap (λ (r : RunsAndRoom). r.room) c.in-Ok.ensures.cursors ∙ ap (max s.run_room) count;
+      run_room = ap (λ (r : Indexed). r.room) c.set_places.ensures ∙ ap (λ (r : Indexed). r.room) c.in-Ok.ensures.cursors ∙ ap (max s.run_room) count;
+      places = ap (λ (r : Indexed). r.places) c.set_places.ensures ∙ c.in_ok-places.ensures ∙ (λ i. places_of (sym runs i) (c.as_slice.ensures i));
+      marks = c.push_reserved.ensures.items ∙ ap (λ (marks : List ℕ). marks ++ s.counts.position ∷ []) c.in_ok-reserve.ensures.items;
     })

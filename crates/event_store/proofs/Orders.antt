@@ -1,0 +1,75 @@
+-- Events in the order of their moments: the old ones stand in front.
+use Rattle.std.proofs.Common.{◌≡◌, ℕ, zero, suc, ◌+◌, ◌-◌, ◌<◌, ◌≤◌, Bool, true, false, cond, List, [], ◌∷◌, ◌++◌, length, take, drop, get_or, Option, Some, None, refl, sym, ap, ◌∙◌, subst, arith}
+use Rattle.std.specs.Prelude.{nat_le, ◌||◌, if◌then◌else◌}
+use Rattle.std.specs.Option.{option_to_list}
+use Rattle.std.proofs.lemmas.Bool.Decides.{nat_tests}
+use Rattle.std.proofs.lemmas.List.{drop_more, length-drop, take-append-drop}
+use Rattle.entry_model.specs.declared.restored.Live.{Live}
+use Rattle.entry_model.specs.Fits.{IsRisingFrom}
+use Rattle.event_store.specs.Orders.{IsInOrder}
+use Rattle.event_store.specs.Owed.{owed_of}
+use Rattle.event_store.proofs.Expiring.{owed_from, owed_is}
+
+bounds : (first last : ℕ) (xs : List Live) → IsInOrder first last xs → first ≤ last
+bounds first last [] h = h
+bounds first last (x ∷ xs) h =
+    let a = h.0 in
+    let b = bounds x.moment last xs h.1 in
+    omega (arith, a, b)
+
+-- one event more, of a later moment
+pub order_more : (first last : ℕ) (xs : List Live) (event : Live) → last ≤ event.moment → IsInOrder first last xs → IsInOrder first event.moment (xs ++ event ∷ [])
+order_more first last [] event later h = (omega (arith, later, h), omega arith)
+order_more first last (x ∷ xs) event later h = (h.0, order_more x.moment last xs event later h.1)
+
+pub order_front : (first last : ℕ) (xs : List Live) (count : ℕ) → IsInOrder first last xs → IsInOrder first last (take count xs)
+order_front first last xs zero h = bounds first last xs h
+order_front first last [] (suc count) h = h
+order_front first last (x ∷ xs) (suc count) h = (h.0, order_front x.moment last xs count h.1)
+
+-- a first event less
+pub order_rest : (last : ℕ) (taken : Option Live) (old new : List Live) → old ≡ option_to_list taken ++ new → IsInOrder 0 last old → IsInOrder 0 last new
+order_rest last None old new is h = subst (IsInOrder 0 last) is h
+order_rest last (Some x) old new is h = later new (subst (IsInOrder 0 last) is h).1
+  where
+    later : (xs : List Live) → IsInOrder x.moment last xs → IsInOrder 0 last xs
+    later [] k = omega arith
+    later (y ∷ ys) k = (omega arith, k.1)
+
+-- where an event may stay, all behind it may
+pub none_goes : (expiry max moment : ℕ) (owed : Option ℕ) (first last : ℕ) (xs : List Live) → nat_le expiry (moment - first) ≡ false → nat_le max (length xs) ≡ false → IsInOrder first last xs → owed_from expiry max moment owed xs ≡ owed
+none_goes expiry max moment owed first last [] young few h = refl
+none_goes expiry max moment owed first last (x ∷ xs) young few h =
+    let later = h.0 in
+    let young' : nat_le expiry (moment - x.moment) ≡ false = grind (arith, nat_tests, young, later) in
+    let few' : nat_le max (length xs) ≡ false = grind (arith, nat_tests, few) in
+    (λ i. owed_from expiry max moment (cond (young' i || few' i) (Some x.number) owed) xs) ∙ none_goes expiry max moment owed x.moment last xs young' few' h.1
+
+-- the walk may end at the first event that may stay
+pub ends_here : (expiry max moment : ℕ) (owed : Option ℕ) (last : ℕ) (x : Live) (xs : List Live) → (nat_le expiry (moment - x.moment) || nat_le max (length xs)) ≡ false → (first : ℕ) → IsInOrder first last (x ∷ xs) → owed_from expiry max moment owed (x ∷ xs) ≡ owed
+ends_here expiry max moment owed last x xs stays first h = by_causes (nat_le expiry (moment - x.moment)) (nat_le max (length xs)) refl refl
+  where
+    by_causes : (a b : Bool) → nat_le expiry (moment - x.moment) ≡ a → nat_le max (length xs) ≡ b → owed_from expiry max moment owed (x ∷ xs) ≡ owed
+    by_causes false false e f =
+        (λ i. owed_from expiry max moment (cond (e i || f i) (Some x.number) owed) xs) ∙ none_goes expiry max moment owed x.moment last xs e f h.1
+    by_causes true b e f = absurd (let k = sym (ap (λ (t : Bool). t || nat_le max (length xs)) e) ∙ stays in cc)
+    by_causes false true e f = absurd (let k = sym (λ i. e i || f i) ∙ stays in cc)
+
+pub order_behind : (first last : ℕ) (front xs : List Live) → IsInOrder first last (front ++ xs) → (later : ℕ) × IsInOrder later last xs
+order_behind first last [] xs h = (first, h)
+order_behind first last (x ∷ front) xs h = order_behind x.moment last front xs h.1
+
+-- the walk over the events that are left ends where one may stay
+pub ends_walk : (expiry max moment at later last : ℕ) (owed : Option ℕ) (items : List Live) (d : Live) → at < length items → later + at ≡ length items → IsRisingFrom 0 items → IsInOrder 0 last items → (nat_le expiry (moment - (get_or items at d).moment) || nat_le max (later - 1)) ≡ false → owed_from expiry max moment owed (drop at items) ≡ owed_from expiry max moment None items → owed ≡ owed_of expiry max moment items
+ends_walk expiry max moment at later last owed items d within counts rising order stays so_far =
+    let x = get_or items at d in
+    let rest = drop (at + 1) items in
+    let left : drop at items ≡ x ∷ rest = drop_more items at d within in
+    let all : take at items ++ x ∷ rest ≡ items = ap (λ (es : List Live). take at items ++ es) (sym left) ∙ take-append-drop at items in
+    let behind = order_behind 0 last (take at items) (x ∷ rest) (subst (IsInOrder 0 last) (sym all) order) in
+    let long : length rest ≡ later - 1 = omega (arith, length-drop (at + 1) items, counts, within) in
+    let stay : (nat_le expiry (moment - x.moment) || nat_le max (length rest)) ≡ false = ap (λ (n : ℕ). nat_le expiry (moment - x.moment) || nat_le max n) long ∙ stays in
+    sym (ends_here expiry max moment owed last x rest stay behind.0 behind.1)
+    ∙ ap (owed_from expiry max moment owed) (sym left)
+    ∙ so_far
+    ∙ owed_is expiry max moment items rising
