@@ -9,7 +9,7 @@ use Rattle.entry_model.proofs.Lasts.{last_of-append}
 use Rattle.event_store.specs.Contents.{Contents}
 use Rattle.event_store.specs.Laws.{StandsFor}
 use Rattle.pack_rules.specs.declared.schedule.Schedule.{Schedule}
-use Rattle.session_state.specs.Kept.{Counts, Kept}
+use Rattle.session_state.specs.Kept.{Counts, Kept, counts_next}
 use Rattle.session_state.specs.Stands.{HasValues, Stands, Adds}
 use Rattle.session_state.specs.Expiries.{Stays, AddsAll}
 use Rattle.daemon_rounds.specs.Adding.{counts_after, Brings}
@@ -53,7 +53,7 @@ brings_one s t e a =
 
 counts-append : (c : Counts) (xs ys : List Entry) → counts_after c (xs ++ ys) ≡ counts_after (counts_after c xs) ys
 counts-append c [] ys = refl
-counts-append c (x ∷ xs) ys = counts-append _ xs ys
+counts-append c (x ∷ xs) ys = counts-append (counts_next c x) xs ys
 
 pub brings_then : (s t u : Kept) (xs ys : List Entry) → Brings s xs t → Brings t ys u → Brings s (xs ++ ys) u
 brings_then s t u xs ys first second = record {

@@ -1,9 +1,9 @@
 -- The batch of the query that is due first.
 use Rattle.std.proofs.Common.{◌≡◌, ℕ, ◌+◌, ◌≤◌, ◌<◌, Bool, true, false, cond, List, [], ◌∷◌, ◌++◌, length, Option, Some, None, refl, sym, ap, ◌∙◌, subst, arith, append_assoc}
-use Rattle.std.specs.Prelude.{All, find, nat_le, nat_lt, set, ◌==◌, ◌^◌, slice_get, option_map, map}
+use Rattle.std.specs.Prelude.{All, find, nat_le, nat_lt, set, ◌==◌, ◌^◌, slice_get, option_map, map, IfSome}
 use Rattle.std.proofs.lemmas.Bool.Decides.{nat_tests}
-use Rattle.std.proofs.lemmas.List.{append-nil}
-use Rattle.std.proofs.lemmas.List.Elements.{All-contains, map-append}
+use Rattle.std.proofs.lemmas.List.{append-nil, map-append}
+use Rattle.std.proofs.lemmas.List.Elements.{All-contains}
 use Rattle.osq_value.specs.declared.value.Value.{Value}
 use Rattle.sql_meaning.specs.Meaning.{is_accepted}
 use Rattle.pack_rules.specs.declared.schedule.QueryKey.{QueryKey}
@@ -53,6 +53,10 @@ given s cut h = by_place (next_place s) refl h
     by_place None e h = absurd (cc)
     by_place (Some place) e h = by_query place e (slice_get s.schedule.queries place) refl h
 
+-- the cut that was given stands for what the state does
+pub stands_cut : (s : Kept) (found : Option CutValue) (cut : CutValue) → found ≡ Some cut → IfSome found (λ (cut : CutValue). (base : Restored) (added : List Entry) → Stands base added s → CutStands base added cut) → (base : Restored) (added : List Entry) → Stands base added s → CutStands base added cut
+stands_cut s found cut is stands = subst (λ (o : Option CutValue). IfSome o (λ (cut : CutValue). (base : Restored) (added : List Entry) → Stands base added s → CutStands base added cut)) is stands
+
 behind_least : (from : ℕ) (marks : List ℕ) → IsRising from marks → from ≤ behind_marks from marks
 behind_least from [] rising = omega arith
 behind_least from (mark ∷ marks) rising =
@@ -80,7 +84,7 @@ module _ (s : Kept) (is : IsState s) (cut : CutValue) (g : IsGiven s cut) (t : K
   key_is = ap (λ (c : CutValue). c.key) g.is
 
   pub accepted : is_accepted cut.key.text ≡ true
-  pub accepted = ap (λ (k : QueryKey). is_accepted k.text) key_is ∙ runnable.accepted
+  accepted = ap (λ (k : QueryKey). is_accepted k.text) key_is ∙ runnable.accepted
 
   -- only the numbers keep the batch from being added
   pub only_spent : (refusal : CommitRefusal) → commit_refusal t cut ≡ Some refusal → refusal ≡ NumbersSpent cut
@@ -150,10 +154,19 @@ module _ (s : Kept) (is : IsState s) (cut : CutValue) (g : IsGiven s cut) (t : K
         same : due_count new ≡ length (all_due (with_batch s.counts.runs cut.key (t.counts.batches + 1) cut.hi s.counts.moment) s.counts.moment s.schedule.queries)
         same = λ i. length (all_due (runs_are i) (now_is i) (queries_are i))
 
--- nothing is answered yet
-pub none_answered : (s : Kept) → Brings s (committed_all []) s × AreOwn s.counts.position []
-none_answered s =
-    (brings_none s s (record { counts = refl; image = refl; schedule = refl; ticked = refl; marks = refl; tail = refl }), tt)
+claimed_like : (s : Kept) (o : Option ℕ) → IsLike s (claimed_at s o)
+claimed_like s None = record { counts = refl; image = refl; schedule = refl; ticked = refl; marks = refl; tail = refl }
+claimed_like s (Some place) =
+    record { counts = refl; image = refl; schedule = refl; ticked = refl; marks = refl; tail = refl }
+
+due_claimed : (s : Kept) (o : Option ℕ) → first_due (claimed_at s o) ≡ first_due s
+due_claimed s None = refl
+due_claimed s (Some place) = refl
+
+-- where no query is due, none is cut, and nothing is added
+pub none_due : (s t : Kept) → t ≡ claimed_at s (next_place s) → first_due s ≡ None → (first_due t ≡ None) × Brings s [] t
+none_due s t claimed none =
+    (ap first_due claimed ∙ due_claimed s (next_place s) ∙ none, brings_none s t (subst (IsLike s) (sym claimed) (claimed_like s (next_place s))))
 
 count-after : (c : Counts) (batches : List Batch) → (counts_after c (committed_all batches)).position ≡ c.position + length batches
 count-after c [] = omega arith
@@ -164,12 +177,30 @@ own_push place [] batch own at told = (omega (arith, at), told, tt)
 own_push place (first ∷ batches) batch own at told =
     (own.0, own.1, own_push (place + 1) batches batch own.2 (omega (arith, at)) told)
 
--- one batch more is answered
+-- some queries are answered
 pub record AreAnswered (s t : Kept) : Type 0 where
   pub batches : List Batch
   pub brings : Brings s (committed_all batches) t
   pub own : AreOwn s.counts.position batches
 
+pub none_answered : (s : Kept) → AreAnswered s s
+none_answered s = record {
+  batches = [];
+  brings = brings_none s s (record { counts = refl; image = refl; schedule = refl; ticked = refl; marks = refl; tail = refl });
+  own = tt;
+}
+
+pub all_answered : (s t : Kept) → AreAnswered s t → first_due t ≡ None → AnswersDue s t
+all_answered s t so none = record { batches = so.batches; brings = so.brings; own = so.own; none = none }
+
+pub none_more : (s t u : Kept) → AreAnswered s t → Brings t [] u → AreAnswered s u
+none_more s t u so more = record {
+  batches = so.batches;
+  brings = subst (λ (es : List Entry). Brings s es u) (append-nil (committed_all so.batches)) (brings_then s t u (committed_all so.batches) [] so.brings more);
+  own = so.own;
+}
+
+-- one batch more is answered
 pub one_answered : (s t u : Kept) → AreAnswered s t → (batch : Batch) → Brings t (Committed batch ∷ []) u → batch.cut ≡ t.counts.position → IsTellable batch → AreAnswered s u
 one_answered s t u so batch more at told = record {
   batches = so.batches ++ batch ∷ [];

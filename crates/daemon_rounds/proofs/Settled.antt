@@ -1,5 +1,5 @@
 -- Behind the expiries that a state owes, it owes none.
-use Rattle.std.proofs.Common.{◌≡◌, ℕ, suc, ◌-◌, ◌≤◌, ◌<◌, ◌⊎◌, inl, inr, Bool, true, false, cond, List, [], ◌∷◌, length, Option, Some, None, refl, sym, ap, ◌∙◌, subst, arith}
+use Rattle.std.proofs.Common.{◌≡◌, ℕ, zero, suc, ◌-◌, ◌≤◌, ◌<◌, ◌⊎◌, inl, inr, Bool, true, false, cond, List, [], ◌∷◌, length, Option, Some, None, refl, sym, ap, ◌∙◌, subst, arith}
 use Rattle.std.specs.Prelude.{nat_le, nat_lt, ◌||◌, ◌==◌, if◌then◌else◌, option_map, unwrap_or}
 use Rattle.std.specs.List.{cons_option}
 use Rattle.std.proofs.lemmas.Bool.Decides.{nat_tests}
@@ -166,10 +166,10 @@ module _ (s new : Kept) (is : IsState s) (all : AddsAll s (expiries s) new) wher
 
   -- of each table those are gone that it owed
   live_is : (table : ℕ) → is_evented_table table ≡ true → live_at new.image table ≡ dropped (owed table) (live_at s.image table)
-  live_is 0 evented = live_after 0 ∙ third.drops.live 0 ∙ second.drops.live 0 ∙ first.drops.live 0
-  live_is 1 evented =
+  live_is zero evented = live_after 0 ∙ third.drops.live 0 ∙ second.drops.live 0 ∙ first.drops.live 0
+  live_is (suc zero) evented =
       live_after 1 ∙ third.drops.live 1 ∙ second.drops.live 1 ∙ ap (dropped (owed 1)) (first.drops.live 1)
-  live_is 2 evented =
+  live_is (suc (suc zero)) evented =
       live_after 2 ∙ third.drops.live 2 ∙ ap (dropped (owed 2)) (second.drops.live 2 ∙ first.drops.live 2)
   live_is (suc (suc (suc table))) evented = absurd (grind (arith, nat_tests, evented))
 

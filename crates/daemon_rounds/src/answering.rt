@@ -35,7 +35,7 @@ fn answer<V: Tables>(alloc: Global, text: &str, view: &V) -> Result<Option<RowLi
 fn answer_next(alloc: Global, state: &mut State) -> Result<bool, RoundError>
     ensures answered { IfOk result (λ more. more ≡ true → (batch : Batch) × Brings state.old (Committed batch ∷ []) state.new × (batch.cut ≡ state.old.counts.position) × IsTellable batch) }
     ensures fewer { IfOk result (λ more. more ≡ true → due_count state.new + 1 ≤ due_count state.old) }
-    ensures none { IfOk result (λ more. more ≡ false → (first_due state.old ≡ None) × (state.new ≡ state.old)) }
+    ensures none { IfOk result (λ more. more ≡ false → (first_due state.new ≡ None) × Brings state.old [] state.new) }
 {
     state.is_state();
     let cut = match state.claim_cut(alloc) {

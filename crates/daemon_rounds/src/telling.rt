@@ -83,11 +83,9 @@ pub fn lines_of_entries(
 {
     let mut text = Bytes::new(alloc);
     let mut form = form;
-    let mut rest = entries;
-    while let [entry, others @ ..] = rest {
+    for entry in entries {
         push_lines(alloc, &mut text, host, form, entry)?;
         form = form_behind(form, entry);
-        rest = others;
     }
     Ok(text)
 }
