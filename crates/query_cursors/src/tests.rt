@@ -1,4 +1,5 @@
 ghost use Rattle.std.specs.Prelude.{◌≡◌, IfOk, length};
+ghost use Rattle.query_cursors.specs.Places.{places_of};
 
 use crate::{Cursors, due};
 use entry_model::restored::{Run, RunList};
@@ -49,6 +50,16 @@ fn schedule(alloc: Global) -> Result<Schedule, NoMemory>
     })
 }
 
+/// Cursors that know where the queries of the schedule have these runs.
+fn placed(alloc: Global, runs: RunList, schedule: &Schedule) -> Result<Cursors, NoMemory>
+    ensures { IfOk result (λ cursors. cursors.places ≡ places_of cursors.runs schedule.now.queries) }
+{
+    let mut cursors = Cursors::restore(alloc, runs);
+    let places = cursors.find_places(alloc, schedule.queries.as_slice())?;
+    cursors.set_places(places);
+    Ok(cursors)
+}
+
 #[test]
 fn due_after_its_interval(rt: HostRuntime) -> Result<(), Fail> {
     let alloc = rt.alloc();
@@ -66,8 +77,8 @@ fn next_is_the_first_free_one(rt: HostRuntime) -> Result<(), Fail> {
     let alloc = rt.alloc();
     let mut runs = RunList::new(alloc);
     runs.push(run(alloc, "b", 7, 1000)?)?;
-    let cursors = Cursors::restore(runs);
     let schedule = schedule(alloc)?;
+    let cursors = placed(alloc, runs, &schedule)?;
     let rows = [
         ([false, false, false], 1059, Some(0)),
         ([true, false, false], 1059, Some(2)),
@@ -88,15 +99,32 @@ fn next_is_the_first_free_one(rt: HostRuntime) -> Result<(), Fail> {
 fn notes_a_batch(rt: HostRuntime) -> Result<(), Fail> {
     let alloc = rt.alloc();
     let query = key(alloc, "a")?;
-    let mut cursors = Cursors::restore(RunList::new(alloc));
+    let schedule = schedule(alloc)?;
+    let mut cursors = Cursors::restore(alloc, RunList::new(alloc));
+    let places = cursors.find_places(alloc, schedule.queries.as_slice())?;
+    cursors.set_places(places);
     assert_eq!(rt; (cursors.cursor(&query), cursors.number(&query)), (0, 0));
     cursors.reserve(1)?;
-    cursors.record_commit(key(alloc, "a")?, 4, 30, 1000);
+    cursors.record_commit(0, key(alloc, "a")?, 4, 30, 1000);
     cursors.reserve(1)?;
-    cursors.record_commit(key(alloc, "a")?, 6, 30, 1060);
+    cursors.record_commit(0, key(alloc, "a")?, 6, 30, 1060);
     assert_eq!(rt; (cursors.cursor(&query), cursors.number(&query)), (30, 6));
     let found = cursors.run(&query).map(|run| (run.moment, run.count));
     assert_eq!(rt; found, Some((1060, 2)));
+    assert_eq!(rt; cursors.placed_run(0).map(|run| run.number), Some(6));
     assert!(rt; cursors.run(&key(alloc, "b")?).is_none());
+    Ok(())
+}
+
+#[test]
+fn finds_runs_by_their_places(rt: HostRuntime) -> Result<(), Fail> {
+    let alloc = rt.alloc();
+    let mut runs = RunList::new(alloc);
+    runs.push(run(alloc, "z", 3, 1000)?)?;
+    runs.push(run(alloc, "b", 7, 1000)?)?;
+    let schedule = schedule(alloc)?;
+    let cursors = placed(alloc, runs, &schedule)?;
+    assert_eq!(rt; cursors.placed_run(1).map(|run| run.number), Some(7));
+    assert!(rt; cursors.placed_run(0).is_none() && cursors.placed_run(2).is_none());
     Ok(())
 }

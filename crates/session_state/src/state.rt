@@ -9,7 +9,7 @@ ghost use Rattle.entry_model.specs.declared.entry.Entry.TheVariants.{Acked, Tick
 ghost use Rattle.entry_model.specs.Legal.{IsEvent, width_of};
 ghost use Rattle.entry_model.specs.Next.{offset_at};
 ghost use Rattle.event_store.specs.Contents.{AreWide};
-ghost use Rattle.session_state.specs.Kept.{IsState, due_count};
+ghost use Rattle.session_state.specs.Kept.{due_count, IsState};
 ghost use Rattle.session_state.specs.Stands.{Adds, Begins, Stands};
 ghost use Rattle.entry_model.specs.Views.{is_evented_table, is_recorded_table};
 ghost use Rattle.session_state.specs.Ticks.{held_back_by, first_due, owed_at};

@@ -1,0 +1,24 @@
+-- Why a file gives no configuration.
+use Rattle.std.specs.Prelude.{◌≡◌, ◌≢◌, ℕ, List, Option, Some, None, Err}
+use Rattle.osq_config.specs.declared.config.Config.{Config}
+use Rattle.osq_config.specs.declared.error.ConfigError.{ConfigError}
+use Rattle.osq_config.specs.declared.error.ConfigError.TheVariants.{NoMemory as WantsMemory}
+use Rattle.osq_config.specs.Counts.{fault_of_config}
+use Rattle.osq_config.specs.Reads.{Answers}
+use Rattle.osq_config.specs.Values.{config_of}
+use Rattle.config_files.specs.declared.error.ConfiguredError.{ConfiguredError}
+use Rattle.config_files.specs.declared.error.ConfiguredError.TheVariants.{Fault, Missing, Refused, NoMemory}
+
+-- the file's document has this fault
+pub record IsFaulty (files_tell : Type 0) (file : List ℕ → Option (List ℕ)) (path : List ℕ) (error : ConfigError) : Type 0 where
+  pub document : List ℕ
+  pub found : files_tell → file path ≡ Some document
+  pub whole : error ≢ WantsMemory
+  pub faults : Answers {X = Config} fault_of_config config_of document (Err error)
+
+-- the files failed, there is no such file, or its document has a fault
+abbrev pub IsCaused : (files_tell : Type 0) → (List ℕ → Option (List ℕ)) → List ℕ → Type 0 → ConfiguredError → Type 0
+IsCaused files_tell file path failed Fault = failed
+IsCaused files_tell file path failed Missing = files_tell → file path ≡ None
+IsCaused files_tell file path failed (Refused error) = IsFaulty files_tell file path error
+IsCaused files_tell file path failed NoMemory = Unit {0}

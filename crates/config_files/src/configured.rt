@@ -1,0 +1,44 @@
+//! A configuration with its packs.
+
+ghost use Rattle.std.specs.Prelude.{◌≡◌, ◌≤◌, ℕ, List, IfOk, IfErr};
+ghost use Rattle.osq_outside.specs.Causes.{Rose};
+ghost use Rattle.config_files.specs.Causes.{IsCaused};
+ghost use Rattle.config_files.specs.Configurations.{IsConfigured};
+
+use crate::adding::add_files;
+use crate::error::ConfiguredError;
+use crate::reading::config_in;
+use osq_config::{Config, pack_files};
+use osq_outside::Files;
+use osq_value::{Bytes, TextList};
+use std::alloc::Global;
+
+/// A configuration with its packs, the documents that it was read from, and the lines that tell of packs that are left out.
+#[derive(Drop)]
+pub struct Configured {
+    pub config: Config,
+    /// The text of the configuration's file, and then one text for each pack that is given as a path, in byte order of names: the text of
+    /// its file, or the empty text where the file is missing or isn't UTF-8.
+    pub documents: TextList,
+    /// A line for each pack that is left out.
+    pub notes: Bytes,
+}
+
+/// The configuration in the file of this path, with the packs that stand in files of their own. A pack whose file is missing or refused is
+/// left out. `Fault` comes only where the count of the files' faults rose, `Missing` exactly where there is no such file, and `Refused` by
+/// the first fault of the file's document.
+pub fn read_configured<F: Files>(
+    alloc: Global,
+    files: &mut F,
+    path: &str,
+) -> Result<Configured, ConfiguredError>
+    ensures configured { IfOk result (λ made. IsConfigured F.tells (F.file files.old) path.now made.config made.documents made.notes) }
+    ensures cause { IfErr result (IsCaused F.tells (F.file files.old) path.now (Rose (F.faults files.old) (F.faults files.new))) }
+    ensures same { F.tells → (path : List ℕ) → F.file files.new path ≡ F.file files.old path }
+    ensures later { F.faults files.old ≤ F.faults files.new }
+{
+    let mut made = config_in(alloc, files, path)?;
+    let packs = pack_files(alloc, &made.config)?;
+    add_files(alloc, files, &mut made, packs.as_slice())?;
+    Ok(made)
+}

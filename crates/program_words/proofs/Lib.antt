@@ -1,0 +1,8 @@
+pub mod Conditions
+pub mod Digits
+pub mod Mapped
+pub mod Orders
+pub mod Sources
+pub mod Spellings
+pub mod Swaps
+pub mod Within

@@ -1,0 +1,5 @@
+use Rattle.program_words.proofs.Orders.{any_order}
+use Rattle.program_words.proofs.laws.any_order.Goals as goal
+
+pub returns : goal.returns
+returns c = any_order

@@ -1,0 +1,37 @@
+-- What holds of the words of every command.
+use Rattle.std.specs.Prelude.{ℕ, ◌≤◌, ◌<◌, ◌^◌, ◌≢◌, AllPairs, List, length, Option, IfSome}
+use Rattle.program_words.specs.declared.command.CommandWords.{CommandWords}
+use Rattle.program_words.specs.declared.command.CommandWords.TheVariants.{Replay, Query, Check}
+use Rattle.program_words.specs.declared.command.Paths.{Paths}
+use Rattle.program_words.specs.declared.source.SourceName.{SourceName}
+
+-- a clock's first reading and step
+pub record ClockBounds (start : Option ℕ) (step : ℕ) : Type 0 where
+  pub start_in : IfSome start (λ moment. moment < 2 ^ 63)
+  pub step_in : step ≤ 604800
+
+-- there are at most a thousand sources, and no two have one path
+pub record SourceBounds (sources : List SourceName) : Type 0 where
+  pub few : length sources ≤ 1000
+  pub own_paths : AllPairs (λ a b. a.path ≢ b.path) sources
+
+-- a run over sources
+pub record RunBounds (start : Option ℕ) (step ticks records : ℕ) (sources : List SourceName) : Type 0 where
+  pub clock : ClockBounds start step
+  pub some_ticks : 1 ≤ ticks
+  pub ticks_in : ticks ≤ 1000000
+  pub some_records : 1 ≤ records
+  pub records_in : records ≤ 1000000
+  pub sources_in : SourceBounds sources
+
+pub record HostBounds (host : List ℕ) : Type 0 where
+  pub some_bytes : 1 ≤ length host
+  pub bytes_in : length host ≤ 255
+
+unfoldable pub IsBounded : CommandWords → Type 0
+IsBounded (Replay words) = RunBounds words.start words.step words.ticks words.records words.sources × HostBounds words.host
+IsBounded (Query words) = RunBounds words.start words.step words.ticks words.records words.sources
+IsBounded (Check words) = HostBounds words.host
+
+unfoldable pub ArePathsBounded : Paths → Type 0
+ArePathsBounded paths = ClockBounds paths.start paths.step × SourceBounds paths.sources

@@ -1,0 +1,149 @@
+-- The commands: the options of each, and what it is asked by them.
+use Rattle.std.specs.Prelude.{ℕ, ◌++◌, ◌&&◌, ◌||◌, not, Bool, bytes_eq, codes, count_by, filter, if◌then◌else◌, map, nat_le, List, [], ◌∷◌, length, Option, None, Some, option_and_then, unwrap_or}
+use Rattle.std.specs.List.{list_all, list_any}
+use Rattle.std.specs.Option.{option_map}
+use Rattle.program_words.specs.declared.name.Name.{Name}
+use Rattle.program_words.specs.declared.name.Name.TheVariants.{Config, Host, Platform, Agent, Text, Audit, Changes, Tables, Start, Step, Ticks, Records, Explain}
+use Rattle.program_words.specs.declared.command.CommandName.{CommandName}
+use Rattle.program_words.specs.declared.command.CommandName.TheVariants.{Replay as ReplayName, Query as QueryName, Check as CheckName}
+use Rattle.program_words.specs.declared.command.CommandWords.{CommandWords}
+use Rattle.program_words.specs.declared.command.CommandWords.TheVariants.{Replay, Query, Check}
+use Rattle.program_words.specs.declared.command.ReplayWords.{ReplayWords}
+use Rattle.program_words.specs.declared.command.QueryWords.{QueryWords}
+use Rattle.program_words.specs.declared.command.CheckWords.{CheckWords}
+use Rattle.program_words.specs.declared.command.Paths.{Paths}
+use Rattle.program_words.specs.declared.source.SourceKind.{SourceKind}
+use Rattle.program_words.specs.declared.source.SourceKind.TheVariants.{Audit as AuditLog, Changes as ChangeList, Tables as TableLines}
+use Rattle.program_words.specs.declared.source.SourceName.{SourceName}
+use Rattle.program_words.specs.Names.{is_source, same_name, takes}
+use Rattle.program_words.specs.Given.{Given, fits, is_named, none_repeats, number_of, number_or, options_of, stands, value_of, value_or}
+
+-- the commands and their words
+unfoldable pub command_named : List ℕ → Option CommandName
+command_named word =
+    if bytes_eq word (codes "replay") then Some ReplayName
+    else (if bytes_eq word (codes "query") then Some QueryName
+    else (if bytes_eq word (codes "check") then Some CheckName
+    else None))
+
+-- the options that a command must have
+unfoldable pub required : CommandName → List Name
+required ReplayName = Config ∷ Host ∷ []
+required QueryName = Text ∷ []
+required CheckName = Config ∷ Host ∷ []
+
+-- those that it may have
+unfoldable pub optional : CommandName → List Name
+optional ReplayName = Platform ∷ Agent ∷ Audit ∷ Changes ∷ Tables ∷ Start ∷ Step ∷ Ticks ∷ Records ∷ []
+optional QueryName = Config ∷ Audit ∷ Changes ∷ Tables ∷ Start ∷ Step ∷ Ticks ∷ Records ∷ Explain ∷ []
+optional CheckName = Platform ∷ Agent ∷ []
+
+abbrev pub is_one_of : List Name → Name → Bool
+is_one_of names name = list_any (same_name name) names
+
+-- a command has an option of this name
+unfoldable pub has_option : CommandName → Name → Bool
+has_option command name = is_one_of (required command) name || is_one_of (optional command) name
+
+-- an option that the command has, with a value that it takes
+unfoldable pub is_right : CommandName → Given → Bool
+is_right command g = has_option command g.name && fits (takes g.name) g.value
+
+-- each option that the command must have stands among them
+unfoldable pub has_required : CommandName → List Given → Bool
+has_required command gs = list_all (λ name. stands name gs) (required command)
+
+-- there are at most a thousand sources
+unfoldable pub has_few_sources : List Given → Bool
+has_few_sources gs = nat_le (count_by (λ g. is_source g.name) gs) 1000
+
+-- the options are those of a run of the command
+unfoldable pub are_options : CommandName → List Given → Bool
+are_options command gs =
+    list_all (is_right command) gs && has_required command gs && has_few_sources gs && none_repeats gs
+    && (stands Start gs || not (stands Step gs))
+
+-- the sources of one kind, in the order of the words
+unfoldable pub sources_named : Name → SourceKind → List Given → List SourceName
+sources_named name kind gs = map (λ g. record { kind = kind; path = unwrap_or g.value [] }) (filter (is_named name) gs)
+
+-- audit logs, then lists of changes, then table lines
+unfoldable pub sources_of : List Given → List SourceName
+sources_of gs = sources_named Audit AuditLog gs ++ sources_named Changes ChangeList gs ++ sources_named Tables TableLines gs
+
+abbrev pub default_platform : List ℕ
+default_platform = codes "linux"
+
+abbrev pub default_agent : List ℕ
+default_agent = codes "5.10.0"
+
+unfoldable pub replay_of : List Given → ReplayWords
+replay_of gs = record {
+  config = value_or [] Config gs;
+  host = value_or [] Host gs;
+  platform = value_or default_platform Platform gs;
+  agent = value_or default_agent Agent gs;
+  sources = sources_of gs;
+  start = number_of Start gs;
+  step = number_or 60 Step gs;
+  ticks = number_or 60 Ticks gs;
+  records = number_or 10000 Records gs;
+}
+
+unfoldable pub query_of : List Given → QueryWords
+query_of gs = record {
+  text = value_or [] Text gs;
+  config = value_of Config gs;
+  sources = sources_of gs;
+  start = number_of Start gs;
+  step = number_or 60 Step gs;
+  ticks = number_or 1000000 Ticks gs;
+  records = number_or 10000 Records gs;
+  explain = stands Explain gs;
+}
+
+unfoldable pub check_of : List Given → CheckWords
+check_of gs = record {
+  config = value_or [] Config gs;
+  host = value_or [] Host gs;
+  platform = value_or default_platform Platform gs;
+  agent = value_or default_agent Agent gs;
+}
+
+-- what the options of a command ask for
+abbrev pub asked_by : CommandName → List Given → CommandWords
+asked_by ReplayName gs = Replay (replay_of gs)
+asked_by QueryName gs = Query (query_of gs)
+asked_by CheckName gs = Check (check_of gs)
+
+abbrev pub command_with : List Given → CommandName → Option CommandWords
+command_with gs command = if are_options command gs then Some (asked_by command gs) else None
+
+-- the words that are refused wherever they stand
+unfoldable pub refused : List (List ℕ)
+refused = codes "--" ∷ codes "--help" ∷ codes "-h" ∷ codes "--version" ∷ codes "-V" ∷ []
+
+unfoldable pub is_refused : List ℕ → Bool
+is_refused word = list_any (λ other. bytes_eq word other) refused
+
+unfoldable pub has_refused : List (List ℕ) → Bool
+has_refused words = list_any is_refused words
+
+-- what the words ask for, if they are those of a command: its word, and then its options
+unfoldable pub words_of : List (List ℕ) → Option CommandWords
+words_of [] = None
+words_of (word ∷ words) =
+    if has_refused (word ∷ words) then None else option_and_then (command_with (options_of words)) (command_named word)
+
+-- the sources that a command names, with the moments of its clock
+abbrev pub paths_in : CommandWords → Paths
+paths_in (Replay words) = record { sources = words.sources; start = words.start; step = words.step }
+paths_in (Query words) = record { sources = words.sources; start = words.start; step = words.step }
+paths_in (Check words) = record { sources = []; start = None; step = 60 }
+
+abbrev pub paths_of : List (List ℕ) → Option Paths
+paths_of words = option_map paths_in (words_of words)
+
+-- how many sources a command names
+abbrev pub sources_in : CommandWords → ℕ
+sources_in command = length (paths_in command).sources

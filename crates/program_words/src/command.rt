@@ -1,0 +1,226 @@
+//! The commands, and what their words ask.
+
+ghost use Rattle.std.specs.Prelude.{◌≡◌, length};
+ghost use Rattle.std.specs.List.{list_all};
+ghost use Rattle.program_words.specs.Commands.{are_options, command_named, has_option, has_required, is_right, optional, paths_in, required, sources_in};
+ghost use Rattle.program_words.specs.Left.{given, options_in};
+
+use crate::given::GivenOption;
+use crate::name::Name;
+use crate::options::OptionWords;
+use crate::source::SourceNameList;
+use osq_value::{Sequence, Str};
+use std::alloc::Global;
+
+/// The commands.
+#[derive(Clone, Copy)]
+pub(crate) enum CommandName {
+    Replay,
+    Query,
+    Check,
+}
+
+impl CommandName {
+    /// The command of that word.
+    #[tactic(auto, unfolding(crate::specs::Commands::command_named))]
+    pub(crate) fn of(word: &str) -> Option<CommandName>
+        ensures { result ≡ command_named word.now }
+    {
+        match word {
+            "replay" => Some(CommandName::Replay),
+            "query" => Some(CommandName::Query),
+            "check" => Some(CommandName::Check),
+            _ => None,
+        }
+    }
+
+    /// The options that the command must have.
+    #[tactic(auto, unfolding(crate::specs::Commands::required))]
+    fn required(self) -> &'static [Name]
+        ensures { result.now ≡ required self }
+    {
+        match self {
+            CommandName::Replay => &[Name::Config, Name::Host],
+            CommandName::Query => &[Name::Text],
+            CommandName::Check => &[Name::Config, Name::Host],
+        }
+    }
+
+    /// Those that it may have.
+    #[tactic(auto, unfolding(crate::specs::Commands::optional))]
+    fn optional(self) -> &'static [Name]
+        ensures { result.now ≡ optional self }
+    {
+        match self {
+            CommandName::Replay => &[
+                Name::Platform,
+                Name::Agent,
+                Name::Audit,
+                Name::Changes,
+                Name::Tables,
+                Name::Start,
+                Name::Step,
+                Name::Ticks,
+                Name::Records,
+            ],
+            CommandName::Query => &[
+                Name::Config,
+                Name::Audit,
+                Name::Changes,
+                Name::Tables,
+                Name::Start,
+                Name::Step,
+                Name::Ticks,
+                Name::Records,
+                Name::Explain,
+            ],
+            CommandName::Check => &[Name::Platform, Name::Agent],
+        }
+    }
+
+    #[tactic(auto, unfolding(crate::specs::Commands::has_option))]
+    fn has_option(self, name: Name) -> bool
+        ensures { result ≡ has_option self name }
+    {
+        name.is_one_of(self.required()) || name.is_one_of(self.optional())
+    }
+
+    /// The command has that option, and what stands behind the name is what it takes.
+    #[tactic(auto, unfolding(crate::specs::Commands::is_right))]
+    fn is_right(self, option: &GivenOption<'_>) -> bool
+        ensures { result ≡ is_right self (given option.now) }
+    {
+        self.has_option(option.name) && option.fits()
+    }
+
+    fn are_right(self, options: OptionWords<'_, '_>) -> bool
+        ensures { result ≡ list_all (is_right self) (options_in options.entry) }
+    {
+        options.options().all(|option| self.is_right(&option))
+    }
+
+    #[tactic(auto, unfolding(crate::specs::Commands::has_required))]
+    fn has_required(self, options: OptionWords<'_, '_>) -> bool
+        ensures { result ≡ has_required self (options_in options.entry) }
+    {
+        self.required().iter().all(|name| options.stands(*name))
+    }
+
+    /// The options are those of a run of the command.
+    #[tactic(auto, unfolding(crate::specs::Commands::are_options))]
+    pub(crate) fn are_options(self, options: OptionWords<'_, '_>) -> bool
+        ensures { result ≡ are_options self (options_in options.entry) }
+    {
+        self.are_right(options)
+            && self.has_required(options)
+            && options.has_few_sources()
+            && options.none_repeats()
+            && (options.stands(Name::Start) || !options.stands(Name::Step))
+    }
+}
+
+/// The words of a session.
+#[derive(Drop)]
+pub struct ReplayWords {
+    /// The path of the configuration.
+    pub config: Str,
+    pub host: Str,
+    pub platform: Str,
+    pub agent: Str,
+    /// The sources, in the order audit, changes, tables, each in the order of the words.
+    pub sources: SourceNameList,
+    /// The clock's first reading, where it isn't the machine's clock.
+    pub start: Option<u64>,
+    /// Seconds between two ticks of that clock.
+    pub step: u64,
+    /// How many ticks the session has.
+    pub ticks: u64,
+    /// The most records of one step of a source.
+    pub records: u64,
+}
+
+/// The words of one question.
+#[derive(Drop)]
+pub struct QueryWords {
+    /// The SQL text.
+    pub text: Str,
+    /// The path of the configuration whose `file_paths` count.
+    pub config: Option<Str>,
+    /// The sources, in the order audit, changes, tables, each in the order of the words.
+    pub sources: SourceNameList,
+    /// The clock's first reading, where it isn't the machine's clock.
+    pub start: Option<u64>,
+    /// Seconds between two readings of that clock.
+    pub step: u64,
+    /// How many rounds over the sources there are at most.
+    pub ticks: u64,
+    /// The most records of one step of a source.
+    pub records: u64,
+    /// The plan is wanted, and not the answer.
+    pub explain: bool,
+}
+
+/// The words of a look at a configuration.
+#[derive(Drop)]
+pub struct CheckWords {
+    /// The path of the configuration.
+    pub config: Str,
+    pub host: Str,
+    pub platform: Str,
+    pub agent: Str,
+}
+
+/// The words of a command.
+#[derive(Drop)]
+pub enum CommandWords {
+    Replay(ReplayWords),
+    Query(QueryWords),
+    Check(CheckWords),
+}
+
+/// What the program opens for a command: its sources, and its clock.
+#[derive(Drop)]
+pub struct Paths {
+    /// The sources, in the order audit, changes, tables, each in the order of the words.
+    pub sources: SourceNameList,
+    /// The clock's first reading, where it isn't the machine's clock.
+    pub start: Option<u64>,
+    /// Seconds between two readings of that clock.
+    pub step: u64,
+}
+
+impl CommandWords {
+    /// What the program opens for the command.
+    pub fn into_paths(self, alloc: Global) -> Paths
+        ensures { result ≡ paths_in self }
+    {
+        match self {
+            CommandWords::Replay(words) => Paths {
+                sources: words.sources,
+                start: words.start,
+                step: words.step,
+            },
+            CommandWords::Query(words) => Paths {
+                sources: words.sources,
+                start: words.start,
+                step: words.step,
+            },
+            CommandWords::Check(_) => Paths {
+                sources: Sequence::new(alloc),
+                start: None,
+                step: 60,
+            },
+        }
+    }
+
+    /// How many sources the command names.
+    pub fn sources(&self) -> usize
+        ensures { result ≡ sources_in self.now }
+    {
+        match self {
+            CommandWords::Replay(words) => words.sources.len(),
+            CommandWords::Query(words) => words.sources.len(),
+            CommandWords::Check(_) => 0,
+        }
+    }
+}

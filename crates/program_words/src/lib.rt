@@ -1,0 +1,20 @@
+//! The words of the program's commands.
+#![tactic(auto)]
+
+pub mod command;
+pub mod error;
+mod given;
+pub mod laws;
+mod name;
+mod number;
+mod options;
+mod read;
+pub mod source;
+
+pub use command::{CheckWords, CommandWords, Paths, QueryWords, ReplayWords};
+pub use error::WordsError;
+pub use read::{paths_of, read_words};
+pub use source::{SourceKind, SourceName, SourceNameList};
+
+#[cfg(test)]
+mod tests;

@@ -1,0 +1,23 @@
+//! The sources that words name.
+
+use osq_value::{Sequence, Str};
+
+/// What the lines of a source are.
+#[derive(Clone, Copy, PartialEq, Eq, Debug)]
+pub enum SourceKind {
+    /// Lines of an audit log.
+    Audit,
+    /// Changes of files, one JSON object a line.
+    Changes,
+    /// Recorded tables, one JSON object a line.
+    Tables,
+}
+
+/// A source that the words name.
+#[derive(Drop)]
+pub struct SourceName {
+    pub kind: SourceKind,
+    pub path: Str,
+}
+
+pub type SourceNameList = Sequence<SourceName>;

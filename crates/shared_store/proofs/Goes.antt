@@ -1,0 +1,115 @@
+-- How a state goes on by entries.
+use Rattle.std.proofs.Common.{◌≡◌, ◌+◌, List, [], ◌∷◌, ◌++◌, false, refl, sym, ap, ◌∙◌, subst, append_assoc, append-nil, arith}
+use Rattle.std.specs.Prelude.{unwrap_or}
+use Rattle.entry_model.specs.declared.entry.Entry.{Entry}
+use Rattle.entry_model.specs.declared.entry.Entry.TheVariants.{Opened}
+use Rattle.entry_model.specs.declared.restored.Restored.{Restored}
+use Rattle.entry_model.specs.Values.{schedule_in, no_schedule, tick_in}
+use Rattle.entry_model.proofs.Lasts.{last_of-append}
+use Rattle.event_store.specs.Contents.{Contents}
+use Rattle.event_store.specs.Laws.{StandsFor, Follows}
+use Rattle.session_state.specs.Kept.{Counts, Kept, counts_of, counts_next}
+use Rattle.session_state.specs.Cut.{CutValue}
+use Rattle.session_state.specs.CutOf.{IsCutOf}
+use Rattle.session_state.specs.Expiries.{Stays, AddsAll}
+use Rattle.session_state.specs.Stands.{Stands, Moves, Adds}
+use Rattle.session_state.proofs.Known.{known_alike}
+use Rattle.shared_store.specs.Values.{counts_after, FollowsAll, ComesBy}
+
+counts_after-push : (c : Counts) (es : List Entry) (e : Entry) → counts_after c (es ++ e ∷ []) ≡ counts_next (counts_after c es) e
+counts_after-push c [] e = refl
+counts_after-push c (x ∷ es) e = counts_after-push (counts_next c x) es e
+
+follows_push : (old mid new : Contents) (es : List Entry) (e : Entry) → FollowsAll old es mid → Follows e mid new → FollowsAll old (es ++ e ∷ []) new
+follows_push old mid new [] e same follows = (new, subst (λ (image : Contents). Follows e image new) same follows, refl)
+follows_push old mid new (x ∷ es) e h follows = (h.0, h.1, follows_push h.0 mid new es e h.2 follows)
+
+pub comes_moves : (start : Restored) (es : List Entry) (was now : Kept) (e : Entry) → Moves was e now → ComesBy start es was → ComesBy start (es ++ e ∷ []) now
+comes_moves start es was now e m c = record {
+  opened = c.opened;
+  holds = c.holds;
+  image = follows_push c.opened was.image now.image es e c.image m.image;
+  counts = m.counts ∙ ap (λ (c : Counts). counts_next c e) c.counts ∙ sym (counts_after-push (counts_next (counts_of start) (Opened (start.sessions + 1))) es e);
+  schedule = m.schedule ∙ ap (unwrap_or (schedule_in e)) c.schedule ∙ sym (last_of-append schedule_in no_schedule es (e ∷ []));
+  ticked = m.ticked ∙ ap (unwrap_or (tick_in e)) c.ticked ∙ sym (last_of-append tick_in false es (e ∷ []));
+}
+
+comes_stays : (start : Restored) (es : List Entry) (was now : Kept) → Stays was now → ComesBy start es was → ComesBy start es now
+comes_stays start es was now same c = record {
+  opened = c.opened;
+  holds = c.holds;
+  image = subst (FollowsAll c.opened es) (sym same.image) c.image;
+  counts = same.counts ∙ c.counts;
+  schedule = same.schedule ∙ c.schedule;
+  ticked = same.ticked ∙ c.ticked;
+}
+
+-- a state with the values of another stands for what that one does
+pub stands_alike : (was now : Kept) → now.counts ≡ was.counts → now.image ≡ was.image → now.schedule ≡ was.schedule → now.ticked ≡ was.ticked → now.marks ≡ was.marks → (start : Restored) (added : List Entry) → Stands start added was → Stands start added now
+stands_alike was now counts image schedule ticked marks start added stands = record {
+  values = λ before legal is.
+      let h = stands.values before legal is in
+      record {
+        legal = h.legal;
+        counts = h.counts ∙ sym counts;
+        image = subst (λ (image : Contents). StandsFor (before ++ added) image) (sym image) h.image;
+        schedule = h.schedule ∙ sym schedule;
+        ticked = h.ticked ∙ sym ticked;
+      };
+  marks = marks ∙ stands.marks;
+  position = ap (λ (c : Counts). c.position) counts ∙ stands.position;
+}
+
+-- behind the entry that opens the session and these, the state goes on by those
+pub record Goes (start : Restored) (added : List Entry) (was now : Kept) (es : List Entry) : Type 0 where
+  pub tail : now.tail ≡ was.tail ++ es
+  pub stands : Stands start (Opened (start.sessions + 1) ∷ added) was → Stands start (Opened (start.sessions + 1) ∷ (added ++ es)) now
+  pub comes : ComesBy start added was → ComesBy start (added ++ es) now
+  pub cuts : (cut : CutValue) → IsCutOf was cut → IsCutOf now cut
+
+module _ (start : Restored) (added : List Entry) where
+  pub goes_stays : (was now : Kept) → Stays was now → Goes start added was now []
+  goes_stays was now same = record {
+    tail = same.tail ∙ sym (append-nil was.tail);
+    stands = λ stands. subst (λ (es : List Entry). Stands start (Opened (start.sessions + 1) ∷ es) now) (sym (append-nil added)) (stands_alike was now same.counts same.image same.schedule same.ticked same.marks start (Opened (start.sessions + 1) ∷ added) stands);
+    comes = λ comes. subst (λ (es : List Entry). ComesBy start es now) (sym (append-nil added)) (comes_stays start added was now same comes);
+    cuts = known_alike was now (record {
+      position = (let p = ap (λ (c : Counts). c.position) same.counts in omega (arith, p));
+      batches = ap (λ (c : Counts). c.batches) same.counts;
+      runs = ap (λ (c : Counts). c.runs) same.counts;
+      moment = ap (λ (c : Counts). c.moment) same.counts;
+      schedule = same.schedule;
+      ticked = same.ticked;
+      marks = same.marks;
+    });
+  }
+
+  pub goes_same : (was now : Kept) → now ≡ was → Goes start added was now []
+  goes_same was now same =
+      subst (λ (now : Kept). Goes start added was now []) (sym same) (goes_stays was was (record { counts = refl; image = refl; schedule = refl; ticked = refl; marks = refl; tail = refl }))
+
+  pub goes_adds : (was now : Kept) (e : Entry) → Adds was e now → Goes start added was now (e ∷ [])
+  goes_adds was now e a = record {
+    tail = a.moves.tail;
+    stands = λ stands. a.stands start (Opened (start.sessions + 1) ∷ added) stands;
+    comes = λ comes. comes_moves start added was now e a.moves comes;
+    cuts = a.cuts;
+  }
+
+goes_more : (start : Restored) (added : List Entry) (was mid now : Kept) (e : Entry) (es : List Entry) → Goes start added was mid (e ∷ []) → Goes start (added ++ e ∷ []) mid now es → Goes start added was now (e ∷ es)
+goes_more start added was mid now e es g h = record {
+  tail = h.tail ∙ ap (λ (t : List Entry). t ++ es) g.tail ∙ append_assoc was.tail (e ∷ []) es;
+  stands = λ stands. subst (λ (all : List Entry). Stands start (Opened (start.sessions + 1) ∷ all) now) (append_assoc added (e ∷ []) es) (h.stands (g.stands stands));
+  comes = λ comes. subst (λ (all : List Entry). ComesBy start all now) (append_assoc added (e ∷ []) es) (h.comes (g.comes comes));
+  cuts = λ cut of. h.cuts cut (g.cuts cut of);
+}
+
+pub goes_all : (start : Restored) (added : List Entry) (was now : Kept) (es : List Entry) → AddsAll was es now → Goes start added was now es
+goes_all start added was now [] same = goes_stays start added was now same
+goes_all start added was now (e ∷ es) h =
+    goes_more start added was h.0 now e es (goes_adds start added was h.0 e h.1) (goes_all start (added ++ e ∷ []) h.0 now es h.2)
+
+pub all_tail : (was now : Kept) (es : List Entry) → AddsAll was es now → now.tail ≡ was.tail ++ es
+all_tail was now [] same = same.tail ∙ sym (append-nil was.tail)
+all_tail was now (e ∷ es) h =
+    all_tail h.0 now es h.2 ∙ ap (λ (t : List Entry). t ++ es) h.1.moves.tail ∙ append_assoc was.tail (e ∷ []) es

@@ -1,0 +1,4 @@
+pub mod Lists
+pub mod Goes
+pub mod Shares
+pub mod Turning

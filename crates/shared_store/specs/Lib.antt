@@ -1,0 +1,7 @@
+pub mod Notes
+pub mod Values
+pub mod Shares
+pub mod Turns
+pub mod Answers
+pub mod Words
+pub mod Laws

@@ -1,0 +1,9 @@
+pub mod Cuts
+pub mod Feeds
+pub mod Groups
+pub mod Joins
+pub mod Lasts
+pub mod Shapes
+pub mod Splits
+pub mod Steps
+pub mod TableLines

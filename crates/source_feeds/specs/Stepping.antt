@@ -1,0 +1,23 @@
+-- What a step of a feed does.
+use Rattle.std.specs.Prelude.{◌≡◌, ◌⊎◌, ℕ, ◌≤◌, true, false, List, ◌++◌, length, drop}
+use Rattle.osq_value.specs.declared.reading.Reading.{Reading}
+use Rattle.publisher_core.specs.declared.record.Piece.{Piece}
+use Rattle.publisher_core.specs.Readings.{readings_of}
+use Rattle.publisher_core.specs.Standing.{is_at_end}
+use Rattle.publisher_core.specs.Stepping.{STEP_BYTES}
+use Rattle.source_feeds.specs.Feeding.{Fed, Feeding}
+use Rattle.source_feeds.specs.Taking.{ReadsTo, Takes, TakesAll}
+
+-- A step took these records behind those that were given before, and the readings are theirs. Where the source tells its bytes: all records of
+-- the session are those of the lines between the kept offset and the new one; the step took what a step takes of the bytes behind the offset
+-- at which it began; at the source's end all lines of the session are taken; and before its end the step was full, or at least 16777216 bytes
+-- stood behind that offset.
+pub record IsStep (tells : Type 0) (before after : List ℕ) (old new : Feeding) (kept : ℕ) (given : List Piece) (most : ℕ) (readings : List Reading) : Type 0 where
+  pub pieces : List Piece
+  pub read : readings ≡ readings_of old.kind pieces
+  pub fed : Fed tells before after new kept (given ++ pieces)
+  pub few : length pieces ≤ most
+  pub whole : tells → ReadsTo old.kind old.reader.paths kept (drop kept before) (given ++ pieces) new.reader.taken
+  pub takes : tells → Takes old.kind old.reader.paths old.reader.taken (drop old.reader.taken before) most pieces new.reader.taken
+  pub over : tells → is_at_end new.reader ≡ true → TakesAll old.kind old.reader.paths kept before (given ++ pieces) new.reader.taken
+  pub still : tells → is_at_end new.reader ≡ false → (length pieces ≡ most) ⊎ (STEP_BYTES ≤ length (drop old.reader.taken before))
