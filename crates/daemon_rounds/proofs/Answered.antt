@@ -87,8 +87,8 @@ module _ (s : Kept) (is : IsState s) (cut : CutValue) (g : IsGiven s cut) (t : K
   accepted = ap (λ (k : QueryKey). is_accepted k.text) key_is ∙ runnable.accepted
 
   -- only the numbers keep the batch from being added
-  pub only_spent : (refusal : CommitRefusal) → commit_refusal t cut ≡ Some refusal → refusal ≡ NumbersSpent cut
-  only_spent refusal h = subst (λ (o : Option CommitRefusal). o ≡ Some refusal → refusal ≡ NumbersSpent cut) (sym passed) by_bound h
+  pub only_spent : (refusal : CommitRefusal) → commit_refusal t cut ≡ Some refusal → (refusal ≡ NumbersSpent cut) × (2 ^ 62 < t.counts.batches + 1)
+  only_spent refusal h = by_bound (nat_lt (2 ^ 62) (t.counts.batches + 1)) refl (sym passed ∙ h)
     where
       last_is : cursors.number_of t.counts.runs cut.key ≡ cut.last
       last_is =
@@ -105,12 +105,12 @@ module _ (s : Kept) (is : IsState s) (cut : CutValue) (g : IsGiven s cut) (t : K
       passed =
           ap (λ (b : Bool). cond b (refusal_by t cut (mark_from t cut.position)) (Some (Superseded (cursors.number_of t.counts.runs cut.key) cut))) equal ∙ ap (refusal_by t cut) unmarked
 
-      by_bound : refusal_by t cut None ≡ Some refusal → refusal ≡ NumbersSpent cut
-      by_bound = by_test (nat_lt (2 ^ 62) (t.counts.batches + 1))
-        where
-          by_test : (b : Bool) → cond b (Some (NumbersSpent cut)) None ≡ Some refusal → refusal ≡ NumbersSpent cut
-          by_test true e = (cc)
-          by_test false e = absurd (cc)
+      by_bound : (b : Bool) → nat_lt (2 ^ 62) (t.counts.batches + 1) ≡ b → refusal_by t cut None ≡ Some refusal → (refusal ≡ NumbersSpent cut) × (2 ^ 62 < t.counts.batches + 1)
+      by_bound true e k =
+          let found : Some (NumbersSpent cut) ≡ Some refusal = sym (ap (λ (b : Bool). cond b (Some (NumbersSpent cut)) None) e) ∙ k in
+          ((cc), grind (arith, nat_tests, e))
+      by_bound false e k =
+          absurd (let found : None ≡ Some refusal = sym (ap (λ (b : Bool). cond b (Some (NumbersSpent cut)) None) e) ∙ k in cc)
 
   module _ (rows : List (List Value)) (new : Kept) (c : Commits t cut rows new) (cuts : (base : Restored) (added : List Entry) → Stands base added s → CutStands base added cut) where
     abbrev batch : Batch

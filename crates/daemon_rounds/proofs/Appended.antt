@@ -1,6 +1,6 @@
 -- The readings of a source, some of which are appended.
-use Rattle.std.proofs.Common.{◌≡◌, ℕ, false, List, [], ◌∷◌, ◌++◌, refl, sym, ap, ◌∙◌, subst, append_assoc}
-use Rattle.std.specs.Prelude.{All, bytes_eq, map}
+use Rattle.std.proofs.Common.{◌≡◌, ℕ, suc, ◌+◌, arith, false, List, [], ◌∷◌, ◌++◌, refl, sym, ap, ◌∙◌, subst, append_assoc}
+use Rattle.std.specs.Prelude.{All, Contains, bytes_eq, map}
 use Rattle.std.proofs.lemmas.List.{append-nil, map-append}
 use Rattle.std.proofs.lemmas.List.Elements.{All-tail}
 use Rattle.osq_value.specs.declared.reading.Reading.{Reading}
@@ -83,3 +83,15 @@ all_appended s source all rest t none so =
       offset = so.offset ∙ ap (end_behind (offset_at s.counts.taken source)) same;
       others = so.others;
     }
+
+within : (done rest : List Reading) (reading : Reading) → Contains (done ++ reading ∷ rest) reading
+within [] rest reading = (0, (omega arith), refl)
+within (first ∷ done) rest reading =
+    let h = within done rest reading in
+    let low = h.1 in
+    (suc h.0, (omega (arith, low)), h.2)
+
+-- the reading that comes next is one of all
+pub next_within : (s : Kept) (source : List ℕ) (all rest : List Reading) (reading : Reading) (t : Kept) → AreAppended s source all (reading ∷ rest) t → Contains all reading
+next_within s source all rest reading t so =
+    subst (λ (rs : List Reading). Contains rs reading) (sym so.whole) (within so.done rest reading)

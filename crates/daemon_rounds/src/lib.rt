@@ -5,6 +5,7 @@
 mod answering;
 mod appending;
 pub mod error;
+mod finishing;
 mod sealing;
 mod settling;
 mod telling;
@@ -12,8 +13,12 @@ mod ticking;
 
 pub use answering::answer_due;
 pub use appending::append_all;
-pub use error::RoundError;
+pub use error::{FinishError, RoundError};
+pub use finishing::{answer_and_settle, finish_tick};
 pub use sealing::{SealError, seal};
 pub use settling::settle;
 pub use telling::lines_of_entries;
 pub use ticking::begin_tick;
+
+#[cfg(test)]
+mod tests;

@@ -1,41 +1,27 @@
 //! The result lines of entries.
 
 ghost use Rattle.std.specs.Prelude.{◌≡◌, ◌++◌, ℕ, List, false, IfOk, IfSome, OnOk, Ok, None};
-ghost use Rattle.sql_meaning.specs.Meaning.{is_accepted, names_of as names_in};
+ghost use Rattle.sql_meaning.specs.Meaning.{names_of as names_in};
 ghost use Rattle.result_batches.specs.Lines.{AreLines};
 ghost use Rattle.daemon_rounds.specs.Answering.{IsTellable};
 ghost use Rattle.daemon_rounds.specs.Telling.{AreTellable, AreTold, IsTold, Tells, form_after};
 
 use entry_model::entry::{Batch, Entry};
-use osq_value::{Bytes, NoMemory, TextList};
+use osq_value::{Bytes, NoMemory};
 use pack_rules::schedule::Form;
+use query_answers::names;
 use result_batches::result_lines;
-use sql_names::answers::names_of;
-use sql_names::text::{TextError, query_of_text};
 use std::alloc::Global;
-
-/// The names of the columns of a text's result, where it is a query.
-#[tactic(auto, unfolding(sql_meaning::specs::Meaning::names_of, sql_meaning::specs::Meaning::is_accepted))]
-fn names(alloc: Global, text: &str) -> Result<Option<TextList>, NoMemory>
-    ensures names { IfOk result (λ names. IfSome names (λ names. names ≡ names_in text.now)) }
-    ensures none { result ≡ Ok None → is_accepted text.now ≡ false }
-{
-    match query_of_text(alloc, text) {
-        Ok(query) => Ok(Some(names_of(alloc, &query)?)),
-        Err(TextError::NoMemory) => Err(NoMemory),
-        Err(_) => Ok(None),
-    }
-}
 
 /// The lines of a batch.
 fn batch_lines(alloc: Global, host: &str, form: Form, batch: &Batch) -> Result<Bytes, NoMemory>
     requires { IsTellable batch.now }
     ensures { IfOk result (AreLines form host.now (names_in batch.now.query.text) batch.now) }
 {
-    let Some(names) = names(alloc, batch.query.text.as_str())? else {
-        unreachable!()
-    };
-    result_lines(alloc, batch, &names, host, form)
+    match names(alloc, batch.query.text.as_str())? {
+        Some(names) => result_lines(alloc, batch, &names, host, form),
+        None => unreachable!(),
+    }
 }
 
 /// Adds the lines of an entry.
