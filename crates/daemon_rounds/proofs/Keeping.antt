@@ -1,20 +1,26 @@
 -- A state goes on from the keeper's list, whatever it gains and whatever is sealed.
-use Rattle.std.proofs.Common.{◌≡◌, ℕ, ◌+◌, List, [], ◌∷◌, ◌++◌, Option, Some, None, sym, ap, ◌∙◌, subst, append_assoc}
+use Rattle.std.proofs.Common.{◌≡◌, ℕ, ◌+◌, List, [], ◌∷◌, ◌++◌, Option, Some, None, refl, sym, ap, ◌∙◌, subst, append_assoc}
 use Rattle.std.specs.Prelude.{filter_map, option_map, true}
 use Rattle.std.specs.List.{cons_option}
 use Rattle.std.proofs.lemmas.List.{append-nil}
+use Rattle.osq_value.specs.declared.reading.Reading.{Reading}
+use Rattle.osq_value.specs.declared.reading.Reading.TheVariants.{Events, Table}
 use Rattle.entry_model.specs.declared.entry.Batch.{Batch}
 use Rattle.entry_model.specs.declared.entry.Entry.{Entry}
 use Rattle.entry_model.specs.declared.entry.Entry.TheVariants.{Expired}
+use Rattle.entry_model.specs.declared.restored.Restored.{Restored}
+use Rattle.entry_model.specs.Summary.{summary}
 use Rattle.entry_model.specs.Legal.{Legal}
 use Rattle.entry_model.specs.Views.{is_evented_table}
 use Rattle.entry_model.proofs.Follows.{Legal-front}
 use Rattle.session_state.specs.Kept.{Kept}
-use Rattle.session_state.specs.Stands.{Stands}
+use Rattle.session_state.specs.Readings.{entry_of}
+use Rattle.session_state.specs.Stands.{Adds, Stands}
 use Rattle.session_state.specs.Ticks.{first_due, owed_at}
 use Rattle.session_state.specs.Expiries.{expiry_of, expiries}
 use Rattle.daemon_rounds.specs.Adding.{Brings}
 use Rattle.daemon_rounds.specs.Answering.{AnswersDue, AreOwn, committed_all}
+use Rattle.daemon_rounds.specs.Appending.{entries_of}
 use Rattle.daemon_rounds.specs.Keeping.{GoesOn, IsKeptFrom, Settles}
 use Rattle.daemon_rounds.specs.Telling.{AreTellable, IsTold}
 use Rattle.daemon_rounds.proofs.Adding.{IsLike, brings_then}
@@ -104,3 +110,26 @@ settled_on tells kept s t g h = still_on tells kept s t (committed_all h.batches
 pub finished_on : (tells : Type 0) (kept now : List Entry) (s t u : Kept) → GoesOn tells kept s → Settles s t → u ≡ record t { tail = [] } → (tells → now ≡ kept ++ t.tail) → GoesOn tells now u
 finished_on tells kept now s t u g h taken grown =
     subst (GoesOn tells now) (sym taken) (on_list tells (kept ++ t.tail) now (record t { tail = [] }) (sealed_on tells kept t (settled_on tells kept s t g h)) grown)
+
+reading_tellable : (source : List ℕ) (moment : ℕ) (reading : Reading) (rest : List Entry) → AreTellable rest → AreTellable (entry_of source moment reading ∷ rest)
+reading_tellable source moment (Events taken events skipped) rest tellable = (tt, tellable)
+reading_tellable source moment (Table taken table rows) rest tellable = (tt, tellable)
+
+readings_tellable : (source : List ℕ) (moment : ℕ) (readings : List Reading) → AreTellable (entries_of source moment readings)
+readings_tellable source moment [] = tt
+readings_tellable source moment (reading ∷ readings) =
+    reading_tellable source moment reading (entries_of source moment readings) (readings_tellable source moment readings)
+
+-- so can the tail with the entries of readings
+pub appended_tellable : (s t : Kept) (source : List ℕ) (moment : ℕ) (readings : List Reading) → AreTellable s.tail → Brings s (entries_of source moment readings) t → AreTellable t.tail
+appended_tellable s t source moment readings tellable more =
+    subst AreTellable (sym more.tail) (tellable-append s.tail (entries_of source moment readings) tellable (readings_tellable source moment readings))
+
+-- a session that begins over an empty list goes on from it, with what it gained first
+pub opened_on : (base : Restored) (s0 s1 s2 : Kept) (opened configured ticked : Entry) → Stands base (opened ∷ []) s0 → s0.tail ≡ opened ∷ [] → Adds s0 configured s1 → Brings s1 (ticked ∷ []) s2 → base ≡ summary [] → GoesOn (Unit {0}) [] s2
+opened_on base s0 s1 s2 opened configured ticked stands tail adds brings empty = record {
+  base = base;
+  sealed = [];
+  stands = subst (λ (added : List Entry). Stands base added s2) (sym (brings.tail ∙ ap (λ (es : List Entry). es ++ ticked ∷ []) (adds.moves.tail ∙ ap (λ (es : List Entry). es ++ configured ∷ []) tail))) (brings.stands base ((opened ∷ []) ++ configured ∷ []) (adds.stands base (opened ∷ []) stands));
+  list = λ told. record { before = []; is = refl; same = sym empty };
+}

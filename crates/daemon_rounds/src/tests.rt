@@ -140,6 +140,7 @@ fn add(alloc: Global, state: &mut State) -> Result<(), NoMemory>
 }
 
 /// What a tick over an empty list keeps, and what it tells.
+#[derive(Drop)]
 struct Outcome {
     entries: usize,
     lines: Bytes,
