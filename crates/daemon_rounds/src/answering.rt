@@ -1,0 +1,71 @@
+//! The due queries of a tick, each answered by one batch.
+
+ghost use Rattle.std.specs.Prelude.{◌<◌, ◌^◌, Err, ◌≡◌, ◌+◌, ◌≤◌, true, false, IfOk, IfSome, Ok, None, [], ◌∷◌};
+ghost use Rattle.sql_meaning.specs.Meaning.{is_accepted, meaning};
+ghost use Rattle.entry_model.specs.declared.entry.Batch.{Batch};
+ghost use Rattle.entry_model.specs.declared.entry.Entry.TheVariants.{Committed};
+ghost use Rattle.session_state.specs.Kept.{due_count};
+ghost use Rattle.session_state.specs.Ticks.{first_due};
+ghost use Rattle.daemon_rounds.specs.Adding.{Brings};
+ghost use Rattle.daemon_rounds.specs.declared.error.RoundError.{RoundError};
+ghost use Rattle.daemon_rounds.specs.Answering.{AnswersDue, IsTellable};
+
+use crate::error::RoundError;
+use osq_value::{NoMemory, RowList, Tables};
+use query_answers::answer;
+use session_state::{CommitRefusal, State};
+use std::alloc::Global;
+
+/// The rows that an accepted text means over a view.
+fn rows_of<V: Tables>(alloc: Global, text: &str, view: &V) -> Result<RowList, NoMemory>
+    requires { is_accepted text.now ≡ true }
+    ensures { IfOk result (λ rows. rows ≡ meaning text.now (V.rows_of view.now)) }
+{
+    match answer(alloc, text, view)? {
+        Some(rows) => Ok(rows),
+        None => unreachable!(),
+    }
+}
+
+/// Answers the first due query by its batch, and says whether one was due.
+fn answer_next(alloc: Global, state: &mut State) -> Result<bool, RoundError>
+    ensures answered { IfOk result (λ more. more ≡ true → (batch : Batch) × Brings state.old (Committed batch ∷ []) state.new × (batch.cut ≡ state.old.counts.position) × IsTellable batch) }
+    ensures fewer { IfOk result (λ more. more ≡ true → due_count state.new + 1 ≤ due_count state.old) }
+    ensures none { IfOk result (λ more. more ≡ false → (first_due state.new ≡ None) × Brings state.old [] state.new) }
+    ensures spent { result ≡ Err RoundError.NumbersSpent → 2 ^ 62 < state.new.counts.batches + 1 }
+{
+    state.is_state();
+    let cut = match state.claim_cut(alloc) {
+        Err(NoMemory) => return Err(RoundError::NoMemory),
+        Ok(None) => return Ok(false),
+        Ok(Some(cut)) => cut,
+    };
+    let Ok(rows) = rows_of(alloc, cut.key().text.as_str(), cut.view()) else {
+        return Err(RoundError::NoMemory);
+    };
+    match state.commit(cut, rows) {
+        Ok(_number) => Ok(true),
+        Err(CommitRefusal::NumbersSpent { cut: _cut }) => Err(RoundError::NumbersSpent),
+        Err(
+            CommitRefusal::Superseded {
+                number: _,
+                cut: _cut,
+            },
+        ) => unreachable!(),
+        Err(
+            CommitRefusal::Stale {
+                position: _,
+                cut: _cut,
+            },
+        ) => unreachable!(),
+    }
+}
+
+/// Answers each due query of the present tick by one batch, made from all entries before its own.
+pub fn answer_due(alloc: Global, state: &mut State) -> Result<(), RoundError>
+    ensures answered { IfOk result (λ _. AnswersDue state.old state.new) }
+    ensures spent { result ≡ Err RoundError.NumbersSpent → 2 ^ 62 < state.new.counts.batches + 1 }
+{
+    while answer_next(alloc, state)? {}
+    Ok(())
+}

@@ -1,0 +1,60 @@
+//! The readings of a source are appended.
+
+ghost use Rattle.std.specs.Prelude.{◌<◌, ◌+◌, ◌^◌, Err, Contains, ◌≡◌, ◌∷◌, [], ℕ, All, List, false, OnOk};
+ghost use Rattle.std.specs.Str.{bytes_eq};
+ghost use Rattle.entry_model.specs.Next.{offset_at};
+ghost use Rattle.session_state.specs.Readings.{IsReading, event_count};
+ghost use Rattle.osq_value.specs.declared.reading.Reading.{Reading};
+ghost use Rattle.daemon_rounds.specs.declared.error.RoundError.{RoundError};
+ghost use Rattle.daemon_rounds.specs.Adding.{Brings};
+ghost use Rattle.daemon_rounds.specs.Appending.{AreRising, end_behind, entries_of};
+
+use crate::error::RoundError;
+use osq_value::{Reading, ReadingList, Str};
+use session_state::{AppendError, State};
+use std::alloc::Global;
+use std::collections::VecDeque;
+
+/// Appends a reading that ends behind the source's offset.
+fn append_one(
+    alloc: Global,
+    state: &mut State,
+    source: &Str,
+    reading: Reading,
+) -> Result<(), RoundError>
+    requires reading { IsReading reading }
+    requires rising { AreRising (offset_at state.old.counts.taken source.now) (reading ∷ []) }
+    ensures appended { OnOk result (Brings state.old (entries_of source.now state.old.counts.moment (reading ∷ [])) state.new) }
+    ensures spent { result ≡ Err RoundError.NumbersSpent → 2 ^ 62 < state.new.image.last + event_count reading }
+{
+    match state.append(alloc, source, reading) {
+        Ok(_numbers) => Ok(()),
+        Err(AppendError::NumbersSpent) => Err(RoundError::NumbersSpent),
+        Err(AppendError::NoMemory) => Err(RoundError::NoMemory),
+        Err(AppendError::Backwards { kept: _ }) => unreachable!(),
+    }
+}
+
+/// Appends the readings of a source, one after another. Each ends behind the one before it, and the first behind the source's offset.
+pub fn append_all(
+    alloc: Global,
+    state: &mut State,
+    source: &Str,
+    readings: ReadingList,
+) -> Result<(), RoundError>
+    requires readings { All IsReading readings }
+    requires rising { AreRising (offset_at state.old.counts.taken source.now) readings }
+    ensures appended { OnOk result (Brings state.old (entries_of source.now state.old.counts.moment readings) state.new) }
+    ensures offset { OnOk result (offset_at state.new.counts.taken source.now ≡ end_behind (offset_at state.old.counts.taken source.now) readings) }
+    ensures spent { result ≡ Err RoundError.NumbersSpent → (reading : Reading) × Contains readings reading × (2 ^ 62 < state.new.image.last + event_count reading) }
+    ensures others { (other : List ℕ) → bytes_eq source.now other ≡ false → OnOk result (offset_at state.new.counts.taken other ≡ offset_at state.old.counts.taken other) }
+{
+    let mut rest = VecDeque::from_vec(readings.into_vec());
+    while let Some(reading) = rest.pop_front() {
+        match append_one(alloc, state, source, reading) {
+            Ok(()) => {}
+            Err(error) => return Err(error),
+        }
+    }
+    Ok(())
+}

@@ -1,0 +1,67 @@
+//! What was added since the last seal is kept, and its batches are told.
+
+ghost use Rattle.std.specs.Prelude.{◌≡◌, ◌≢◌, ◌≤◌, ◌⊎◌, ◌++◌, ℕ, List, [], take, Err, OnOk, OnErr};
+ghost use Rattle.entry_model.specs.Legal.{Legal};
+ghost use Rattle.osq_outside.specs.Causes.{Rose};
+ghost use Rattle.daemon_rounds.specs.Telling.{AreTellable, AreTold};
+ghost use Rattle.daemon_rounds.specs.declared.sealing.SealError.{SealError};
+
+use crate::telling::lines_of_entries;
+use batch_keeper::{Keeper, KeeperError};
+use osq_outside::{Sink, write_all};
+use osq_value::NoMemory;
+use pack_rules::schedule::Form;
+use session_state::State;
+use std::alloc::Global;
+
+/// Why what was added is not kept and told.
+#[derive(Clone, Copy, PartialEq, Eq, Debug)]
+pub enum SealError {
+    /// The keeper failed: it has all of the entries, or none.
+    KeeperFault,
+    /// The entries are kept, and a front part of their lines was written.
+    SinkFault,
+    NoMemory,
+}
+
+/// Seals the entries that the state gained since the last seal, and then writes the result lines of their batches. Before these entries
+/// lines have this form; `host` is the host's identifier. All lines are made before the seal, so that want of memory leaves the kept list
+/// and the results as they were.
+pub fn seal<K: Keeper, O: Sink>(
+    alloc: Global,
+    state: &mut State,
+    keeper: &mut K,
+    results: &mut O,
+    host: &str,
+    form: Form,
+) -> Result<(), SealError>
+    requires legal { K.tells → Legal (K.kept keeper.old) → Legal (K.kept keeper.old ++ state.old.tail) }
+    requires tellable { AreTellable state.old.tail }
+    ensures taken { OnOk result (state.new ≡ record state.old { tail = [] }) }
+    ensures kept { K.tells → OnOk result (K.kept keeper.new ≡ K.kept keeper.old ++ state.old.tail) }
+    ensures told { O.tells → OnOk result ((lines : List ℕ) × AreTold host.now form state.old.tail lines × (O.written results.new ≡ O.written results.old ++ lines)) }
+    ensures whole { K.tells → result ≡ Err SealError.KeeperFault → (K.kept keeper.new ≡ K.kept keeper.old) ⊎ (K.kept keeper.new ≡ K.kept keeper.old ++ state.old.tail) }
+    ensures sealed { K.tells → result ≡ Err SealError.SinkFault → K.kept keeper.new ≡ K.kept keeper.old ++ state.old.tail }
+    ensures partly { O.tells → result ≡ Err SealError.SinkFault → (lines : List ℕ) × (count : ℕ) × AreTold host.now form state.old.tail lines × (O.written results.new ≡ O.written results.old ++ take count lines) }
+    ensures unkept { K.tells → result ≡ Err SealError.NoMemory → K.kept keeper.new ≡ K.kept keeper.old }
+    ensures unwritten { OnErr result (result ≢ Err SealError.SinkFault → results.new ≡ results.old) }
+    ensures keeper_cause { result ≡ Err SealError.KeeperFault → Rose (K.faults keeper.old) (K.faults keeper.new) }
+    ensures sink_cause { result ≡ Err SealError.SinkFault → Rose (O.faults results.old) (O.faults results.new) }
+    ensures later { (K.faults keeper.old ≤ K.faults keeper.new) × (O.faults results.old ≤ O.faults results.new) }
+{
+    let Ok(entries) = state.take_tail(alloc) else {
+        return Err(SealError::NoMemory);
+    };
+    let Ok(lines) = lines_of_entries(alloc, host, form, entries.as_slice()) else {
+        return Err(SealError::NoMemory);
+    };
+    match keeper.seal(alloc, &entries) {
+        Ok(()) => {}
+        Err(KeeperError::Fault) => return Err(SealError::KeeperFault),
+        Err(KeeperError::NoMemory) => return Err(SealError::NoMemory),
+    }
+    match write_all(results, lines.as_slice()) {
+        Ok(()) => Ok(()),
+        Err(_) => Err(SealError::SinkFault),
+    }
+}
