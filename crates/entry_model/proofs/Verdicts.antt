@@ -1,22 +1,19 @@
 -- What is said of the worked lists is so.
-use Rattle.std.proofs.Common.{◌≡◌, ℕ, zero, suc, ◌+◌, ◌<◌, ◌≤◌, ◌^◌, Bool, true, false, List, [], ◌∷◌, ◌++◌, length, get_or, Option, Some, None, refl, sym, ap, ◌∙◌, subst, arith, lit≤}
-use Rattle.std.specs.Prelude.{All, Contains, slice_get, codes, bytes_eq}
+use Rattle.std.proofs.Common.{◌≡◌, ℕ, zero, suc, ◌+◌, ◌<◌, ◌≤◌, true, false, List, [], ◌∷◌, ◌++◌, length, get_or, Some, None, refl, sym, ap, subst, arith}
+use Rattle.std.specs.Prelude.{All, Contains, codes, bytes_eq}
 use Rattle.std.proofs.lemmas.Bool.Decides.{nat_tests}
 use Rattle.std.proofs.lemmas.List.Elements.{All-nil, All-cons, All-head}
-use Rattle.osq_value.specs.declared.value.Event.{Event}
 use Rattle.osq_value.specs.declared.value.Value.{Value}
 use Rattle.osq_value.specs.declared.value.Value.TheVariants.{Null}
 use Rattle.osq_value.specs.Catalogue.{columns_of, tables, width_of}
 use Rattle.sql_meaning.specs.Meaning.{is_accepted, names_evented}
 use Rattle.pack_rules.specs.declared.schedule.QueryKey.{QueryKey}
-use Rattle.pack_rules.specs.declared.schedule.Scheduled.{Scheduled}
-use Rattle.entry_model.specs.declared.entry.Entry.{Entry}
 use Rattle.entry_model.specs.declared.entry.Entry.TheVariants.{Opened, Configured, Ticked, Appended, TableSet, Expired, Committed, Acked}
-use Rattle.entry_model.specs.Views.{is_evented_table, owed_floor, due_queries}
+use Rattle.entry_model.specs.Views.{is_evented_table, owed_floor}
 use Rattle.entry_model.specs.Schedules.{IsRunnable, IsSound}
 use Rattle.entry_model.proofs.Follows.{Legal-push}
-use Rattle.entry_model.specs.Legal.{IsEvent, MayCommit, LegalNext, Legal}
-use Rattle.entry_model.specs.Verdicts.{change, change_row, log, bare, started, one_change, five_changes, PlainVerdicts, asked, asking, before_batch, answer, answered, second, AskedVerdicts, Verdicts}
+use Rattle.entry_model.specs.Legal.{IsEvent, Legal}
+use Rattle.entry_model.specs.Verdicts.{change, log, bare, started, one_change, five_changes, PlainVerdicts, asked, asking, before_batch, answer, answered, second, AskedVerdicts, Verdicts}
 
 width_two : width_of 2 ≡ 10
 unfolding width_of columns_of tables

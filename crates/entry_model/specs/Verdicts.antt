@@ -1,9 +1,8 @@
 -- Lists of entries, each with what is to be said of it, worked out by hand.
 use Rattle.std.specs.Prelude.{◌≡◌, ℕ, suc, true, List, [], ◌∷◌, ◌++◌, take, codes}
 use Rattle.osq_value.specs.declared.value.Event.{Event}
-use Rattle.osq_value.specs.declared.value.TableId.{TableId}
 use Rattle.osq_value.specs.declared.value.Value.{Value}
-use Rattle.osq_value.specs.declared.value.Value.TheVariants.{Null, Int, Text}
+use Rattle.osq_value.specs.declared.value.Value.TheVariants.{Null, Text}
 use Rattle.sql_meaning.specs.Meaning.{meaning, is_accepted, names_evented}
 use Rattle.pack_rules.specs.declared.schedule.Mode.TheVariants.{Evented}
 use Rattle.pack_rules.specs.declared.schedule.Form.TheVariants as form

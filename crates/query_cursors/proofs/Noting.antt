@@ -1,7 +1,7 @@
 -- The places of runs after one more batch.
-use Rattle.std.proofs.Common.{◌≡◌, ℕ, zero, suc, ◌+◌, ◌<◌, Bool, true, false, cond, List, [], ◌∷◌, ◌++◌, length, map, set, Option, Some, None, refl, sym, ap, ◌∙◌, subst, arith, true≢false}
-use Rattle.std.specs.Prelude.{slice_get, ◌&&◌, ◌||◌, if◌then◌else◌}
-use Rattle.std.specs.List.{position_from, list_any}
+use Rattle.std.proofs.Common.{◌≡◌, ℕ, zero, suc, ◌+◌, Bool, true, false, cond, List, [], ◌∷◌, ◌++◌, length, map, set, Option, Some, None, refl, sym, ap, ◌∙◌, subst, arith}
+use Rattle.std.specs.Prelude.{slice_get, if◌then◌else◌}
+use Rattle.std.specs.List.{position_from}
 use Rattle.std.specs.Cmp.Lexicographic.{slice_cmp, lists_total}
 use Rattle.std.specs.Cmp.{nat_cmp_total}
 use Rattle.std.specs.Ordering.{nat_cmp, is_lt, ordering_reverse}
@@ -12,7 +12,7 @@ use Rattle.pack_rules.specs.declared.schedule.QueryKey.{QueryKey}
 use Rattle.pack_rules.specs.declared.schedule.Scheduled.{Scheduled}
 use Rattle.pack_rules.specs.Keys.{same_key}
 use Rattle.entry_model.specs.declared.restored.Run.{Run}
-use Rattle.entry_model.specs.Reserved.{RunsAndRoom, has_run, noted}
+use Rattle.entry_model.specs.Reserved.{has_run}
 use Rattle.entry_model.specs.Runs.{changed_run, with_batch}
 use Rattle.entry_model.specs.Schedules.{names_rise}
 use Rattle.entry_model.proofs.Lists.{and_true}

@@ -1,5 +1,5 @@
 -- The places of runs, and what is found by them.
-use Rattle.std.proofs.Common.{◌≡◌, ℕ, zero, suc, ◌+◌, ◌<◌, Bool, true, false, cond, List, [], ◌∷◌, ◌++◌, length, map, take, get_or, Option, Some, None, refl, sym, ap, ◌∙◌, subst, arith, append_assoc, length-append}
+use Rattle.std.proofs.Common.{◌≡◌, ℕ, zero, suc, ◌+◌, ◌<◌, Bool, true, false, cond, List, [], ◌∷◌, ◌++◌, length, map, take, get_or, Option, Some, None, refl, sym, ap, ◌∙◌, arith, append_assoc, length-append}
 use Rattle.std.specs.Prelude.{find, position, slice_get, nat_lt, not, ◌&&◌, unwrap_or}
 use Rattle.std.specs.List.{position_from, prefix_len, zip}
 use Rattle.std.proofs.lemmas.List.{length-map, length-take, take_more, map-append}
@@ -7,8 +7,7 @@ use Rattle.pack_rules.specs.declared.schedule.QueryKey.{QueryKey}
 use Rattle.pack_rules.specs.declared.schedule.Scheduled.{Scheduled}
 use Rattle.pack_rules.specs.Keys.{same_key}
 use Rattle.entry_model.specs.declared.restored.Run.{Run}
-use Rattle.entry_model.proofs.Lasts.{same_key_is}
-use Rattle.query_cursors.specs.Due.{run_of, is_due, is_due_by, first_due, first_free}
+use Rattle.query_cursors.specs.Due.{run_of, is_due, first_due, first_free}
 use Rattle.query_cursors.specs.Places.{Indexed, place_of, places_of, run_at, placed_run, is_due_at, first_placed, free_placed}
 use Rattle.query_cursors.specs.Known.{first_known}
 

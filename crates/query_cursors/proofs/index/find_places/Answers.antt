@@ -1,4 +1,4 @@
-use Rattle.std.proofs.Common.{◌≡◌, List, Option, ℕ, [], ◌∷◌, ◌++◌, get_or, sym, ap, ◌∙◌}
+use Rattle.std.proofs.Common.{[], ◌∷◌, ◌++◌, ap, ◌∙◌}
 use Rattle.pack_rules.specs.declared.schedule.Scheduled.{Scheduled}
 use Rattle.query_cursors.specs.Places.{place_of}
 use Rattle.query_cursors.proofs.Placing.{places_more}

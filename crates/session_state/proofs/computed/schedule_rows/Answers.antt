@@ -1,6 +1,5 @@
-use Rattle.std.proofs.Common.{◌≡◌, ◌^◌, ◌++◌, [], ◌∷◌, Option, List, take, get_or, ap, ◌∙◌, arith}
+use Rattle.std.proofs.Common.{◌^◌, ◌++◌, [], ◌∷◌, List, take, get_or, ap, ◌∙◌, arith}
 use Rattle.osq_value.specs.declared.value.Value.{Value}
-use Rattle.entry_model.specs.declared.restored.Run.{Run}
 use Rattle.session_state.specs.Computed.{query_shown, schedule_shown}
 use Rattle.session_state.proofs.Counted.{known_run, low_count, low_moment}
 use Rattle.session_state.proofs.Placed.{run_is, schedule_more}

@@ -1,5 +1,4 @@
 use Rattle.std.proofs.Common.{◌≡◌, List, Option, ℕ, ap, ◌∙◌}
-use Rattle.entry_model.specs.declared.restored.Run.{Run}
 use Rattle.query_cursors.specs.Places.{Indexed, first_placed}
 use Rattle.query_cursors.proofs.Placing.{first_placed_is}
 use Rattle.query_cursors.proofs.cursors.Cursors.due_place.Goals as goal

@@ -1,5 +1,4 @@
 use Rattle.std.proofs.Common.{◌≡◌, List, Option, ℕ, ap, ◌∙◌}
-use Rattle.entry_model.specs.declared.restored.Run.{Run}
 use Rattle.query_cursors.specs.Places.{Indexed, free_placed}
 use Rattle.query_cursors.proofs.Placing.{free_placed_is}
 use Rattle.query_cursors.proofs.cursors.Cursors.free_place.Goals as goal
