@@ -19,7 +19,7 @@ use pack_rules::schedule::Form;
 use session_state::State;
 use std::alloc::Global;
 
-/// Answers each due query of the present tick by one batch, in the order in which they are due, and then expires what the state owes.
+/// Answers each due query of the present tick by one batch, and then expires what the state owes.
 /// Behind that no query is due and no floor is owed, so that the next tick may begin.
 pub fn answer_and_settle(alloc: Global, state: &mut State) -> Result<(), RoundError>
     ensures settled { IfOk result (λ _. Settles state.old state.new) }
