@@ -10,6 +10,3 @@ pub mod tail;
 
 pub use cut::Cut;
 pub use state::{AppendError, CommitRefusal, State, TickRefusal};
-
-#[cfg(test)]
-mod tests;

@@ -592,8 +592,8 @@ impl State {
         1
     }
 
-    /// What a query sees: of the events those above this number, and all other tables, at this moment.
-    fn shown(&self, alloc: Global, above: u64, moment: u64) -> Result<CutView, NoMemory>
+    /// What a query sees at this moment: of the events those above this number, and all other tables.
+    pub fn view_above(&self, alloc: Global, above: u64, moment: u64) -> Result<CutView, NoMemory>
         requires { moment ≤ 253402300799 }
         ensures { IfOk result (λ view. view ≡ shown_by self.now above moment) }
     {
@@ -605,12 +605,12 @@ impl State {
         Ok(view)
     }
 
-    /// What a query sees at this moment, where no event is new to it.
+    /// What a query sees at this moment where no event is new to it.
     pub fn tables_view(&self, alloc: Global, moment: u64) -> Result<CutView, NoMemory>
         requires { moment ≤ 253402300799 }
         ensures { IfOk result (λ view. view ≡ shown_by self.now self.now.image.last moment) }
     {
-        self.shown(alloc, self.image.last(), moment)
+        self.view_above(alloc, self.image.last(), moment)
     }
 
     /// The place of the query that is cut next.
@@ -642,7 +642,7 @@ impl State {
             position: self.position,
             moment: self.moment,
             last,
-            view: self.shown(alloc, lo, self.moment)?,
+            view: self.view_above(alloc, lo, self.moment)?,
         })
     }
 

@@ -19,9 +19,5 @@ mod same;
 pub mod scope;
 mod spelling;
 mod tables;
-#[cfg(test)]
-mod tests;
 pub mod text;
-#[cfg(test)]
-mod text_tests;
 pub mod tree;

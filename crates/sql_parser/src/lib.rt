@@ -16,11 +16,7 @@ pub mod part;
 mod reader;
 mod recognizer;
 pub mod select;
-#[cfg(test)]
-mod select_tests;
 mod stop;
-#[cfg(test)]
-mod tests;
 pub mod token;
 pub mod tree;
 mod words;

@@ -1,7 +1,7 @@
-use crate::error::{ParseError, ParseKind};
-use crate::parse::parse;
-use crate::select::{Item, TableRef};
-use crate::token::Span;
+use sql_parser::error::{ParseError, ParseKind};
+use sql_parser::parse::parse;
+use sql_parser::select::{Item, TableRef};
+use sql_parser::token::Span;
 use std::alloc::{AllocError, Global};
 use std::test::Fail;
 

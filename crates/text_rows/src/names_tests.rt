@@ -1,9 +1,9 @@
-use crate::answers::{is_evented, names_of};
-use crate::error::{NameError, NameKind};
-use crate::query::Query;
-use crate::resolve::resolve;
-use crate::tree::{Expr, ExprStep};
 use osq_value::{Affinity, Value};
+use sql_names::answers::{is_evented, names_of};
+use sql_names::error::{NameError, NameKind};
+use sql_names::query::Query;
+use sql_names::resolve::resolve;
+use sql_names::tree::{Expr, ExprStep};
 use sql_parser::list::Listed;
 use sql_parser::parse::parse_expression;
 use sql_parser::select::{Having, Item, Select, TableRef, Term};

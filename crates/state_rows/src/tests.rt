@@ -9,13 +9,13 @@ ghost use Rattle.session_state.specs.Cut.{CutValue};
 ghost use Rattle.session_state.specs.CutOf.{IsCutOf};
 ghost use Rattle.session_state.specs.Readings.{IsReading};
 
-use crate::{AppendError, CommitRefusal, Cut, State, TickRefusal};
 use entry_model::entry::Entry;
 use entry_model::restored::Restored;
 use osq_value::{
     Event, EventList, NoMemory, Reading, Row, RowList, Str, TableId, Tables, TextList, Value,
 };
 use pack_rules::schedule::{Form, Mode, QueryKey, Schedule, Scheduled, ScheduledList};
+use session_state::{AppendError, CommitRefusal, Cut, State, TickRefusal};
 use sql_meaning::plain_rows;
 use sql_names::answers::is_evented;
 use sql_names::text::query_of_text;

@@ -1,7 +1,7 @@
 //! Queries over small tables, with the rows that SQLite gives for them.
-use crate::plain::plain_rows;
-use crate::tests::rows;
+use crate::step_tests::rows;
 use osq_value::{Row, RowList, TableId, Tables};
+use sql_meaning::plain_rows;
 use sql_names::query::Query;
 use sql_names::resolve::resolve;
 use sql_parser::parse::parse;

@@ -1,4 +1,4 @@
-use crate::text::{TextError, query_of_text};
+use sql_names::text::{TextError, query_of_text};
 use std::test::Fail;
 
 /// Texts with the kind and place of their faults; an empty name is none.

@@ -3,7 +3,7 @@ use Rattle.osq_value.specs.declared.value.Value.{Value}
 use Rattle.osq_value.specs.Catalogue.{width_of}
 use Rattle.event_store.specs.Contents.{AreWide}
 use Rattle.session_state.proofs.Counted.{time_wide, schedule_wide, events_wide}
-use Rattle.session_state.proofs.state.State.shown.Goals as goal
+use Rattle.session_state.proofs.state.State.view_above.Goals as goal
 
 pub set_computed-requires-clause-wide : goal.set_computed-requires-clause-wide
 set_computed-requires-clause-wide c =

@@ -1,6 +1,6 @@
-use crate::error::{ParseError, ParseKind};
-use crate::parse::{parse, parse_expression};
-use crate::tree::{Node, Operator, Step};
+use sql_parser::error::{ParseError, ParseKind};
+use sql_parser::parse::{parse, parse_expression};
+use sql_parser::tree::{Node, Operator, Step};
 use std::test::Fail;
 
 const FAULTS: [(&str, usize, ParseKind); 21] = [

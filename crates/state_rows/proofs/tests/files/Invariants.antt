@@ -1,6 +1,6 @@
 use Rattle.std.specs.Prelude.{All}
 use Rattle.entry_model.specs.Legal.{IsEvent}
-use Rattle.session_state.proofs.tests.files.Given as goal
+use Rattle.state_rows.proofs.tests.files.Given as goal
 
 abbrev pub invariant-loop-path : goal.invariant-loop-path
 invariant-loop-path l = All IsEvent l.events
