@@ -22,10 +22,3 @@ pub use event::group_event;
 pub use group::{AuditGroup, GroupBuilder};
 pub use line::{AuditId, AuditLine, Field, FieldList};
 pub use read::read_line;
-
-#[cfg(test)]
-mod event_tests;
-#[cfg(test)]
-mod read_tests;
-#[cfg(test)]
-mod tests;

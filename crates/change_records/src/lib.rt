@@ -15,6 +15,3 @@ pub use event::change_event;
 pub use pattern::path_matches;
 pub use read::read_change;
 pub use table::read_table;
-
-#[cfg(test)]
-mod tests;

@@ -10,6 +10,3 @@ pub mod view;
 
 pub use image::{Image, StoreError};
 pub use view::CutView;
-
-#[cfg(test)]
-mod tests;

@@ -17,6 +17,3 @@ pub use config::{Config, Pack, PackList, QueryEntry, QueryEntryList, Rules};
 pub use error::ConfigError;
 pub use file::{PackFile, PackFileList, add_pack, pack_files};
 pub use read::read_config;
-
-#[cfg(test)]
-mod tests;

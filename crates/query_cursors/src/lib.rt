@@ -7,6 +7,3 @@ pub mod interval;
 
 pub use cursors::Cursors;
 pub use interval::due;
-
-#[cfg(test)]
-mod tests;

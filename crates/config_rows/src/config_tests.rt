@@ -1,7 +1,7 @@
-use crate::config::{Config, Pack, QueryEntry};
-use crate::error::ConfigError;
-use crate::file::{add_pack, pack_files};
-use crate::read::read_config;
+use osq_config::config::{Config, Pack, QueryEntry};
+use osq_config::error::ConfigError;
+use osq_config::file::{add_pack, pack_files};
+use osq_config::read::read_config;
 use osq_value::{Category, Str};
 use std::alloc::{AllocError, Global};
 use std::test::Fail;

@@ -1,6 +1,6 @@
-use crate::event::group_event;
-use crate::group::AuditGroup;
-use crate::line::{AuditId, AuditLine, Field, FieldList};
+use audit_records::event::group_event;
+use audit_records::group::AuditGroup;
+use audit_records::line::{AuditId, AuditLine, Field, FieldList};
 use osq_value::{Event, NoMemory, Str, TableId, Value};
 use std::alloc::Global;
 use std::test::Fail;

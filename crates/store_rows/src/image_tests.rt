@@ -4,9 +4,9 @@ ghost use Rattle.entry_model.specs.Fits.{Fits};
 ghost use Rattle.entry_model.specs.Legal.{IsEvent};
 ghost use Rattle.event_store.specs.Contents.{AreWide};
 
-use crate::image::Image;
-use crate::view::CutView;
 use entry_model::restored::Restored;
+use event_store::image::Image;
+use event_store::view::CutView;
 use osq_value::{Event, EventList, NoMemory, Row, RowList, Str, TableId, Tables, Value};
 use std::alloc::Global;
 use std::test::Fail;

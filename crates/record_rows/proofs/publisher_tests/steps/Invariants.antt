@@ -1,5 +1,5 @@
 use Rattle.std.proofs.Common.{◌≡◌, true, false}
-use Rattle.publisher_core.proofs.publisher_tests.steps.Given as goal
+use Rattle.record_rows.proofs.publisher_tests.steps.Given as goal
 
 abbrev pub invariant-loop-at : goal.invariant-loop-at
 invariant-loop-at g l = record {

@@ -1,10 +1,10 @@
 ghost use Rattle.std.specs.Prelude.{◌≡◌, IfOk, length};
 ghost use Rattle.query_cursors.specs.Places.{places_of};
 
-use crate::{Cursors, due};
 use entry_model::restored::{Run, RunList};
 use osq_value::{NoMemory, Str};
 use pack_rules::schedule::{Form, Mode, QueryKey, Schedule, Scheduled, ScheduledList};
+use query_cursors::{Cursors, due};
 use std::alloc::Global;
 use std::test::Fail;
 

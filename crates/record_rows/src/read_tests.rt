@@ -1,5 +1,5 @@
-use crate::error::LineError;
-use crate::read::read_line;
+use audit_records::error::LineError;
+use audit_records::read::read_line;
 use std::alloc::Global;
 use std::test::Fail;
 

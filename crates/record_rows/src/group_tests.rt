@@ -1,5 +1,5 @@
-use crate::group::GroupBuilder;
-use crate::line::{AuditId, AuditLine, Field, FieldList};
+use audit_records::group::GroupBuilder;
+use audit_records::line::{AuditId, AuditLine, Field, FieldList};
 use osq_value::{Copied, NoMemory, Sequence, Str};
 use std::alloc::Global;
 use std::test::Fail;

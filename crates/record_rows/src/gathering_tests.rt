@@ -1,6 +1,6 @@
-use crate::gathering::{AuditRecord, Gathering};
 use audit_records::{AuditId, AuditLine, FieldList};
 use osq_value::{NoMemory, Str};
+use publisher_core::gathering::{AuditRecord, Gathering};
 use std::alloc::Global;
 use std::collections::VecDeque;
 use std::test::Fail;

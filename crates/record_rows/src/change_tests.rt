@@ -1,9 +1,9 @@
-use crate::change::Change;
-use crate::error::LineError;
-use crate::event::change_event;
-use crate::pattern::path_matches;
-use crate::read::read_change;
-use crate::table::read_table;
+use change_records::change::Change;
+use change_records::error::LineError;
+use change_records::event::change_event;
+use change_records::pattern::path_matches;
+use change_records::read::read_change;
+use change_records::table::read_table;
 use osq_value::{Category, CategoryList, NoMemory, Reading, Row, Str, TableId, TextList, Value};
 use std::alloc::Global;
 use std::test::Fail;

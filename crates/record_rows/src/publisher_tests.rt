@@ -2,15 +2,15 @@
 
 ghost use Rattle.std.specs.Prelude.{◌≡◌, true, false, IfOk};
 
-use crate::error::StepError;
-use crate::publisher::Publisher;
-use crate::record::SourceKind;
-use crate::subscription::{Recorded, Subscription};
 use osq_outside::{Fail as Failing, FailList, MemorySource, Source, SourceFault};
 use osq_value::{
     Bytes, Category, CategoryList, Event, EventList, NoMemory, Reading, ReadingList, Str, TextList,
     Value,
 };
+use publisher_core::error::StepError;
+use publisher_core::publisher::Publisher;
+use publisher_core::record::SourceKind;
+use publisher_core::subscription::{Recorded, Subscription};
 use std::alloc::Global;
 use std::test::Fail;
 
