@@ -20,10 +20,10 @@ returns c =
     let slice : c.as_slice.result.now ≡ queries = c.as_slice.ensures in
     let run = c.placed_run.ensures ∙ run_is c.self.inside.cursors queries place d c.self.invariant.places within in
     let end = c.number_and_end-last.ensures.end ∙ ap (λ (o : Option Run). option_map_or (λ (run : Run). run.hi) o 0) run in
-    rw (← c.self.view_is) (cut_is s place (get_or queries place d) c.in_ok-copy.field-0 c.lower_from-lo.result c.last.result c.number_and_end-last.result.0 c.in_ok-shown.field-0 (slice_get-get_or queries place d within) (record {
+    rw (← c.self.view_is) (cut_is s place (get_or queries place d) c.in_ok-copy.field-0 c.lower_from-lo.result c.last.result c.number_and_end-last.result.0 c.in_ok-view_above.field-0 (slice_get-get_or queries place d within) (record {
       key_is = c.in_ok-copy.ensures ∙ ap (λ (qs : List Scheduled). (get_or qs place d).key) slice;
       lo_is = c.lower_from-lo.ensures ∙ (λ i. lower_from (get_or (slice i) place d).key.mode (end i));
       hi_is = c.last.ensures;
       last_is = c.number_and_end-last.ensures.number ∙ ap (λ (o : Option Run). option_map_or (λ (run : Run). run.number) o 0) run;
-      view_is = c.in_ok-shown.ensures ∙ ap (λ (s : Kept). shown_by s c.lower_from-lo.result c.self.inside.moment) (sym c.self.view_is);
+      view_is = c.in_ok-view_above.ensures ∙ ap (λ (s : Kept). shown_by s c.lower_from-lo.result c.self.inside.moment) (sym c.self.view_is);
     }))
