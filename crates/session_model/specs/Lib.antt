@@ -1,0 +1,5 @@
+pub mod Configuring
+pub mod Given
+pub mod Sessions
+pub mod Taking
+pub mod Ticking
