@@ -11,6 +11,7 @@ ghost use Rattle.session_state.specs.Readings.{IsReading};
 
 use entry_model::entry::Entry;
 use entry_model::restored::Restored;
+use kept_queries::rows_behind;
 use osq_value::{
     Event, EventList, NoMemory, Reading, Row, RowList, Str, TableId, Tables, TextList, Value,
 };
@@ -457,6 +458,31 @@ fn a_batch_has_what_is_left_of_its_slice(rt: HostRuntime) -> Result<(), Fail> {
     assert_eq!(rt; commit_next(alloc, &mut state)?, Outcome::Committed(1));
     let ends = tail_ends_with(alloc, &mut state, [1, 0, 5, 6], &["c", "d", "e"])?;
     assert_eq!(rt; ends, (7, true));
+    Ok(())
+}
+
+/// The rows that a text means behind the state, at the moment 1000.
+fn asked(alloc: Global, state: &State, text: &str) -> Result<RowList, NoMemory> {
+    let Ok(query) = query_of_text(alloc, text) else {
+        return Err(NoMemory);
+    };
+    rows_behind(alloc, &query, state, 1000)
+}
+
+#[test]
+fn a_question_sees_what_was_read_before(rt: HostRuntime) -> Result<(), Fail> {
+    let alloc = rt.alloc();
+    let mut state = asks_paths(alloc)?;
+    add_files(alloc, &mut state, 92, &["/etc/a", "/etc/b"])?;
+    assert_eq!(rt; commit_next(alloc, &mut state)?, Outcome::Committed(1));
+    add_group(alloc, &mut state, 100, "root")?;
+    for (text, wanted) in [
+        (PATHS, 2),
+        (NAMES, 1),
+        ("SELECT name FROM osquery_schedule", 1),
+    ] {
+        assert_eq!(rt; asked(alloc, &state, text)?.len(), wanted);
+    }
     Ok(())
 }
 
