@@ -2,3 +2,5 @@ pub mod Lists
 pub mod Goes
 pub mod Shares
 pub mod Turning
+pub mod Seats
+pub mod Owners

@@ -4,4 +4,5 @@ pub mod Shares
 pub mod Turns
 pub mod Answers
 pub mod Words
+pub mod Seats
 pub mod Laws

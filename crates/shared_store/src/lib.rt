@@ -2,6 +2,7 @@
 #![tactic(auto)]
 
 pub mod laws;
+mod many;
 mod noted;
 mod shared;
 mod store;

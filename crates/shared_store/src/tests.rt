@@ -1,12 +1,15 @@
-ghost use Rattle.std.specs.Prelude.{◌≡◌, ◌≢◌, ◌+◌, ◌<◌, ◌≤◌, [], ◌∷◌, IfOk};
+ghost use Rattle.std.specs.Prelude.{◌≡◌, ◌≢◌, ◌+◌, ◌<◌, ◌≤◌, ◌^◌, [], ◌∷◌, IfOk, OnOk, OnErr, length, map};
+ghost use Rattle.std.specs.List.{All, AllZip};
 ghost use Rattle.osq_value.specs.Catalogue.{width_of};
 ghost use Rattle.sql_meaning.specs.Meaning.{meaning};
 ghost use Rattle.entry_model.specs.Legal.{IsEvent};
 ghost use Rattle.entry_model.specs.Schedules.{IsRunnable, IsSound};
 ghost use Rattle.event_store.specs.Contents.{rows_in};
 ghost use Rattle.session_state.specs.Readings.{IsReading};
-ghost use Rattle.turn_lock.specs.Words.{number, seats_out, split_off, IsAtRest, IsFirst, IsSame};
+ghost use Rattle.turn_lock.specs.Turns.{total};
+ghost use Rattle.turn_lock.specs.Words.{number, seen, seats_out, split_off, IsAtRest, IsFirst, IsSame};
 ghost use Rattle.shared_store.specs.Words.{most_seats, IsSeatOf};
+ghost use Rattle.shared_store.specs.Seats.{own_count, HasAdded};
 ghost use Rattle.shared_store.specs.Notes.{IsGiven};
 ghost use Rattle.shared_store.specs.Turns.{notes_of};
 
@@ -22,12 +25,15 @@ use sql_names::answers::is_evented;
 use sql_names::text::query_of_text;
 use std::alloc::Global;
 use std::sync::Wait;
+use std::sync::atomic::{AtomicU64, Ordering};
 use std::test::Fail;
-use std::thread::{Threads, join};
+use std::thread::{Threads, join, map_vec};
 
 const FILES: TableId = TableId(2);
 
 const PATHS: &str = "SELECT target_path FROM file_events";
+
+const SOURCES: [&str; 8] = ["a", "b", "c", "d", "e", "f", "g", "h"];
 
 /// The query `fe`, which asks for the paths of new files each minute; want of memory stands for a text that is refused.
 #[tactic(auto, unfolding(sql_meaning::specs::Meaning::is_accepted, sql_meaning::specs::Meaning::names_evented))]
@@ -121,7 +127,9 @@ fn add_one<R: Wait>(
     taken: u64,
 ) -> Result<(u64, u64), AppendError>
     requires { IsSeatOf store.now seat.old × IsAtRest seat.old }
-    ensures { IsSame seat.old seat.new × IsAtRest seat.new }
+    ensures seat { IsSame seat.old seat.new × IsAtRest seat.new }
+    ensures added { OnOk result (own_count seat.new ≡ own_count seat.old + 1) }
+    ensures refused { OnErr result (own_count seat.new ≡ own_count seat.old) }
 {
     let Ok(source) = Str::of(alloc, source) else {
         return Err(AppendError::NoMemory);
@@ -238,22 +246,25 @@ fn joined_cut<R: Wait>(rt: &R, alloc: Global) -> Result<(u64, u32), NoMemory> {
     Ok((last, store.seats_out(&first)))
 }
 
-/// That many turns, each of which adds an event, unless memory is wanting.
-fn add_many<R: Wait>(
+/// That many turns, each of which adds an event of this source, unless memory is wanting, and how many were added.
+fn add_each<R: Wait>(
     rt: &R,
     alloc: Global,
     store: &Store,
     mut seat: StoreSeat,
     source: &str,
-    turns: u64,
-) -> StoreSeat
+    turns: u32,
+) -> (StoreSeat, u32)
     requires { IsSeatOf store.now seat × IsAtRest seat }
-    ensures { IsSame seat result × IsAtRest result }
+    ensures { HasAdded seat result }
 {
+    let mut added = 0;
     for at in 0..turns {
-        let _added = add_one(rt, alloc, store, &mut seat, source, at + 1);
+        if add_one(rt, alloc, store, &mut seat, source, u64::from(at) + 1).is_ok() {
+            added += 1;
+        }
     }
-    seat
+    (seat, added)
 }
 
 /// Two threads of that many turns each, each with a seat and a source of its own.
@@ -264,7 +275,7 @@ fn add_by_two<R: Threads + Wait + Sync>(
     one: StoreSeat,
     two: StoreSeat,
     sources: [&str; 2],
-    turns: u64,
+    turns: u32,
 ) -> (StoreSeat, StoreSeat)
     requires one { IsSeatOf store.now one × IsAtRest one }
     requires two { IsSeatOf store.now two × IsAtRest two }
@@ -277,11 +288,17 @@ fn add_by_two<R: Threads + Wait + Sync>(
         || -> StoreSeat
             requires { IsSeatOf store.now one × IsAtRest one }
             ensures { IsSame one result × IsAtRest result }
-        { add_many(rt, alloc, store, one, left, turns) },
+        {
+            let (seat, _added) = add_each(rt, alloc, store, one, left, turns);
+            seat
+        },
         || -> StoreSeat
             requires { IsSeatOf store.now two × IsAtRest two }
             ensures { IsSame two result × IsAtRest result }
-        { add_many(rt, alloc, store, two, right, turns) },
+        {
+            let (seat, _added) = add_each(rt, alloc, store, two, right, turns);
+            seat
+        },
     )
 }
 
@@ -289,7 +306,7 @@ fn add_by_two<R: Threads + Wait + Sync>(
 fn two_threads<R: Threads + Wait + Sync>(
     rt: &R,
     alloc: Global,
-    turns: u64,
+    turns: u32,
 ) -> Result<u64, NoMemory> {
     let (store, mut first) = opened(rt, alloc, 3)?;
     let one = store.split(&mut first)?;
@@ -304,7 +321,7 @@ fn two_threads<R: Threads + Wait + Sync>(
 fn four_threads<R: Threads + Wait + Sync>(
     rt: &R,
     alloc: Global,
-    turns: u64,
+    turns: u32,
 ) -> Result<u64, NoMemory> {
     let (store, mut first) = opened(rt, alloc, 5)?;
     let one = store.split(&mut first)?;
@@ -327,6 +344,86 @@ fn four_threads<R: Threads + Wait + Sync>(
     store.join(&mut first, three);
     store.join(&mut first, one);
     last_cut(rt, alloc, &store, &mut first)
+}
+
+/// Gives each seat a thread and a source, of which it adds that many events, one in each turn.
+fn add_in_threads<R: Threads + Wait + Sync>(
+    rt: &R,
+    alloc: Global,
+    store: &Store,
+    seats: Vec<StoreSeat>,
+    turns: u32,
+) -> Result<Vec<(StoreSeat, u32)>, NoMemory>
+    requires { All (λ seat. IsSeatOf store.now seat × IsAtRest seat) seats.items }
+    ensures { IfOk result (λ worked. AllZip HasAdded seats.items worked.items) }
+{
+    let sources = AtomicU64::new(0);
+    let worked = map_vec(
+        rt,
+        seats,
+        &|seat: StoreSeat| -> (StoreSeat, u32)
+            requires { IsSeatOf store.now seat × IsAtRest seat }
+            ensures { HasAdded seat result }
+        {
+            let at = sources.fetch_add(1, Ordering::SeqCst) % 8;
+            add_each(rt, alloc, store, seat, SOURCES[at as usize], turns)
+        },
+    )?;
+    Ok(worked)
+}
+
+/// The seats, and how much they have added together.
+fn gathered(alloc: Global, worked: Vec<(StoreSeat, u32)>) -> Result<(Vec<StoreSeat>, u64), NoMemory>
+    requires { length worked.items < 2 ^ 32 }
+    ensures seats { IfOk result (λ r. r.0.items ≡ map (λ w. w.0) worked.items) }
+    ensures added { IfOk result (λ r. r.1 ≡ total (λ w. w.1) worked.items) }
+{
+    let mut seats = Vec::new(alloc);
+    let mut all = 0;
+    for one in worked {
+        let (seat, added) = one;
+        seats.push(seat)?;
+        all += u64::from(added);
+    }
+    Ok((seats, all))
+}
+
+/// Splits off so many seats, each of which makes that many turns in a thread of its own, and joins them. Answers how many
+/// readings were added: behind the joins the first seat has seen these and its own, and nothing else.
+fn add_by_many<R: Threads + Wait + Sync>(
+    rt: &R,
+    alloc: Global,
+    store: &Store,
+    first: &mut StoreSeat,
+    threads: u32,
+    turns: u32,
+) -> Result<u64, NoMemory>
+    requires seat { IsSeatOf store.now first.old × IsAtRest first.old × IsFirst first.old }
+    requires none { split_off first.old ≡ 0 }
+    requires some { 1 ≤ threads }
+    requires room { seats_out first.old + threads ≤ most_seats store.now }
+    ensures seat { IsSeatOf store.now first.new × IsAtRest first.new × IsFirst first.new }
+    ensures all { IfOk result (λ added. length (seen first.new) ≡ own_count first.old + added) }
+{
+    let seats = store.split_many(alloc, first, threads)?;
+    let worked = add_in_threads(rt, alloc, store, seats, turns)?;
+    let (seats, added) = gathered(alloc, worked)?;
+    store.join_all(first, seats);
+    Ok(added)
+}
+
+/// How much that many threads of that many turns each have added, and the last number behind them.
+fn many_threads<R: Threads + Wait + Sync>(
+    rt: &R,
+    alloc: Global,
+    threads: u32,
+    turns: u32,
+) -> Result<(u64, u64), NoMemory>
+    requires { (1 ≤ threads) × (threads + 1 < 2 ^ 32) }
+{
+    let (store, mut first) = opened(rt, alloc, threads + 1)?;
+    let added = add_by_many(rt, alloc, &store, &mut first, threads, turns)?;
+    Ok((added, last_cut(rt, alloc, &store, &mut first)?))
 }
 
 /// Three readings by one seat, of which the second goes backwards.
@@ -409,6 +506,12 @@ fn adds_by_two_threads(rt: HostRuntime) -> Result<(), Fail> {
 #[test]
 fn adds_by_four_threads(rt: HostRuntime) -> Result<(), Fail> {
     assert_eq!(rt; four_threads(&rt, rt.alloc(), 1000)?, 4000);
+    Ok(())
+}
+
+#[test]
+fn adds_by_many_threads(rt: HostRuntime) -> Result<(), Fail> {
+    assert_eq!(rt; many_threads(&rt, rt.alloc(), 7, 500)?, (3500, 3500));
     Ok(())
 }
 
