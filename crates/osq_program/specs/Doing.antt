@@ -1,14 +1,34 @@
 -- What a run of each command does.
+use Rattle.std.specs.Prelude.{◌≡◌, if◌then◌else◌, codes}
+use Rattle.std.specs.Option.{option_map_or}
+use Rattle.program_words.specs.declared.command.CommandWords.{CommandWords}
+use Rattle.program_words.specs.declared.command.CommandWords.TheVariants.{Replay as AsksReplay, Query as AsksQuery, Check as AsksCheck}
+use Rattle.program_words.specs.declared.command.QueryWords.{QueryWords}
+use Rattle.program_words.specs.declared.command.ReplayWords.{ReplayWords}
 use Rattle.osq_program.specs.declared.status.Status.{Status}
+use Rattle.osq_program.specs.Answers.{NotBuiltYet}
 use Rattle.osq_program.specs.Checking.{IsCheck}
-use Rattle.osq_program.specs.Commands.{Command, Replays, Queries, Explains, Checks}
+use Rattle.osq_program.specs.Commands.{Query, Replay, query_in, replay_in}
 use Rattle.osq_program.specs.Explaining.{IsExplain}
 use Rattle.osq_program.specs.Querying.{IsQuery}
 use Rattle.osq_program.specs.Replaying.{IsReplay}
 use Rattle.osq_program.specs.Told.{Told}
 
-abbrev pub Does : Command → Told → Status → Type 0
-Does (Replays w) told status = IsReplay w told status
-Does (Queries w) told status = IsQuery w told status
-Does (Explains w) told status = IsExplain w told status
-Does (Checks w) told status = IsCheck w told status
+-- the words ask for what isn't built yet: nothing is kept, and no result is written
+pub record IsLeft (told : Told) (status : Status) : Type 0 where
+  pub not_built : NotBuiltYet (codes "words") status
+  pub kept : told.keeper_tells → told.kept_after ≡ told.kept_before
+  pub written : told.sink_tells → told.results_after ≡ told.results_before
+
+abbrev pub DoesReplay : ReplayWords → Told → Status → Type 0
+DoesReplay words told status = option_map_or (λ (w : Replay). IsReplay w told status) (replay_in words) (IsLeft told status)
+
+abbrev pub DoesQuery : QueryWords → Told → Status → Type 0
+DoesQuery words told status =
+    if words.explain then IsExplain (record { text = words.text }) told status
+    else option_map_or (λ (w : Query). IsQuery w told status) (query_in words) (IsLeft told status)
+
+abbrev pub Does : CommandWords → Told → Status → Type 0
+Does (AsksReplay words) told status = DoesReplay words told status
+Does (AsksQuery words) told status = DoesQuery words told status
+Does (AsksCheck words) told status = IsCheck words told status

@@ -4,21 +4,20 @@ ghost use Rattle.std.specs.Prelude.{◌≡◌, ℕ, ◌∷◌, [], true, map, fl
 ghost use Rattle.osq_config.specs.declared.config.Pack.{Pack};
 ghost use Rattle.osq_outside.specs.Causes.{Rose};
 ghost use Rattle.osq_program.specs.Answers.{IsUsageStatus};
-ghost use Rattle.osq_program.specs.Asked.{check_asked};
 ghost use Rattle.osq_program.specs.Checking.{IsCheck, IsListing};
 
-use crate::config_files::read_configured;
+use crate::configuration::configured;
 use crate::link::Link;
 use crate::outside::Outside;
 use crate::schedule_lines::lines_of;
 use crate::status::Status;
 use crate::stop::refuse;
-use crate::words::CheckWords;
 use batch_keeper::Keeper;
 use osq_config::{Config, Pack};
 use osq_outside::{Clock, Files, Sink, Source, write_all};
-use osq_value::{Bytes, NoMemory, Str};
+use osq_value::{Bytes, Copied, NoMemory};
 use pack_rules::{Host, schedule_of};
+use program_words::CheckWords;
 use std::alloc::Global;
 
 /// One truth value for each pack: every pack counts as found.
@@ -33,19 +32,19 @@ fn all_found(alloc: Global, packs: &[Pack]) -> Result<Vec<bool>, NoMemory>
 }
 
 /// The host that the words name.
-fn host_of(alloc: Global, words: &CheckWords<'_>) -> Result<Host, NoMemory>
-    ensures { IfOk result (λ host. host ≡ record { identifier = words.now.host.now; platform = words.now.platform.now; agent = words.now.agent.now }) }
+fn host_of(alloc: Global, words: &CheckWords) -> Result<Host, NoMemory>
+    ensures { IfOk result (λ host. host ≡ record { identifier = words.now.host; platform = words.now.platform; agent = words.now.agent }) }
 {
     Ok(Host {
-        identifier: Str::of(alloc, words.host)?,
-        platform: Str::of(alloc, words.platform)?,
-        agent: Str::of(alloc, words.agent)?,
+        identifier: words.host.copy(alloc)?,
+        platform: words.platform.copy(alloc)?,
+        agent: words.agent.copy(alloc)?,
     })
 }
 
 /// The lines of the schedule that a configuration gives the host.
-fn listing(alloc: Global, config: &Config, words: &CheckWords<'_>) -> Result<Bytes, NoMemory>
-    ensures { IfOk result (IsListing (check_asked words.now) config.now) }
+fn listing(alloc: Global, config: &Config, words: &CheckWords) -> Result<Bytes, NoMemory>
+    ensures { IfOk result (IsListing (words.now) config.now) }
 {
     let host = host_of(alloc, words)?;
     let found = all_found(alloc, config.packs.as_slice())?;
@@ -56,7 +55,7 @@ fn listing(alloc: Global, config: &Config, words: &CheckWords<'_>) -> Result<Byt
 /// Writes the schedule of the configuration, and tells on the status stream which packs are left out, or why nothing is written.
 pub(crate) fn run_check<S: Source, O: Sink, F: Files, C: Clock, K: Keeper, L: Link>(
     alloc: Global,
-    words: &CheckWords<'_>,
+    words: &CheckWords,
     outside: &mut Outside<S, O, F, C, K, L>,
 ) -> Status
     ensures usage { ¬ IsUsageStatus result }
@@ -65,7 +64,7 @@ pub(crate) fn run_check<S: Source, O: Sink, F: Files, C: Clock, K: Keeper, L: Li
     ensures sources { outside.new.sources ≡ outside.old.sources }
     ensures clock { outside.new.clock ≡ outside.old.clock }
     ensures keeper { outside.new.keeper ≡ outside.old.keeper }
-    ensures does { IsCheck (check_asked words.now) (record {
+    ensures does { IsCheck (words.now) (record {
       files_tell = F.tells;
       file = F.file outside.old.files;
       files_failed = Rose (F.faults outside.old.files) (F.faults outside.new.files);
@@ -86,14 +85,14 @@ pub(crate) fn run_check<S: Source, O: Sink, F: Files, C: Clock, K: Keeper, L: Li
       status_failed = Rose (O.faults outside.old.status) (O.faults outside.new.status);
     }) result }
 {
-    let configured = match read_configured(alloc, &mut outside.files, words.config) {
-        Ok(configured) => configured,
+    let made = match configured(alloc, &mut outside.files, words.config.as_str()) {
+        Ok(made) => made,
         Err(status) => return refuse(alloc, &mut outside.status, status),
     };
-    let Ok(lines) = listing(alloc, &configured.config, words) else {
+    let Ok(lines) = listing(alloc, &made.config, words) else {
         return refuse(alloc, &mut outside.status, Status::OutOfMemory);
     };
-    if write_all(&mut outside.status, configured.notes.as_slice()).is_err() {
+    if write_all(&mut outside.status, made.notes.as_slice()).is_err() {
         return Status::SinkFault;
     }
     match write_all(&mut outside.results, lines.as_slice()) {

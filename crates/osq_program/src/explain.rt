@@ -3,7 +3,6 @@
 ghost use Rattle.std.specs.Prelude.{◌≡◌, ℕ, List, [], ◌∷◌, flat_map, IfOk};
 ghost use Rattle.osq_outside.specs.Causes.{Rose};
 ghost use Rattle.osq_program.specs.Answers.{IsUsageStatus};
-ghost use Rattle.osq_program.specs.Asked.{explain_asked};
 ghost use Rattle.osq_program.specs.Explaining.{IsExplain};
 ghost use Rattle.sql_names.specs.Resolved.{query_of};
 ghost use Rattle.sql_planner.specs.Explained.{explained};
@@ -14,7 +13,6 @@ use crate::outside::Outside;
 use crate::query::asked;
 use crate::status::Status;
 use crate::stop::refuse;
-use crate::words::ExplainWords;
 use batch_keeper::Keeper;
 use osq_outside::{Clock, Files, Sink, Source, write_all};
 use osq_value::{Bytes, NoMemory};
@@ -33,12 +31,12 @@ fn shown(alloc: Global, query: &Query) -> Result<Bytes, NoMemory>
 /// Writes the plan of the text's query, and tells on the status stream why it doesn't. It reads nothing.
 pub(crate) fn run_explain<S: Source, O: Sink, F: Files, C: Clock, K: Keeper, L: Link>(
     alloc: Global,
-    words: &ExplainWords<'_>,
+    text: &str,
     outside: &mut Outside<S, O, F, C, K, L>,
 ) -> Status
     ensures usage { ¬ IsUsageStatus result }
     ensures unread { outside.new ≡ record outside.old { results = outside.new.results; status = outside.new.status } }
-    ensures does { IsExplain (explain_asked words.now) (record {
+    ensures does { IsExplain (record { text = text.now }) (record {
       files_tell = F.tells;
       file = F.file outside.old.files;
       files_failed = Rose (F.faults outside.old.files) (F.faults outside.new.files);
@@ -59,14 +57,14 @@ pub(crate) fn run_explain<S: Source, O: Sink, F: Files, C: Clock, K: Keeper, L: 
       status_failed = Rose (O.faults outside.old.status) (O.faults outside.new.status);
     }) result }
 {
-    let query = match asked(alloc, words.text) {
+    let query = match asked(alloc, text) {
         Ok(query) => query,
         Err(status) => return refuse(alloc, &mut outside.status, status),
     };
-    let Ok(text) = shown(alloc, &query) else {
+    let Ok(shown) = shown(alloc, &query) else {
         return refuse(alloc, &mut outside.status, Status::OutOfMemory);
     };
-    match write_all(&mut outside.results, text.as_slice()) {
+    match write_all(&mut outside.results, shown.as_slice()) {
         Ok(()) => Status::Ok,
         Err(_) => refuse(alloc, &mut outside.status, Status::SinkFault),
     }

@@ -22,7 +22,7 @@ use crate::outside::Outside;
 use crate::status::Status;
 use crate::stop::refuse;
 use crate::tables::{TablesTaken, empty_image, take_tables, view_at};
-use crate::words::QueryWords;
+use crate::words::QueryPath;
 use batch_keeper::Keeper;
 use event_store::{Image, laws};
 use osq_outside::{Clock, Files, Sink, Source, write_all};
@@ -123,7 +123,7 @@ fn answer(alloc: Global, query: &Query, image: &Image, moment: u64) -> Result<By
 /// Answers the text over the tables of the source, and tells on the status stream why it doesn't.
 pub(crate) fn run_query<S: Source, O: Sink, F: Files, C: Clock, K: Keeper, L: Link>(
     alloc: Global,
-    words: &QueryWords<'_>,
+    words: &QueryPath<'_>,
     outside: &mut Outside<S, O, F, C, K, L>,
 ) -> Status
     requires { vec_len outside.old.sources ≡ count_of (query_asked words.now).tables }
@@ -184,7 +184,7 @@ pub(crate) fn run_query<S: Source, O: Sink, F: Files, C: Clock, K: Keeper, L: Li
 /// The tables of the one source, or of none.
 fn tables_of<S: Source>(
     alloc: Global,
-    words: &QueryWords<'_>,
+    words: &QueryPath<'_>,
     sources: &mut Vec<S>,
 ) -> Result<TablesTaken, Status>
     requires { vec_len sources.old ≡ count_of (query_asked words.now).tables }

@@ -21,7 +21,7 @@ use crate::report::{SPENT, Totals, final_line};
 use crate::session::{DOCUMENT, prepare};
 use crate::status::Status;
 use crate::stop::{Stop, tell, unloaded, unsealed};
-use crate::words::ReplayWords;
+use crate::words::ReplayPath;
 use batch_keeper::{Keeper, KeeperError};
 use entry_model::entry::EntryList;
 use osq_outside::{Clock, Files, FilesError, Sink, Source, write_all};
@@ -104,7 +104,7 @@ struct Session {
 /// The session behind an empty kept list: one step of the source, one batch, one seal, and the lines of the batch.
 fn run_session<S: Source, O: Sink, K: Keeper>(
     alloc: Global,
-    words: &ReplayWords<'_>,
+    words: &ReplayPath<'_>,
     moment: u64,
     source: &mut S,
     results: &mut O,
@@ -149,7 +149,7 @@ fn run_session<S: Source, O: Sink, K: Keeper>(
 /// The run of `replay` up to its status lines: configuration, kept list, clock, and the session.
 fn replay<S: Source, O: Sink, F: Files, C: Clock, K: Keeper>(
     alloc: Global,
-    words: &ReplayWords<'_>,
+    words: &ReplayPath<'_>,
     source: &mut S,
     results: &mut O,
     files: &mut F,
@@ -246,7 +246,7 @@ fn finish<O: Sink>(alloc: Global, status: &mut O, session: Session) -> Status
 /// Does a session over the one source, and tells on the status stream how it ended.
 pub(crate) fn run_replay<S: Source, O: Sink, F: Files, C: Clock, K: Keeper, L: Link>(
     alloc: Global,
-    words: &ReplayWords<'_>,
+    words: &ReplayPath<'_>,
     outside: &mut Outside<S, O, F, C, K, L>,
 ) -> Status
     requires { vec_len outside.old.sources ≡ 1 }

@@ -109,6 +109,9 @@ length-sources_of gs =
     let all = length-append (sources_named Audit AuditLog gs ++ sources_named Changes ChangeList gs) (sources_named Tables TableLines gs) in
     omega (arith, counts gs)
 
+pub sources_counted : (gs : List Given) → length (sources_of gs) ≡ count_by (λ g. is_source g.name) gs
+sources_counted gs = length-sources_of gs
+
 sources_within : (gs : List Given) → has_few_sources gs ≡ true → length (sources_of gs) ≤ 1000
 unfolding has_few_sources
 sources_within gs few =

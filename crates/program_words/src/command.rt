@@ -1,8 +1,8 @@
 //! The commands, and what their words ask.
 
-ghost use Rattle.std.specs.Prelude.{◌≡◌, length};
+ghost use Rattle.std.specs.Prelude.{◌≡◌, length, true};
 ghost use Rattle.std.specs.List.{list_all};
-ghost use Rattle.program_words.specs.Commands.{are_options, command_named, has_option, has_required, is_right, optional, paths_in, required, sources_in};
+ghost use Rattle.program_words.specs.Commands.{are_options, asked_by, command_named, has_few_sources, has_option, has_required, is_right, optional, paths_in, required, sources_in};
 ghost use Rattle.program_words.specs.Left.{given, options_in};
 
 use crate::given::GivenOption;
@@ -104,6 +104,18 @@ impl CommandName {
         ensures { result ≡ has_required self (options_in options.entry) }
     {
         self.required().iter().all(|name| options.stands(*name))
+    }
+
+    /// How many sources the command reads with these options.
+    #[tactic(auto, unfolding(crate::specs::Commands::replay_of, crate::specs::Commands::query_of))]
+    pub(crate) fn count_sources(self, options: OptionWords<'_, '_>) -> usize
+        requires few { has_few_sources (options_in options) ≡ true }
+        ensures { result ≡ sources_in (asked_by self (options_in options.entry)) }
+    {
+        match self {
+            CommandName::Replay | CommandName::Query => options.count_sources().unwrap_or(0),
+            CommandName::Check => 0,
+        }
     }
 
     /// The options are those of a run of the command.

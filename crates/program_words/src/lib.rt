@@ -13,7 +13,7 @@ pub mod source;
 
 pub use command::{CheckWords, CommandWords, Paths, QueryWords, ReplayWords};
 pub use error::WordsError;
-pub use read::{paths_of, read_words};
+pub use read::{count_sources, paths_of, read_words};
 pub use source::{SourceKind, SourceName, SourceNameList};
 
 #[cfg(test)]

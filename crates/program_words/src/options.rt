@@ -1,9 +1,9 @@
 //! The options that words spell.
 
-ghost use Rattle.std.specs.Prelude.{◌≡◌, ◌++◌, IfOk, OnOk};
+ghost use Rattle.std.specs.Prelude.{◌≡◌, ◌++◌, IfOk, IfSome, OnOk, is_some, length};
 ghost use Rattle.std.specs.Option.{option_copied};
 ghost use Rattle.std.specs.List.{list_any};
-ghost use Rattle.program_words.specs.Commands.{has_few_sources, sources_named};
+ghost use Rattle.program_words.specs.Commands.{has_few_sources, sources_named, sources_of};
 ghost use Rattle.program_words.specs.Given.{none_repeats, number_of, number_or, repeats, stands, value_of, value_or};
 ghost use Rattle.program_words.specs.Left.{given, left, options_in};
 
@@ -131,22 +131,30 @@ impl<'w, 'a> OptionWords<'w, 'a> {
         }
     }
 
-    /// At most a thousand of the options name a source.
-    #[tactic(auto, unfolding(crate::specs::Commands::has_few_sources))]
-    pub(crate) fn has_few_sources(self) -> bool
-        ensures { result ≡ has_few_sources (options_in self.entry) }
+    /// How many of the options name a source, where they are at most a thousand.
+    #[tactic(auto, unfolding(crate::specs::Commands::has_few_sources), using(crate::proofs::Within::sources_counted))]
+    pub(crate) fn count_sources(self) -> Option<usize>
+        ensures few { is_some result ≡ has_few_sources (options_in self.entry) }
+        ensures count { IfSome result (λ count. count ≡ length (sources_of (options_in self.entry))) }
     {
         let mut count = 0;
         let mut options = self.options();
         while let Some(option) = options.next() {
             if option.name.is_source() {
                 if count == MOST_SOURCES {
-                    return false;
+                    return None;
                 }
                 count += 1;
             }
         }
-        true
+        Some(count)
+    }
+
+    /// At most a thousand of the options name a source.
+    pub(crate) fn has_few_sources(self) -> bool
+        ensures { result ≡ has_few_sources (options_in self.entry) }
+    {
+        self.count_sources().is_some()
     }
 
     /// One of the options repeats that one.

@@ -1,8 +1,9 @@
 //! Reading the words of a command.
 
-ghost use Rattle.std.specs.Prelude.{◌≡◌, ◌↔◌, IfOk, MatchOption, None, Some, Err, map};
+ghost use Rattle.std.specs.Option.{option_map};
+ghost use Rattle.std.specs.Prelude.{◌≡◌, ◌↔◌, IfOk, IfSome, MatchOption, None, Some, Err, map, true};
 ghost use Rattle.program_words.specs.Bounds.{ArePathsBounded, IsBounded};
-ghost use Rattle.program_words.specs.Commands.{asked_by, check_of, has_refused, is_refused, paths_of, query_of, replay_of, sources_of, words_of};
+ghost use Rattle.program_words.specs.Commands.{asked_by, check_of, has_few_sources, has_refused, is_refused, paths_of, query_of, replay_of, sources_in, sources_of, words_of};
 ghost use Rattle.program_words.specs.Left.{options_in};
 
 use crate::command::{CheckWords, CommandName, CommandWords, Paths, QueryWords, ReplayWords};
@@ -41,9 +42,10 @@ fn has_refused(words: &[&str]) -> bool
 }
 
 /// The command that the words begin with, and its options, where the words are those of a command.
-#[tactic(auto, unfolding(crate::specs::Commands::words_of, crate::specs::Left::options_in))]
+#[tactic(auto, unfolding(crate::specs::Commands::words_of, crate::specs::Commands::are_options, crate::specs::Left::options_in))]
 fn command_in<'w, 'a>(words: &'w [&'a str]) -> Option<(CommandName, OptionWords<'w, 'a>)>
-    ensures { MatchOption result (words_of (map (λ w. w.now) words.now) ≡ None) (λ found. words_of (map (λ w. w.now) words.now) ≡ Some (asked_by found.0 (options_in found.1))) }
+    ensures command { MatchOption result (words_of (map (λ w. w.now) words.now) ≡ None) (λ found. words_of (map (λ w. w.now) words.now) ≡ Some (asked_by found.0 (options_in found.1))) }
+    ensures few { IfSome result (λ found. has_few_sources (options_in found.1) ≡ true) }
 {
     let (word, behind) = words.split_first()?;
     if has_refused(words) {
@@ -140,6 +142,14 @@ pub fn read_words(alloc: Global, words: &[&str]) -> Result<CommandWords, WordsEr
         return Err(WordsError::Usage);
     };
     Ok(asked_by(alloc, command, options)?)
+}
+
+/// How many sources the words of a command name; nothing where they are those of no command. It takes no memory.
+pub fn count_sources(words: &[&str]) -> Option<usize>
+    ensures { result ≡ option_map sources_in (words_of (map (λ w. w.now) words.now)) }
+{
+    let (command, options) = command_in(words)?;
+    Some(command.count_sources(options))
 }
 
 /// Reads what the program opens for the words of a command; Usage exactly where they are those of no command.

@@ -1,7 +1,7 @@
 //! Command lines with what they are read as.
 use crate::command::{CheckWords, CommandWords, QueryWords, ReplayWords};
 use crate::error::WordsError;
-use crate::read::{paths_of, read_words};
+use crate::read::{count_sources, paths_of, read_words};
 use crate::source::{SourceKind, SourceNameList};
 use std::alloc::{AllocError, Global};
 use std::fmt::Write;
@@ -218,6 +218,9 @@ fn told(alloc: Global, line: &str) -> Result<(String, usize), Fail> {
         CommandWords::Replay(words) => tell_replay(&mut told, words)?,
         CommandWords::Query(words) => tell_query(&mut told, words)?,
         CommandWords::Check(words) => tell_check(&mut told, words)?,
+    }
+    if count_sources(&words) != Some(command.sources()) {
+        return Err(Fail::from("a count"));
     }
     Ok((told, command.sources()))
 }

@@ -183,14 +183,12 @@ fn hosts(rt: HostRuntime) -> Result<(), Failed> {
         (
             &[
                 "check",
-                "--config",
-                "c",
+                "--agent=6",
                 "--host",
                 "abc",
                 "--platform",
                 "linux",
-                "--agent",
-                "6",
+                "--config=c",
             ],
             "pack_p_a 60 snapshot\n",
         ),

@@ -49,6 +49,19 @@ const OTHER_WORDS: [&str; 11] = [
     "replay", "--config", "c", "--host", "h1", "--start", "1000", "--ticks", "1", "--tables", "s",
 ];
 
+/// The same session in another order and spelling, with what stands where nothing is said.
+const TURNED_WORDS: [&str; 9] = [
+    "replay",
+    "--changes=s",
+    "--ticks",
+    "1",
+    "--records=10000",
+    "--host",
+    "h1",
+    "--start=1000",
+    "--config=c",
+];
+
 const LINE: &str = "{\"path\":\"/etc/a\",\"action\":\"CREATED\",\"time\":1}\n";
 
 const RESULT: &str = concat!(
@@ -479,10 +492,29 @@ const USAGE: Left<'static> = Left {
 
 #[test]
 fn words_that_are_refused(rt: HostRuntime) -> Result<(), Failed> {
-    let rows: [&[&str]; 4] = [&["replay"], &[], &BOTH_WORDS, &OTHER_WORDS];
+    let rows: [&[&str]; 5] = [
+        &["replay"],
+        &[],
+        &["replay", "--host", "h1"],
+        &["replay", "--config", "c", "--host", "h1", "--ticks", "0"],
+        // There is one source.
+        &BOTH_WORDS,
+    ];
     for words in rows.into_iter() {
         assert!(rt; ends(rt.alloc(), words, &PLAIN, &USAGE)?);
     }
+    let left = Left {
+        number: 30,
+        status: "osqd: not built: words\n",
+        ..USAGE
+    };
+    assert!(rt; ends(rt.alloc(), &OTHER_WORDS, &PLAIN, &left)?);
+    Ok(())
+}
+
+#[test]
+fn words_in_another_order(rt: HostRuntime) -> Result<(), Failed> {
+    assert!(rt; ends(rt.alloc(), &TURNED_WORDS, &PLAIN, &DONE)?);
     Ok(())
 }
 

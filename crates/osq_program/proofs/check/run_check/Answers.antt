@@ -6,6 +6,6 @@ use Rattle.osq_program.proofs.check.run_check.Goals as goal
 pub returns-then-is_err-clause-does : goal.returns-then-is_err-clause-does
 returns-then-is_err-clause-does g c =
     let failed : Rose (g.O.Sink.faults c.args.outside.now.status) (g.O.Sink.faults c.write_all.new.sink) = search rules in
-    partly_listed _ _ c.in-Ok-listing.lines c.in-Ok.configured.notes
-    (record { config = c.in-Ok.configured.config; configured = c.in-Ok.ensures.config; listing = c.in-Ok-listing.ensures })
+    partly_listed _ _ c.in-Ok-listing.lines c.in-Ok.made.notes
+    (record { config = c.in-Ok.made.config; documents = c.in-Ok.made.documents; configured = c.in-Ok.ensures.config; listing = c.in-Ok-listing.ensures })
     (λ tells. (0, sym (append-nil _))) (inr failed) (λ tells. refl) _ refl

@@ -1,7 +1,7 @@
 use Rattle.std.proofs.Common.{◌≡◌, ◌⊎◌, ◌++◌, ℕ, List, take, subst}
 use Rattle.osq_outside.specs.Causes.{Rose}
 use Rattle.osq_program.proofs.Ended.{written_or_front}
-use Rattle.osq_program.proofs.run.refuse.Goals as goal
+use Rattle.osq_program.proofs.run.misuse.Goals as goal
 
 pub returns-clause-text : goal.returns-clause-text
 returns-clause-text g c = λ told.

@@ -1,7 +1,7 @@
 use Rattle.std.proofs.Common.{◌≡◌, ◌+◌, ◌≤◌, length, count_by}
 use Rattle.program_words.specs.Names.{is_source}
 use Rattle.program_words.specs.Left.{left, options_in}
-use Rattle.program_words.proofs.options.OptionWords.has_few_sources.Given as goal
+use Rattle.program_words.proofs.options.OptionWords.count_sources.Given as goal
 
 abbrev pub invariant-loop-option : goal.invariant-loop-option
 invariant-loop-option l =

@@ -1,0 +1,107 @@
+-- What words ask for, and what is done of it.
+use Rattle.std.proofs.Common.{◌≡◌, ℕ, ◌&&◌, not, Bool, true, false, List, [], ◌∷◌, length, Option, Some, None, inl, refl, sym, ap, ◌∙◌, subst}
+use Rattle.std.specs.Prelude.{◌==◌, if◌then◌else◌, is_some, codes}
+use Rattle.std.specs.Option.{option_map, option_map_or}
+use Rattle.entry_model.specs.declared.entry.Entry.{Entry}
+use Rattle.program_words.specs.declared.command.CheckWords.{CheckWords}
+use Rattle.program_words.specs.declared.command.CommandWords.{CommandWords}
+use Rattle.program_words.specs.declared.command.CommandWords.TheVariants.{Replay as AsksReplay, Query as AsksQuery, Check as AsksCheck}
+use Rattle.program_words.specs.declared.command.QueryWords.{QueryWords}
+use Rattle.program_words.specs.declared.command.ReplayWords.{ReplayWords}
+use Rattle.program_words.specs.declared.source.SourceKind.{SourceKind}
+use Rattle.program_words.specs.declared.source.SourceKind.TheVariants.{Audit, Changes, Tables}
+use Rattle.program_words.specs.declared.source.SourceName.{SourceName}
+use Rattle.osq_program.specs.declared.status.Status.{Status}
+use Rattle.osq_program.specs.declared.status.Status.TheVariants.{OutOfMemory}
+use Rattle.osq_program.specs.Answers.{NotBuiltYet}
+use Rattle.osq_program.specs.Checking.{IsCheck}
+use Rattle.osq_program.specs.Commands.{Query, Replay, count_of, query_in, replay_in, replay_over, tables_by, tables_over}
+use Rattle.osq_program.specs.Doing.{Does, DoesQuery, DoesReplay, IsLeft}
+use Rattle.osq_program.specs.Explaining.{IsExplain}
+use Rattle.osq_program.specs.Querying.{IsQuery}
+use Rattle.osq_program.specs.Replaying.{IsReplay}
+use Rattle.osq_program.specs.Told.{Told}
+use Rattle.osq_program.proofs.Ended.{unwritten}
+use Rattle.osq_program.proofs.Listings.{wants_memory}
+use Rattle.osq_program.proofs.Queries.{no_memory}
+use Rattle.osq_program.specs.Run.{IsPartlyWritten}
+
+some_if : {X : Type 0} (b : Bool) (o : Option X) (x : X) → Some x ≡ (if b then o else None) → Some x ≡ o
+some_if true o x is = is
+some_if false o x is = absurd cc
+
+-- such a session is over one source
+pub one_source : (words : ReplayWords) (w : Replay) → Some w ≡ replay_in words → length words.sources ≡ 1
+one_source words w is = over words.sources (some_if (words.ticks == 1 && words.records == 10000) (replay_over words words.sources) w is)
+  where
+    over : (sources : List SourceName) → Some w ≡ replay_over words sources → length sources ≡ 1
+    over [] e = absurd cc
+    over (source ∷ []) e = refl
+    over (source ∷ other ∷ rest) e = absurd cc
+
+-- and such a question over its source of tables alone
+pub its_sources : (words : QueryWords) (w : Query) → Some w ≡ query_in words → length words.sources ≡ count_of w.tables
+its_sources words w is =
+    over words.sources (some_if (words.ticks == 1000000 && words.records == 10000 && not (is_some words.config)) (asked (tables_over words.sources)) w is)
+  where
+    asked : Option (Option (List ℕ)) → Option Query
+    asked tables = option_map (λ tables. record { text = words.text; tables = tables }) tables
+
+    count : Option Query → ℕ
+    count query = option_map_or (λ (query : Query). count_of query.tables) query 0
+
+    by_kind : (kind : SourceKind) (path : List ℕ) → Some w ≡ asked (tables_by kind path) → 1 ≡ count_of w.tables
+    by_kind Audit path e = absurd cc
+    by_kind Changes path e = absurd cc
+    by_kind Tables path e = sym (ap count e)
+
+    over : (sources : List SourceName) → Some w ≡ asked (tables_over sources) → length sources ≡ count_of w.tables
+    over [] e = sym (ap count e)
+    over (source ∷ []) e = by_kind source.kind source.path e
+    over (source ∷ other ∷ rest) e = absurd cc
+
+pub does_replay : (words : ReplayWords) (w : Replay) (told : Told) (status : Status) → Some w ≡ replay_in words → IsReplay w told status → DoesReplay words told status
+does_replay words w told status is does = subst (λ (o : Option Replay). option_map_or (λ (w : Replay). IsReplay w told status) o (IsLeft told status)) is does
+
+pub leaves_replay : (words : ReplayWords) (told : Told) (status : Status) → None ≡ replay_in words → IsLeft told status → DoesReplay words told status
+leaves_replay words told status is left = subst (λ (o : Option Replay). option_map_or (λ (w : Replay). IsReplay w told status) o (IsLeft told status)) is left
+
+module _ (words : QueryWords) (told : Told) (status : Status) where
+  abbrev answers : Option Query → Type 0
+  answers o = option_map_or (λ (w : Query). IsQuery w told status) o (IsLeft told status)
+
+  abbrev does_by : Bool → Type 0
+  does_by explain = if explain then IsExplain (record { text = words.text }) told status else answers (query_in words)
+
+  pub does_explain : words.explain ≡ true → IsExplain (record { text = words.text }) told status → DoesQuery words told status
+  does_explain is does = subst does_by (sym is) does
+
+  pub does_query : (w : Query) → words.explain ≡ false → Some w ≡ query_in words → IsQuery w told status → DoesQuery words told status
+  does_query w plain is does = subst does_by (sym plain) (subst answers is does)
+
+  pub leaves_query : words.explain ≡ false → None ≡ query_in words → IsLeft told status → DoesQuery words told status
+  leaves_query plain is left = subst does_by (sym plain) (subst answers is left)
+
+-- memory is wanting before anything is done
+pub wants : (command : CommandWords) (told : Told) → (told.keeper_tells → told.kept_after ≡ told.kept_before) → (told.sink_tells → told.results_after ≡ told.results_before) → Does command told OutOfMemory
+wants (AsksReplay words) told kept same = by_path (replay_in words)
+  where
+    by_path : (o : Option Replay) → option_map_or (λ (w : Replay). IsReplay w told OutOfMemory) o (IsLeft told OutOfMemory)
+    by_path None = record { not_built = tt; kept = kept; written = same }
+    by_path (Some w) = record {
+      done = λ done. absurd done;
+      spent = λ spent. absurd spent;
+      cause = λ refusal. tt;
+      kept = λ tells. inl (kept tells);
+      written = λ tells. subst (λ (after : List ℕ). IsPartlyWritten w.host told.keeper_tells told.kept_after told.results_before after) (sym (same tells)) (unwritten w.host told.keeper_tells told.kept_after told.results_before);
+    }
+wants (AsksQuery words) told kept same = by_flag words.explain
+  where
+    by_path : (o : Option Query) → option_map_or (λ (w : Query). IsQuery w told OutOfMemory) o (IsLeft told OutOfMemory)
+    by_path None = record { not_built = tt; kept = kept; written = same }
+    by_path (Some w) = no_memory w told same kept OutOfMemory refl
+
+    by_flag : (explain : Bool) → if explain then IsExplain (record { text = words.text }) told OutOfMemory else option_map_or (λ (w : Query). IsQuery w told OutOfMemory) (query_in words) (IsLeft told OutOfMemory)
+    by_flag true = record { leaves = same; quiet = λ done. absurd done; unspent = λ spent. spent; cause = λ refusal. tt }
+    by_flag false = by_path (query_in words)
+wants (AsksCheck words) told kept same = wants_memory words told OutOfMemory refl same kept

@@ -1,0 +1,158 @@
+//! What is done for the words of each command.
+
+ghost use Rattle.std.specs.Prelude.{◌≡◌, ℕ, List, [], ◌∷◌, true, vec_len, flat_map, length, codes};
+ghost use Rattle.osq_outside.specs.Causes.{Rose};
+ghost use Rattle.program_words.specs.declared.command.CheckWords.{CheckWords};
+ghost use Rattle.program_words.specs.declared.command.QueryWords.{QueryWords};
+ghost use Rattle.program_words.specs.declared.command.CommandWords.TheVariants.{Check as AsksCheck, Query as AsksQuery};
+ghost use Rattle.program_words.specs.Commands.{sources_in};
+ghost use Rattle.osq_program.specs.Answers.{IsUsageStatus, NotBuiltYet};
+ghost use Rattle.osq_program.specs.Doing.{Does, DoesQuery, DoesReplay};
+
+use crate::check::run_check;
+use crate::checks::not_built;
+use crate::explain::run_explain;
+use crate::link::Link;
+use crate::outside::Outside;
+use crate::query::run_query;
+use crate::replay::run_replay;
+use crate::status::Status;
+use crate::stop::refuse;
+use crate::words::{query_path, replay_path};
+use batch_keeper::Keeper;
+use osq_outside::{Clock, Files, Sink, Source};
+use program_words::{CommandWords, QueryWords, ReplayWords};
+use std::alloc::Global;
+
+/// Tells that the words ask for what isn't built yet.
+fn leave<O: Sink>(alloc: Global, status: &mut O) -> Status
+    ensures { NotBuiltYet (codes "words") result }
+{
+    let status_of = not_built(alloc, "words");
+    refuse(alloc, status, status_of)
+}
+
+/// Does the session that the words ask for, where it can be done today.
+fn do_replay<S: Source, O: Sink, F: Files, C: Clock, K: Keeper, L: Link>(
+    alloc: Global,
+    words: &ReplayWords,
+    outside: &mut Outside<S, O, F, C, K, L>,
+) -> Status
+    requires { vec_len outside.old.sources ≡ length words.now.sources }
+    ensures usage { ¬ IsUsageStatus result }
+    ensures link { outside.new.link ≡ outside.old.link }
+    ensures ledger { outside.new.ledger ≡ outside.old.ledger }
+    ensures sources { vec_len outside.new.sources ≡ vec_len outside.old.sources }
+    ensures does { DoesReplay words.now (record {
+      files_tell = F.tells;
+      file = F.file outside.old.files;
+      files_failed = Rose (F.faults outside.old.files) (F.faults outside.new.files);
+      keeper_tells = K.tells;
+      kept_before = K.kept outside.old.keeper;
+      kept_after = K.kept outside.new.keeper;
+      keeper_failed = Rose (K.faults outside.old.keeper) (K.faults outside.new.keeper);
+      reads = λ moment. C.reads outside.old.clock moment outside.new.clock;
+      source_tells = S.tells;
+      bytes = flat_map S.left outside.old.sources.items;
+      source_failed = (before after : S) × (outside.old.sources.items ≡ before ∷ []) × (outside.new.sources.items ≡ after ∷ []) × Rose (S.faults before) (S.faults after);
+      sink_tells = O.tells;
+      results_before = O.written outside.old.results;
+      results_after = O.written outside.new.results;
+      results_failed = Rose (O.faults outside.old.results) (O.faults outside.new.results);
+      status_before = O.written outside.old.status;
+      status_after = O.written outside.new.status;
+      status_failed = Rose (O.faults outside.old.status) (O.faults outside.new.status);
+    }) result }
+{
+    match replay_path(words) {
+        Some(path) => run_replay(alloc, &path, outside),
+        None => leave(alloc, &mut outside.status),
+    }
+}
+
+/// Answers the question of the words, where it can be answered today.
+fn do_query<S: Source, O: Sink, F: Files, C: Clock, K: Keeper, L: Link>(
+    alloc: Global,
+    words: &QueryWords,
+    outside: &mut Outside<S, O, F, C, K, L>,
+) -> Status
+    requires { vec_len outside.old.sources ≡ length words.now.sources }
+    ensures usage { ¬ IsUsageStatus result }
+    ensures link { outside.new.link ≡ outside.old.link }
+    ensures ledger { outside.new.ledger ≡ outside.old.ledger }
+    ensures files { outside.new.files ≡ outside.old.files }
+    ensures sources { vec_len outside.new.sources ≡ vec_len outside.old.sources }
+    ensures unread { words.now.explain ≡ true → outside.new ≡ record outside.old { results = outside.new.results; status = outside.new.status } }
+    ensures does { DoesQuery words.now (record {
+      files_tell = F.tells;
+      file = F.file outside.old.files;
+      files_failed = Rose (F.faults outside.old.files) (F.faults outside.new.files);
+      keeper_tells = K.tells;
+      kept_before = K.kept outside.old.keeper;
+      kept_after = K.kept outside.new.keeper;
+      keeper_failed = Rose (K.faults outside.old.keeper) (K.faults outside.new.keeper);
+      reads = λ moment. C.reads outside.old.clock moment outside.new.clock;
+      source_tells = S.tells;
+      bytes = flat_map S.left outside.old.sources.items;
+      source_failed = (before after : S) × (outside.old.sources.items ≡ before ∷ []) × (outside.new.sources.items ≡ after ∷ []) × Rose (S.faults before) (S.faults after);
+      sink_tells = O.tells;
+      results_before = O.written outside.old.results;
+      results_after = O.written outside.new.results;
+      results_failed = Rose (O.faults outside.old.results) (O.faults outside.new.results);
+      status_before = O.written outside.old.status;
+      status_after = O.written outside.new.status;
+      status_failed = Rose (O.faults outside.old.status) (O.faults outside.new.status);
+    }) result }
+{
+    if words.explain {
+        return run_explain(alloc, words.text.as_str(), outside);
+    }
+    match query_path(words) {
+        Some(path) => run_query(alloc, &path, outside),
+        None => leave(alloc, &mut outside.status),
+    }
+}
+
+/// Does what the words of a command ask for. There are as many sources as they name.
+pub(crate) fn run_command<S: Source, O: Sink, F: Files, C: Clock, K: Keeper, L: Link>(
+    alloc: Global,
+    words: &CommandWords,
+    outside: &mut Outside<S, O, F, C, K, L>,
+) -> Status
+    requires { vec_len outside.old.sources ≡ sources_in words.now }
+    ensures usage { ¬ IsUsageStatus result }
+    ensures link { outside.new.link ≡ outside.old.link }
+    ensures ledger { outside.new.ledger ≡ outside.old.ledger }
+    ensures sources { vec_len outside.new.sources ≡ vec_len outside.old.sources }
+    ensures query_files { (query : QueryWords) → words.now ≡ AsksQuery query → outside.new.files ≡ outside.old.files }
+    ensures explain_unread { (query : QueryWords) → words.now ≡ AsksQuery query → query.explain ≡ true
+        → outside.new ≡ record outside.old { results = outside.new.results; status = outside.new.status } }
+    ensures check_unread { (check : CheckWords) → words.now ≡ AsksCheck check
+        → (outside.new.sources ≡ outside.old.sources) × (outside.new.clock ≡ outside.old.clock) × (outside.new.keeper ≡ outside.old.keeper) }
+    ensures does { Does words.now (record {
+      files_tell = F.tells;
+      file = F.file outside.old.files;
+      files_failed = Rose (F.faults outside.old.files) (F.faults outside.new.files);
+      keeper_tells = K.tells;
+      kept_before = K.kept outside.old.keeper;
+      kept_after = K.kept outside.new.keeper;
+      keeper_failed = Rose (K.faults outside.old.keeper) (K.faults outside.new.keeper);
+      reads = λ moment. C.reads outside.old.clock moment outside.new.clock;
+      source_tells = S.tells;
+      bytes = flat_map S.left outside.old.sources.items;
+      source_failed = (before after : S) × (outside.old.sources.items ≡ before ∷ []) × (outside.new.sources.items ≡ after ∷ []) × Rose (S.faults before) (S.faults after);
+      sink_tells = O.tells;
+      results_before = O.written outside.old.results;
+      results_after = O.written outside.new.results;
+      results_failed = Rose (O.faults outside.old.results) (O.faults outside.new.results);
+      status_before = O.written outside.old.status;
+      status_after = O.written outside.new.status;
+      status_failed = Rose (O.faults outside.old.status) (O.faults outside.new.status);
+    }) result }
+{
+    match words {
+        CommandWords::Replay(words) => do_replay(alloc, words, outside),
+        CommandWords::Query(words) => do_query(alloc, words, outside),
+        CommandWords::Check(words) => run_check(alloc, words, outside),
+    }
+}

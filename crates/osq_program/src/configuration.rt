@@ -1,0 +1,58 @@
+//! The configuration that a run is given by a path.
+
+ghost use Rattle.std.specs.Prelude.{IfOk, IfErr};
+ghost use Rattle.osq_outside.specs.Causes.{Rose};
+ghost use Rattle.config_files.specs.Configurations.{IsConfigured};
+ghost use Rattle.osq_program.specs.Answers.{no_causes, IsCaused};
+ghost use Rattle.osq_program.specs.Checking.{IsRefusedFor, Refuses};
+
+use crate::status::Status;
+use config_files::{Configured, ConfiguredError, kind_of, read_configured};
+use osq_config::ConfigError;
+use osq_outside::Files;
+use osq_value::Str;
+use std::alloc::Global;
+
+/// The answer to a document that is no configuration.
+fn refused(error: ConfigError) -> Status
+    ensures { Refuses error result }
+{
+    let kind = kind_of(&error);
+    match error {
+        ConfigError::NotJson => Status::ConfigRefused {
+            kind,
+            key: Str::empty(),
+        },
+        ConfigError::WrongShape { key } => Status::ConfigRefused { kind, key },
+        ConfigError::OutOfRange { key } => Status::ConfigRefused { kind, key },
+        ConfigError::TooManyQueries => Status::ConfigRefused {
+            kind,
+            key: Str::empty(),
+        },
+        ConfigError::NoMemory => Status::OutOfMemory,
+    }
+}
+
+/// The configuration in the file of this path with its packs, or the answer where there is none.
+pub(crate) fn configured<F: Files>(
+    alloc: Global,
+    files: &mut F,
+    path: &str,
+) -> Result<Configured, Status>
+    ensures config { IfOk result (λ made. IsConfigured F.tells (F.file files.old) path.now made.config made.documents made.notes) }
+    ensures cause { IfErr result (IsCaused (record no_causes {
+      files = Rose (F.faults files.old) (F.faults files.new);
+      refused = IsRefusedFor F.tells (F.file files.old) path.now;
+    })) }
+{
+    match read_configured(alloc, files, path) {
+        Ok(made) => Ok(made),
+        Err(ConfiguredError::Fault) => Err(Status::FilesFault),
+        Err(ConfiguredError::Missing) => Err(Status::ConfigRefused {
+            kind: "Missing",
+            key: Str::empty(),
+        }),
+        Err(ConfiguredError::Refused { error }) => Err(refused(error)),
+        Err(ConfiguredError::NoMemory) => Err(Status::OutOfMemory),
+    }
+}
