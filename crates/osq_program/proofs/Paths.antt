@@ -1,6 +1,6 @@
 -- What words ask for, and what is done of it.
 use Rattle.std.proofs.Common.{◌≡◌, ℕ, ◌&&◌, not, Bool, true, false, List, [], ◌∷◌, length, Option, Some, None, inl, refl, sym, ap, ◌∙◌, subst}
-use Rattle.std.specs.Prelude.{◌==◌, if◌then◌else◌, is_some, codes}
+use Rattle.std.specs.Prelude.{◌==◌, if◌then◌else◌, is_some, codes, unwrap_or}
 use Rattle.std.specs.Option.{option_map, option_map_or}
 use Rattle.entry_model.specs.declared.entry.Entry.{Entry}
 use Rattle.program_words.specs.declared.command.CheckWords.{CheckWords}
@@ -16,7 +16,7 @@ use Rattle.osq_program.specs.declared.status.Status.TheVariants.{OutOfMemory}
 use Rattle.osq_program.specs.Answers.{NotBuiltYet}
 use Rattle.osq_program.specs.Checking.{IsCheck}
 use Rattle.osq_program.specs.Commands.{Query, Replay, count_of, query_in, replay_in, replay_over, tables_by, tables_over}
-use Rattle.osq_program.specs.Doing.{Does, DoesQuery, DoesReplay, IsLeft}
+use Rattle.osq_program.specs.Doing.{AnswersBy, Does, DoesQuery, DoesReplay, IsLeft, QueriesBy, ReplaysBy}
 use Rattle.osq_program.specs.Explaining.{IsExplain}
 use Rattle.osq_program.specs.Querying.{IsQuery}
 use Rattle.osq_program.specs.Replaying.{IsReplay}
@@ -61,32 +61,25 @@ its_sources words w is =
     over (source ∷ other ∷ rest) e = absurd cc
 
 pub does_replay : (words : ReplayWords) (w : Replay) (told : Told) (status : Status) → Some w ≡ replay_in words → IsReplay w told status → DoesReplay words told status
-does_replay words w told status is does = subst (λ (o : Option Replay). option_map_or (λ (w : Replay). IsReplay w told status) o (IsLeft told status)) is does
+does_replay words w told status is does = subst (λ (o : Option Replay). ReplaysBy o told status) is does
 
 pub leaves_replay : (words : ReplayWords) (told : Told) (status : Status) → None ≡ replay_in words → IsLeft told status → DoesReplay words told status
-leaves_replay words told status is left = subst (λ (o : Option Replay). option_map_or (λ (w : Replay). IsReplay w told status) o (IsLeft told status)) is left
+leaves_replay words told status is left = subst (λ (o : Option Replay). ReplaysBy o told status) is left
 
-module _ (words : QueryWords) (told : Told) (status : Status) where
-  abbrev answers : Option Query → Type 0
-  answers o = option_map_or (λ (w : Query). IsQuery w told status) o (IsLeft told status)
+pub does_explain : (words : QueryWords) (told : Told) (status : Status) → words.explain ≡ true → IsExplain (record { text = words.text }) told status → DoesQuery words told status
+does_explain words told status is does = subst (λ (b : Bool). QueriesBy b words told status) (sym is) does
 
-  abbrev does_by : Bool → Type 0
-  does_by explain = if explain then IsExplain (record { text = words.text }) told status else answers (query_in words)
+pub does_query : (words : QueryWords) (w : Query) (told : Told) (status : Status) → words.explain ≡ false → Some w ≡ query_in words → IsQuery w told status → DoesQuery words told status
+does_query words w told status plain is does = subst (λ (b : Bool). QueriesBy b words told status) (sym plain) (subst (λ (o : Option Query). AnswersBy o told status) is does)
 
-  pub does_explain : words.explain ≡ true → IsExplain (record { text = words.text }) told status → DoesQuery words told status
-  does_explain is does = subst does_by (sym is) does
-
-  pub does_query : (w : Query) → words.explain ≡ false → Some w ≡ query_in words → IsQuery w told status → DoesQuery words told status
-  does_query w plain is does = subst does_by (sym plain) (subst answers is does)
-
-  pub leaves_query : words.explain ≡ false → None ≡ query_in words → IsLeft told status → DoesQuery words told status
-  leaves_query plain is left = subst does_by (sym plain) (subst answers is left)
+pub leaves_query : (words : QueryWords) (told : Told) (status : Status) → words.explain ≡ false → None ≡ query_in words → IsLeft told status → DoesQuery words told status
+leaves_query words told status plain is left = subst (λ (b : Bool). QueriesBy b words told status) (sym plain) (subst (λ (o : Option Query). AnswersBy o told status) is left)
 
 -- memory is wanting before anything is done
-pub wants : (command : CommandWords) (told : Told) → (told.keeper_tells → told.kept_after ≡ told.kept_before) → (told.sink_tells → told.results_after ≡ told.results_before) → Does command told OutOfMemory
+wants : (command : CommandWords) (told : Told) → (told.keeper_tells → told.kept_after ≡ told.kept_before) → (told.sink_tells → told.results_after ≡ told.results_before) → Does command told OutOfMemory
 wants (AsksReplay words) told kept same = by_path (replay_in words)
   where
-    by_path : (o : Option Replay) → option_map_or (λ (w : Replay). IsReplay w told OutOfMemory) o (IsLeft told OutOfMemory)
+    by_path : (o : Option Replay) → ReplaysBy o told OutOfMemory
     by_path None = record { not_built = tt; kept = kept; written = same }
     by_path (Some w) = record {
       done = λ done. absurd done;
@@ -97,11 +90,18 @@ wants (AsksReplay words) told kept same = by_path (replay_in words)
     }
 wants (AsksQuery words) told kept same = by_flag words.explain
   where
-    by_path : (o : Option Query) → option_map_or (λ (w : Query). IsQuery w told OutOfMemory) o (IsLeft told OutOfMemory)
+    by_path : (o : Option Query) → AnswersBy o told OutOfMemory
     by_path None = record { not_built = tt; kept = kept; written = same }
     by_path (Some w) = no_memory w told same kept OutOfMemory refl
 
-    by_flag : (explain : Bool) → if explain then IsExplain (record { text = words.text }) told OutOfMemory else option_map_or (λ (w : Query). IsQuery w told OutOfMemory) (query_in words) (IsLeft told OutOfMemory)
+    by_flag : (explain : Bool) → QueriesBy explain words told OutOfMemory
     by_flag true = record { leaves = same; quiet = λ done. absurd done; unspent = λ spent. spent; cause = λ refusal. tt }
     by_flag false = by_path (query_in words)
 wants (AsksCheck words) told kept same = wants_memory words told OutOfMemory refl same kept
+
+pub wants_by : (command : CommandWords) (told : Told) (status : Status) → status ≡ OutOfMemory → (told.keeper_tells → told.kept_after ≡ told.kept_before) → (told.sink_tells → told.results_after ≡ told.results_before) → Does command told status
+wants_by command told status is kept same = subst (λ (s : Status). Does command told s) (sym is) (wants command told kept same)
+
+-- what is done for the command that was read is done for the one that the words spell
+pub for_read : (read command : CommandWords) (told : Told) (status : Status) → Some read ≡ Some command → Does read told status → Does command told status
+for_read read command told status is does = subst (λ (c : CommandWords). Does c told status) (ap (λ (o : Option CommandWords). unwrap_or o read) is) does

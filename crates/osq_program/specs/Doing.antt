@@ -1,6 +1,5 @@
 -- What a run of each command does.
-use Rattle.std.specs.Prelude.{◌≡◌, if◌then◌else◌, codes}
-use Rattle.std.specs.Option.{option_map_or}
+use Rattle.std.specs.Prelude.{◌≡◌, Bool, true, false, Option, None, Some, codes}
 use Rattle.program_words.specs.declared.command.CommandWords.{CommandWords}
 use Rattle.program_words.specs.declared.command.CommandWords.TheVariants.{Replay as AsksReplay, Query as AsksQuery, Check as AsksCheck}
 use Rattle.program_words.specs.declared.command.QueryWords.{QueryWords}
@@ -20,13 +19,23 @@ pub record IsLeft (told : Told) (status : Status) : Type 0 where
   pub kept : told.keeper_tells → told.kept_after ≡ told.kept_before
   pub written : told.sink_tells → told.results_after ≡ told.results_before
 
+abbrev pub ReplaysBy : Option Replay → Told → Status → Type 0
+ReplaysBy None told status = IsLeft told status
+ReplaysBy (Some replay) told status = IsReplay replay told status
+
 abbrev pub DoesReplay : ReplayWords → Told → Status → Type 0
-DoesReplay words told status = option_map_or (λ (w : Replay). IsReplay w told status) (replay_in words) (IsLeft told status)
+DoesReplay words told status = ReplaysBy (replay_in words) told status
+
+abbrev pub AnswersBy : Option Query → Told → Status → Type 0
+AnswersBy None told status = IsLeft told status
+AnswersBy (Some query) told status = IsQuery query told status
+
+abbrev pub QueriesBy : Bool → QueryWords → Told → Status → Type 0
+QueriesBy true words told status = IsExplain (record { text = words.text }) told status
+QueriesBy false words told status = AnswersBy (query_in words) told status
 
 abbrev pub DoesQuery : QueryWords → Told → Status → Type 0
-DoesQuery words told status =
-    if words.explain then IsExplain (record { text = words.text }) told status
-    else option_map_or (λ (w : Query). IsQuery w told status) (query_in words) (IsLeft told status)
+DoesQuery words told status = QueriesBy words.explain words told status
 
 abbrev pub Does : CommandWords → Told → Status → Type 0
 Does (AsksReplay words) told status = DoesReplay words told status

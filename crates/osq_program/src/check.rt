@@ -85,7 +85,7 @@ pub(crate) fn run_check<S: Source, O: Sink, F: Files, C: Clock, K: Keeper, L: Li
       status_failed = Rose (O.faults outside.old.status) (O.faults outside.new.status);
     }) result }
 {
-    let made = match configured(alloc, &mut outside.files, words.config.as_str()) {
+    let made = match configured(alloc, &mut outside.files, &words.config) {
         Ok(made) => made,
         Err(status) => return refuse(alloc, &mut outside.status, status),
     };

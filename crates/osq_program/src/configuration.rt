@@ -37,7 +37,7 @@ fn refused(error: ConfigError) -> Status
 pub(crate) fn configured<F: Files>(
     alloc: Global,
     files: &mut F,
-    path: &str,
+    path: &Str,
 ) -> Result<Configured, Status>
     ensures config { IfOk result (λ made. IsConfigured F.tells (F.file files.old) path.now made.config made.documents made.notes) }
     ensures cause { IfErr result (IsCaused (record no_causes {
@@ -45,7 +45,7 @@ pub(crate) fn configured<F: Files>(
       refused = IsRefusedFor F.tells (F.file files.old) path.now;
     })) }
 {
-    match read_configured(alloc, files, path) {
+    match read_configured(alloc, files, path.as_str()) {
         Ok(made) => Ok(made),
         Err(ConfiguredError::Fault) => Err(Status::FilesFault),
         Err(ConfiguredError::Missing) => Err(Status::ConfigRefused {
