@@ -1,11 +1,11 @@
 -- From what the parts of a check ensure to what `check` does.
-use Rattle.std.proofs.Common.{◌≡◌, ◌⊎◌, inl, inr, ◌<◌, ℕ, ◌+◌, length, get_or, List, [], ◌∷◌, ◌++◌, take, refl, sym, ap, ◌∙◌, subst, append-nil, append_assoc}
+use Rattle.std.proofs.Common.{◌≡◌, ◌⊎◌, inl, inr, ◌<◌, ℕ, ◌+◌, length, get_or, List, [], ◌∷◌, ◌++◌, take, sym, ap, ◌∙◌, subst, append-nil, append_assoc}
 use Rattle.std.proofs.lemmas.List.{take_more}
 use Rattle.osq_config.specs.declared.error.ConfigError.{ConfigError}
 use Rattle.pack_rules.specs.declared.schedule.Scheduled.{Scheduled}
 use Rattle.osq_program.specs.declared.status.Status.{Status}
 use Rattle.osq_program.specs.declared.status.Status.TheVariants.{Ok as Done, Usage, FilesFault, ConfigRefused, KeeperFault, MomentTooLarge, SourceFault, SinkFault, TicksSpent, QueryRefused, OutOfMemory, NotBuilt}
-use Rattle.osq_program.specs.Answers.{Causes, IsCaused, IsRefusal, no_causes}
+use Rattle.osq_program.specs.Answers.{Causes, IsCaused, no_causes}
 use Rattle.config_files.specs.Naming.{key_of_error, kind_of_error}
 use Rattle.osq_program.specs.Checking.{HasLines, IsCheck, IsRefusedFor, Leaves, Refuses, causes_of, query_line, schedule_lines}
 use Rattle.program_words.specs.declared.command.CheckWords.{CheckWords}

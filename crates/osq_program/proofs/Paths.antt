@@ -1,9 +1,7 @@
 -- What words ask for, and what is done of it.
-use Rattle.std.proofs.Common.{◌≡◌, ℕ, ◌&&◌, not, Bool, true, false, List, [], ◌∷◌, length, Option, Some, None, inl, refl, sym, ap, ◌∙◌, subst}
-use Rattle.std.specs.Prelude.{◌==◌, if◌then◌else◌, is_some, codes, unwrap_or}
+use Rattle.std.proofs.Common.{◌≡◌, ℕ, ◌&&◌, not, Bool, true, false, List, [], ◌∷◌, length, Option, Some, None, inl, refl, sym, ap, subst}
+use Rattle.std.specs.Prelude.{◌==◌, if◌then◌else◌, is_some, unwrap_or}
 use Rattle.std.specs.Option.{option_map, option_map_or}
-use Rattle.entry_model.specs.declared.entry.Entry.{Entry}
-use Rattle.program_words.specs.declared.command.CheckWords.{CheckWords}
 use Rattle.program_words.specs.declared.command.CommandWords.{CommandWords}
 use Rattle.program_words.specs.declared.command.CommandWords.TheVariants.{Replay as AsksReplay, Query as AsksQuery, Check as AsksCheck}
 use Rattle.program_words.specs.declared.command.QueryWords.{QueryWords}
@@ -13,8 +11,6 @@ use Rattle.program_words.specs.declared.source.SourceKind.TheVariants.{Audit, Ch
 use Rattle.program_words.specs.declared.source.SourceName.{SourceName}
 use Rattle.osq_program.specs.declared.status.Status.{Status}
 use Rattle.osq_program.specs.declared.status.Status.TheVariants.{OutOfMemory}
-use Rattle.osq_program.specs.Answers.{NotBuiltYet}
-use Rattle.osq_program.specs.Checking.{IsCheck}
 use Rattle.osq_program.specs.Commands.{Query, Replay, count_of, query_in, replay_in, replay_over, tables_by, tables_over}
 use Rattle.osq_program.specs.Doing.{AnswersBy, Does, DoesQuery, DoesReplay, IsLeft, QueriesBy, ReplaysBy}
 use Rattle.osq_program.specs.Explaining.{IsExplain}

@@ -1,10 +1,10 @@
 -- From what the parts of a query ensure to what `query` does.
-use Rattle.std.proofs.Common.{◌≡◌, ◌≢◌, ◌⊎◌, inl, inr, ◌<◌, ◌≤◌, ℕ, List, [], ◌∷◌, ◌++◌, take, refl, sym, ap, ◌∙◌, subst, Some, None}
+use Rattle.std.proofs.Common.{◌≡◌, ◌≢◌, inl, inr, ◌<◌, ◌≤◌, ℕ, List, [], ◌++◌, take, refl, sym, ap, ◌∙◌, subst, Some, None}
 use Rattle.std.specs.Prelude.{Bool, true, false, not, unwrap_or}
 use Rattle.std.proofs.lemmas.Bool.{true≢false}
 use Rattle.osq_value.specs.declared.reading.Reading.{Reading}
 use Rattle.entry_model.specs.Views.{view_of}
-use Rattle.event_store.specs.Contents.{Contents, Shown, cut_above, rows_in}
+use Rattle.event_store.specs.Contents.{Contents, Shown, rows_in}
 use Rattle.event_store.specs.Laws.{Shows}
 use Rattle.sql_meaning.specs.Meaning.{View, meaning, meaning_of, names_of}
 use Rattle.sql_names.specs.Answers.{result_names}
@@ -13,11 +13,11 @@ use Rattle.sql_names.specs.TextFaults.{text_fault}
 use Rattle.sql_names.specs.Texts.{query_in}
 use Rattle.osq_program.specs.declared.status.Status.{Status}
 use Rattle.osq_program.specs.declared.status.Status.TheVariants.{Ok as Done, Usage, FilesFault, ConfigRefused, KeeperFault, MomentTooLarge, SourceFault, SinkFault, TicksSpent, QueryRefused, OutOfMemory, NotBuilt}
-use Rattle.osq_program.specs.Answers.{Causes, IsCaused, IsDoneStatus, IsSpentStatus, IsUsageStatus, IsRefusal, IsRead, no_causes}
+use Rattle.osq_program.specs.Answers.{Causes, IsCaused, no_causes}
 use Rattle.osq_program.specs.Commands.{Query}
 use Rattle.osq_program.specs.FirstPath.{LAST_MOMENT}
 use Rattle.osq_program.specs.Querying.{HasBegun, IsAnswer, IsQuery, IsRefusedAt, Leaves, causes_of, row_lines}
-use Rattle.osq_program.specs.Tables.{HasSpentRounds, HasTables, IsReadWhole, count_rows, entries_before, time_rows}
+use Rattle.osq_program.specs.Tables.{HasSpentRounds, IsReadWhole, entries_before}
 use Rattle.osq_program.specs.Told.{Told}
 use Rattle.osq_program.proofs.Replays.{not_done, not_spent}
 

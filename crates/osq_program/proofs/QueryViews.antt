@@ -1,17 +1,16 @@
 -- The image that follows the table lines of a source, and what a query sees of it.
-use Rattle.std.proofs.Common.{◌≡◌, ℕ, ◌+◌, ◌<◌, ◌≤◌, Bool, true, List, [], ◌∷◌, ◌++◌, length, map, set, refl, sym, ap, ◌∙◌, subst, arith, append-nil, append_assoc, pos, codes}
-use Rattle.std.specs.Prelude.{All, if◌then◌else◌, filter_map, flat_map, unwrap_or, Option, Some, None}
+use Rattle.std.proofs.Common.{◌≡◌, ℕ, ◌≤◌, List, [], ◌∷◌, ◌++◌, length, map, set, refl, sym, ap, ◌∙◌, subst, arith, append-nil, append_assoc, pos, codes}
+use Rattle.std.specs.Prelude.{All, filter_map, flat_map}
 use Rattle.std.proofs.lemmas.List.Elements.{All-nil, All-cons, All-head, All-tail}
 use Rattle.osq_value.specs.declared.reading.Reading.{Reading}
 use Rattle.osq_value.specs.declared.reading.Reading.TheVariants as reading
-use Rattle.osq_value.specs.declared.value.Event.{Event}
 use Rattle.osq_value.specs.declared.value.Value.{Value}
 use Rattle.osq_value.specs.declared.value.Value.TheVariants.{Int}
 use Rattle.osq_value.specs.Catalogue.{table_name, tables, columns_of, width_of}
 use Rattle.entry_model.specs.declared.entry.Entry.{Entry}
 use Rattle.entry_model.specs.declared.entry.Entry.TheVariants.{Opened, TableSet}
 use Rattle.entry_model.specs.Legal.{Legal, LegalNext}
-use Rattle.entry_model.specs.Values.{events_in, last_of, live_events, no_schedule, schedule_in, schedule_of, taken_from, taken_in}
+use Rattle.entry_model.specs.Values.{events_in, last_of, no_schedule, schedule_in, taken_from, taken_in}
 use Rattle.entry_model.specs.Views.{schedule_row, view_of}
 use Rattle.entry_model.proofs.Follows.{Legal-push}
 use Rattle.entry_model.proofs.Lasts.{last_of-append}

@@ -5,10 +5,9 @@ use Rattle.osq_outside.specs.Causes.{FaultHasCause, Rose}
 use Rattle.publisher_core.specs.declared.error.StepError.{StepError}
 use Rattle.std.proofs.lemmas.Bool.{true≢false}
 use Rattle.std.proofs.lemmas.List.{map-append}
-use Rattle.std.proofs.lemmas.List.Elements.{All-nil, All-cons, All-append, All-head, All-tail}
+use Rattle.std.proofs.lemmas.List.Elements.{All-nil, All-cons, All-append, All-tail}
 use Rattle.osq_value.specs.declared.reading.Reading.{Reading}
 use Rattle.osq_value.specs.declared.reading.Reading.TheVariants as reading
-use Rattle.osq_value.specs.declared.reading.Category.{Category}
 use Rattle.osq_value.specs.declared.value.TableId.{TableId}
 use Rattle.osq_value.specs.declared.value.Value.{Value}
 use Rattle.event_store.specs.Contents.{Contents}
@@ -22,7 +21,7 @@ use Rattle.publisher_core.specs.Records.{HaveNoFeed, LinesGive, TableGives, ende
 use Rattle.publisher_core.specs.Standing.{Gives, Reader, Stands, Waits, is_at_end}
 use Rattle.publisher_core.specs.Stepping.{IsDry, SameSource, Steps, STEP_BYTES}
 use Rattle.osq_program.specs.Intake.{STEP_RECORDS}
-use Rattle.osq_program.specs.Tables.{AreRising, HasRun, HasSpentRounds, IsFullRound, IsReadWhole, IsTableReading, ROUNDS, Round, RunsRounds, RunsTo, bytes_of, pieces_of, table_in, tables_in, with_readings}
+use Rattle.osq_program.specs.Tables.{AreRising, HasRun, HasSpentRounds, IsFullRound, IsReadWhole, IsTableReading, ROUNDS, Round, RunsRounds, RunsTo, bytes_of, pieces_of, with_readings}
 use Rattle.osq_program.proofs.Intakes.{not_over, over_ended}
 use Rattle.osq_program.proofs.TableLines.{line_table}
 

@@ -1,13 +1,11 @@
 -- The table of a table line is recorded, and its rows have that table's width.
-use Rattle.std.proofs.Common.{◌≡◌, ℕ, zero, suc, ◌+◌, Bool, true, false, ◌&&◌, List, [], ◌∷◌, ◌++◌, length, map, slice_get, refl, sym, ap, ◌∙◌, subst, arith, Option, Some, None, option_map, option_and_then, codes, length-append}
+use Rattle.std.proofs.Common.{◌≡◌, ℕ, zero, suc, ◌+◌, Bool, true, false, ◌&&◌, List, [], ◌∷◌, length, map, slice_get, refl, sym, ap, ◌∙◌, subst, arith, Option, Some, None, option_map, option_and_then, codes}
 use Rattle.std.specs.Prelude.{All, not, ◌||◌, bytes_eq, if◌then◌else◌}
 use Rattle.std.proofs.lemmas.Bool.{true≢false}
-use Rattle.std.proofs.lemmas.List.Elements.{All-nil, All-cons, All-append}
+use Rattle.std.proofs.lemmas.List.Elements.{All-nil, All-cons}
 use Rattle.serde_json.specs.Data.{Data, null, boolean, number, string, array, object}
 use Rattle.serde_json.specs.Find.{get, as_array}
-use Rattle.osq_value.specs.declared.reading.Reading.{Reading}
 use Rattle.osq_value.specs.declared.reading.Reading.TheVariants as reading
-use Rattle.osq_value.specs.declared.catalogue.TableKind.{TableKind}
 use Rattle.osq_value.specs.declared.value.TableId.{TableId}
 use Rattle.osq_value.specs.declared.value.Value.{Value}
 use Rattle.osq_value.specs.Catalogue.{Column, Table, Heading, tables, table_at, heading_at, heading_of, id_of, columns_of, width_of, is_recorded_id}

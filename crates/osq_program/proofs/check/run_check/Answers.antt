@@ -1,4 +1,4 @@
-use Rattle.std.proofs.Common.{rules, inr, ℕ, refl, sym, append-nil}
+use Rattle.std.proofs.Common.{rules, inr, refl, sym, append-nil}
 use Rattle.osq_outside.specs.Causes.{Rose}
 use Rattle.osq_program.proofs.Listings.{partly_listed}
 use Rattle.osq_program.proofs.check.run_check.Goals as goal

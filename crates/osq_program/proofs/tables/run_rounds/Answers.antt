@@ -1,4 +1,4 @@
-use Rattle.std.proofs.Common.{◌≡◌, ◌≤◌, ℕ, ◌∙◌, refl, sym, subst, arith}
+use Rattle.std.proofs.Common.{◌∙◌, refl, sym, subst, arith}
 use Rattle.std.specs.Prelude.{All}
 use Rattle.osq_program.specs.Tables.{IsTableReading, bytes_of, pieces_of}
 use Rattle.osq_program.proofs.Rounds.{good_step, is_fine, last_run, one_run, passed_on, tables_read, wants_memory, without_fault}

@@ -1,4 +1,4 @@
-use Rattle.std.proofs.Common.{◌≡◌, ℕ, List, map, sym, subst}
+use Rattle.std.proofs.Common.{ℕ, List, map, sym, subst}
 use Rattle.publisher_core.specs.Readings.{reading_of}
 use Rattle.osq_program.specs.Tables.{HasSpentRounds, IsReadWhole, pieces_of}
 use Rattle.osq_program.proofs.Intakes.{nothing_dropped}
