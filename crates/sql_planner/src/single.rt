@@ -12,7 +12,8 @@ ghost use Rattle.virtual_tables.specs.Constraints.{affinity_at, is_met, meets};
 
 use crate::comparison::{column_in, compares_by};
 use osq_value::{Affinity, Copied, NoMemory, RowList, TableId, Tables, Value, column_of};
-use sql_meaning::{rows_behind_from, singles};
+use sql_groups::rows_behind;
+use sql_meaning::singles;
 use sql_names::query::{Query, QuerySource};
 use sql_names::tree::{Expr, ExprStep};
 use sql_parser::tree::Operator;
@@ -53,7 +54,7 @@ pub(crate) fn table_rows<V: Tables>(
     let tests = pushed(alloc, source.table, query.filter.parts.as_slice())?;
     let rows = scan(alloc, view, source.table, &tests)?;
     let joined = singles(alloc, rows.as_slice())?;
-    rows_behind_from(alloc, query, joined.as_slice())
+    rows_behind(alloc, query, joined.as_slice())
 }
 
 /// Constraints that each row meets of which the condition holds.

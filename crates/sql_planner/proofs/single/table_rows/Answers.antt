@@ -12,9 +12,9 @@ use Rattle.sql_planner.proofs.single.table_rows.Goals as goal
 pub returns : goal.returns
 returns g c =
     let query = query_of c.args.query.now in
-    IfOk-weaker c.rows_behind_from.result _ _
+    IfOk-weaker c.rows_behind.result _ _
     (λ rows is. is
     ∙ ap (behind_from query) (ap (map values_in) c.as_slice-3.ensures ∙ c.in_ok-joined.ensures ∙ ap (map (λ row. row.now)) c.as_slice-2.ensures ∙ c.in_ok-rows.ensures)
     ∙ behind-tested query c.args.source.now.table.0 c.in_ok-tests.tests (g.V.Tables.rows_of c.args.view.now c.args.source.now.table.0)
     (λ row h. c.in_ok-tests.ensures row (subst (λ (parts : List Expr). holds (alone row) (map expr_of parts) ≡ true) (sym c.as_slice.ensures) h)))
-    c.rows_behind_from.ensures
+    c.rows_behind.ensures

@@ -1,0 +1,8 @@
+mod Adding
+mod Backward
+mod Climbing
+mod Comparing
+mod Cutting
+mod Passing
+mod Placing
+mod Taken

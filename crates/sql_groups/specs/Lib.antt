@@ -1,0 +1,5 @@
+pub mod Columns
+pub mod Different
+pub mod Kept
+pub mod Leading
+pub mod Wanted

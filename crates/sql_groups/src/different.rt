@@ -1,0 +1,73 @@
+//! The first of rows with equal values of a column.
+ghost use Rattle.std.specs.Prelude.{◌≡◌, ◌++◌, ◌∷◌, [], IfOk, IfSome, List, OnOk, map, true};
+ghost use Rattle.sql_names.specs.View.{expr_of};
+ghost use Rattle.sql_meaning.specs.declared.joined.Joined.{Joined as JoinedOf};
+ghost use Rattle.sql_groups.specs.Different.{Adds, Stands, different};
+
+use crate::kept::is_kept;
+use indexmap::IndexSet;
+use osq_value::{NoMemory, Sequence, Value};
+use sql_meaning::{Joined, value_in};
+use sql_names::query::Condition;
+use std::alloc::Global;
+
+/// Rows whose values of a column differ, and these values.
+#[derive(Drop)]
+struct FoundRows<'a> {
+    values: IndexSet<&'a Value>,
+    rows: Sequence<Joined<'a>>,
+}
+
+/// The rows for which the condition holds and whose value at a place no earlier one of them has, where all of them have that place. Null is
+/// equal to Null, and no number to a text. Each value is hashed once, where it stands.
+pub(crate) fn different<'a>(
+    alloc: Global,
+    place: u32,
+    condition: &Condition,
+    rows: &[Joined<'a>],
+) -> Result<Option<Sequence<Joined<'a>>>, NoMemory>
+    ensures { IfOk result (λ found. IfSome found (λ made. made ≡ different place (map expr_of condition.now.parts) rows.now)) }
+{
+    let mut found = FoundRows {
+        values: IndexSet::new(alloc),
+        rows: Sequence::new(alloc),
+    };
+    for row in rows {
+        if !look_at(alloc, place, condition, &mut found, *row)? {
+            return Ok(None);
+        }
+    }
+    Ok(Some(found.rows))
+}
+
+/// Adds a row for which the condition holds, where no earlier one has its value. The answer is false where it doesn't have the place.
+fn look_at<'a>(
+    alloc: Global,
+    place: u32,
+    condition: &Condition,
+    found: &mut FoundRows<'a>,
+    row: Joined<'a>,
+) -> Result<bool, NoMemory>
+    ensures { IfOk result (λ has_place. has_place ≡ true → (rows : List JoinedOf) → Stands place (map expr_of condition.now.parts) rows found.old → Stands place (map expr_of condition.now.parts) (rows ++ row.entry ∷ []) found.new) }
+{
+    if !is_kept(alloc, condition, row)? {
+        return Ok(true);
+    }
+    match value_in(row, place) {
+        None => Ok(false),
+        Some(value) => {
+            add(found, row, value)?;
+            Ok(true)
+        }
+    }
+}
+
+/// Adds a row, where no earlier one has its value.
+fn add<'a>(found: &mut FoundRows<'a>, row: Joined<'a>, value: &'a Value) -> Result<(), NoMemory>
+    ensures { OnOk result (Adds found.old row.entry value.entry.now found.new) }
+{
+    if found.values.insert(value)? {
+        found.rows.push(row)?;
+    }
+    Ok(())
+}

@@ -1,0 +1,16 @@
+//! The rows for which a condition holds.
+ghost use Rattle.std.specs.Prelude.{◌≡◌, IfOk, map};
+ghost use Rattle.sql_names.specs.View.{expr_of};
+ghost use Rattle.sql_groups.specs.Kept.{is_kept};
+
+use osq_value::NoMemory;
+use sql_meaning::{Joined, Over, holds};
+use sql_names::query::Condition;
+use std::alloc::Global;
+
+/// Whether the condition holds of a row.
+pub(crate) fn is_kept(alloc: Global, condition: &Condition, row: Joined) -> Result<bool, NoMemory>
+    ensures { IfOk result (λ truth. truth ≡ is_kept (map expr_of condition.now.parts) row.entry) }
+{
+    holds(alloc, Over::Lent { row }, condition.parts.as_slice())
+}

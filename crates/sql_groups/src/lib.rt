@@ -1,0 +1,13 @@
+//! The steps of a query behind FROM, over rows that are lent, where less than all of them is needed.
+#![tactic(auto)]
+
+mod columns;
+mod different;
+mod kept;
+mod leading;
+mod order;
+mod place;
+mod steps;
+mod wanted;
+
+pub use steps::rows_behind;

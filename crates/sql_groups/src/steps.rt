@@ -1,0 +1,94 @@
+//! The rows of a query, of the rows that its FROM gives.
+ghost use Rattle.std.specs.Prelude.{◌≡◌, ◌∷◌, [], IfOk, List, false, map, true};
+ghost use Rattle.osq_value.specs.declared.value.Value.{Value};
+ghost use Rattle.sql_names.specs.Resolved.{query_of, result_of};
+ghost use Rattle.sql_meaning.specs.Expressions.{alone, value_at, value_of};
+ghost use Rattle.sql_meaning.specs.Lent.{values_in};
+ghost use Rattle.sql_meaning.specs.Steps.{behind_from};
+ghost use Rattle.sql_groups.specs.Wanted.{IsCut};
+
+use crate::columns::{only_column, sort_columns};
+use crate::different::different;
+use crate::leading::leading;
+use crate::wanted::wanted;
+use osq_value::{NoMemory, RowList};
+use sql_meaning::{Joined, rows_behind_from};
+use sql_names::query::Query;
+use std::alloc::Global;
+
+/// The rows of a query whose FROM gives these rows: those of `rows_behind_from`. Where ORDER BY by columns goes with a small LIMIT, only
+/// the rows that it keeps are evaluated, and where DISTINCT looks at one column, only the first row for each of its values.
+pub fn rows_behind(alloc: Global, query: &Query, rows: &[Joined]) -> Result<RowList, NoMemory>
+    ensures { IfOk result (λ made. made ≡ behind_from (query_of query.now) (map values_in rows.now)) }
+{
+    if query.is_grouped {
+        rows_behind_from(alloc, query, rows)
+    } else if query.is_distinct {
+        different_rows(alloc, query, rows)
+    } else {
+        cut_rows(alloc, query, rows)
+    }
+}
+
+/// The rows of a query with DISTINCT and without groups.
+fn different_rows(alloc: Global, query: &Query, rows: &[Joined]) -> Result<RowList, NoMemory>
+    requires ungrouped { query.now.is_grouped ≡ false }
+    requires distinct { query.now.is_distinct ≡ true }
+    ensures { IfOk result (λ made. made ≡ behind_from (query_of query.now) (map values_in rows.now)) }
+{
+    match only_column(query.items.as_slice()) {
+        None => rows_behind_from(alloc, query, rows),
+        Some(place) => rows_by_column(alloc, query, rows, place),
+    }
+}
+
+/// The same, where the only column of the result is the one at a place of the rows.
+fn rows_by_column(
+    alloc: Global,
+    query: &Query,
+    rows: &[Joined],
+    place: u32,
+) -> Result<RowList, NoMemory>
+    requires ungrouped { query.now.is_grouped ≡ false }
+    requires distinct { query.now.is_distinct ≡ true }
+    requires only { (row : List Value) → map (λ item. value_of (alone row) item.expr) (map result_of query.now.items) ≡ value_at row place ∷ [] }
+    ensures { IfOk result (λ made. made ≡ behind_from (query_of query.now) (map values_in rows.now)) }
+{
+    match different(alloc, place, &query.filter, rows)? {
+        None => rows_behind_from(alloc, query, rows),
+        Some(kept) => rows_behind_from(alloc, query, kept.as_slice()),
+    }
+}
+
+/// The rows of a query without DISTINCT and without groups.
+fn cut_rows(alloc: Global, query: &Query, rows: &[Joined]) -> Result<RowList, NoMemory>
+    requires ungrouped { query.now.is_grouped ≡ false }
+    requires all { query.now.is_distinct ≡ false }
+    ensures { IfOk result (λ made. made ≡ behind_from (query_of query.now) (map values_in rows.now)) }
+{
+    match wanted(query.limit, query.skip) {
+        None => rows_behind_from(alloc, query, rows),
+        Some(count) => leading_rows(alloc, query, rows, count),
+    }
+}
+
+/// The same, where LIMIT and OFFSET look at the first `count` rows alone.
+fn leading_rows(
+    alloc: Global,
+    query: &Query,
+    rows: &[Joined],
+    count: usize,
+) -> Result<RowList, NoMemory>
+    requires ungrouped { query.now.is_grouped ≡ false }
+    requires all { query.now.is_distinct ≡ false }
+    requires cut { IsCut query.now.limit query.now.skip count }
+    ensures { IfOk result (λ made. made ≡ behind_from (query_of query.now) (map values_in rows.now)) }
+{
+    match sort_columns(alloc, query.terms.as_slice())? {
+        None => rows_behind_from(alloc, query, rows),
+        Some(columns) => {
+            let first = leading(alloc, columns.as_slice(), &query.filter, rows, count)?;
+            rows_behind_from(alloc, query, first.as_slice())
+        }
+    }
+}
