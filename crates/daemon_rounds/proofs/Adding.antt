@@ -51,7 +51,7 @@ pub brings_one : (s t : Kept) (e : Entry) → Adds s e t → Brings s (e ∷ [])
 brings_one s t e a =
     record { stands = a.stands; counts = a.moves.counts; schedule = a.moves.schedule; ticked = a.moves.ticked; tail = a.moves.tail }
 
-counts-append : (c : Counts) (xs ys : List Entry) → counts_after c (xs ++ ys) ≡ counts_after (counts_after c xs) ys
+pub counts-append : (c : Counts) (xs ys : List Entry) → counts_after c (xs ++ ys) ≡ counts_after (counts_after c xs) ys
 counts-append c [] ys = refl
 counts-append c (x ∷ xs) ys = counts-append (counts_next c x) xs ys
 

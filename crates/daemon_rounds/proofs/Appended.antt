@@ -1,6 +1,6 @@
 -- The readings of a source, some of which are appended.
-use Rattle.std.proofs.Common.{◌≡◌, ℕ, suc, ◌+◌, arith, false, List, [], ◌∷◌, ◌++◌, refl, sym, ap, ◌∙◌, subst, append_assoc}
-use Rattle.std.specs.Prelude.{All, Contains, bytes_eq, map}
+use Rattle.std.proofs.Common.{◌≡◌, ℕ, ◌+◌, ◌<◌, false, List, [], ◌∷◌, ◌++◌, refl, sym, ap, ◌∙◌, subst, append_assoc}
+use Rattle.std.specs.Prelude.{All, ◌^◌, bytes_eq, map}
 use Rattle.std.proofs.lemmas.List.{append-nil, map-append}
 use Rattle.std.proofs.lemmas.List.Elements.{All-tail}
 use Rattle.osq_value.specs.declared.reading.Reading.{Reading}
@@ -9,9 +9,9 @@ use Rattle.entry_model.specs.declared.entry.Entry.{Entry}
 use Rattle.entry_model.specs.declared.restored.Taken.{Taken}
 use Rattle.entry_model.specs.Next.{offset_at, with_offset}
 use Rattle.session_state.specs.Kept.{Counts, Kept, counts_next}
-use Rattle.session_state.specs.Readings.{IsReading, entry_of, taken_of}
+use Rattle.session_state.specs.Readings.{IsReading, entry_of, event_count, taken_of}
 use Rattle.daemon_rounds.specs.Adding.{Brings}
-use Rattle.daemon_rounds.specs.Appending.{AreRising, end_behind, entries_of}
+use Rattle.daemon_rounds.specs.Appending.{AreRising, Exceeds, end_behind, entries_of}
 use Rattle.daemon_rounds.proofs.Adding.{brings_none, brings_then}
 use Rattle.daemon_rounds.proofs.Offsets.{offset_here, offset_other}
 
@@ -84,14 +84,13 @@ all_appended s source all rest t none so =
       others = so.others;
     }
 
-within : (done rest : List Reading) (reading : Reading) → Contains (done ++ reading ∷ rest) reading
-within [] rest reading = (0, (omega arith), refl)
-within (first ∷ done) rest reading =
-    let h = within done rest reading in
-    let low = h.1 in
-    (suc h.0, (omega (arith, low)), h.2)
-
--- the reading that comes next is one of all
-pub next_within : (s : Kept) (source : List ℕ) (all rest : List Reading) (reading : Reading) (t : Kept) → AreAppended s source all (reading ∷ rest) t → Contains all reading
-next_within s source all rest reading t so =
-    subst (λ (rs : List Reading). Contains rs reading) (sym so.whole) (within so.done rest reading)
+-- the next reading has too many events, and those before it are appended
+pub exceeds : (s : Kept) (source : List ℕ) (all readings rest : List Reading) (reading : Reading) (t u : Kept) → all ≡ readings → AreAppended s source all (reading ∷ rest) t → u ≡ t → 2 ^ 62 < u.image.last + event_count reading → Exceeds source readings s u
+exceeds s source all readings rest reading t u same so still beyond = record {
+  done = so.done;
+  next = reading;
+  rest = rest;
+  are = sym same ∙ so.whole;
+  brings = subst (Brings s (entries_of source s.counts.moment so.done)) (sym still) so.brings;
+  beyond = beyond;
+}

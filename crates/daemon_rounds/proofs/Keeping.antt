@@ -77,7 +77,10 @@ expiries_tellable s = expiry_tellable s 0 _ (expiry_tellable s 1 _ (expiry_tella
 pub settles : (s t u : Kept) → AnswersDue s t → Brings t (expiries t) u → first_due u ≡ first_due t → ((table : ℕ) → is_evented_table table ≡ true → owed_at u table ≡ None) → Settles s u
 settles s t u answers expired same owed = record {
   batches = answers.batches;
+  between = t;
+  answers = answers.brings;
   expired = expiries t;
+  are = refl;
   brings = brings_then s t u (committed_all answers.batches) (expiries t) answers.brings expired;
   own = answers.own;
   tellable = own_tellable s.counts.position answers.batches (expiries t) answers.own (expiries_tellable t);
@@ -94,7 +97,7 @@ on_list tells kept now s g same = record {
   list = λ told. record { before = (g.list told).before; is = same told ∙ (g.list told).is; same = (g.list told).same };
 }
 
-tellable-append : (xs ys : List Entry) → AreTellable xs → AreTellable ys → AreTellable (xs ++ ys)
+pub tellable-append : (xs ys : List Entry) → AreTellable xs → AreTellable ys → AreTellable (xs ++ ys)
 tellable-append [] ys first rest = rest
 tellable-append (x ∷ xs) ys first rest = (first.0, tellable-append xs ys first.1 rest)
 
@@ -115,7 +118,7 @@ reading_tellable : (source : List ℕ) (moment : ℕ) (reading : Reading) (rest 
 reading_tellable source moment (Events taken events skipped) rest tellable = (tt, tellable)
 reading_tellable source moment (Table taken table rows) rest tellable = (tt, tellable)
 
-readings_tellable : (source : List ℕ) (moment : ℕ) (readings : List Reading) → AreTellable (entries_of source moment readings)
+pub readings_tellable : (source : List ℕ) (moment : ℕ) (readings : List Reading) → AreTellable (entries_of source moment readings)
 readings_tellable source moment [] = tt
 readings_tellable source moment (reading ∷ readings) =
     reading_tellable source moment reading (entries_of source moment readings) (readings_tellable source moment readings)

@@ -1,7 +1,16 @@
 pub mod Adding
 pub mod Answered
 pub mod Appended
+pub mod Bounded
+pub mod Configured
+pub mod Fronts
 pub mod Keeping
+pub mod Laters
 pub mod Offsets
+pub mod Opened
+pub mod Refused
+pub mod Rounded
 pub mod Settled
+pub mod Started
 pub mod Told
+pub mod Turned

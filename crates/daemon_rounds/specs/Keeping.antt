@@ -6,6 +6,7 @@ use Rattle.entry_model.specs.declared.restored.Restored.{Restored}
 use Rattle.entry_model.specs.Summary.{summary}
 use Rattle.entry_model.specs.Views.{is_evented_table}
 use Rattle.session_state.specs.Kept.{Kept}
+use Rattle.session_state.specs.Expiries.{expiries}
 use Rattle.session_state.specs.Stands.{Stands}
 use Rattle.session_state.specs.Ticks.{first_due, owed_at}
 use Rattle.daemon_rounds.specs.Adding.{Brings}
@@ -30,7 +31,10 @@ pub record GoesOn (tells : Type 0) (kept : List Entry) (s : Kept) : Type 0 where
 -- a batch for each due query, and then an expiry for each table that owes one; behind them no query is due and no floor is owed
 pub record Settles (old new : Kept) : Type 0 where
   pub batches : List Batch
+  pub between : Kept
+  pub answers : Brings old (committed_all batches) between
   pub expired : List Entry
+  pub are : expired ≡ expiries between
   pub brings : Brings old (committed_all batches ++ expired) new
   pub own : AreOwn old.counts.position batches
   pub tellable : AreTellable (committed_all batches ++ expired)

@@ -1,6 +1,14 @@
 pub mod Adding
 pub mod Answering
 pub mod Appending
+pub mod Configuring
 pub mod Keeping
+pub mod Moments
+pub mod Opening
 pub mod Refusals
+pub mod Rounding
+pub mod Session
+pub mod Starting
 pub mod Telling
+pub mod Ticking
+pub mod Turns

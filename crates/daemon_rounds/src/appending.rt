@@ -1,13 +1,12 @@
 //! The readings of a source are appended.
 
-ghost use Rattle.std.specs.Prelude.{◌<◌, ◌+◌, ◌^◌, Err, Contains, ◌≡◌, ◌∷◌, [], ℕ, All, List, false, OnOk};
+ghost use Rattle.std.specs.Prelude.{◌<◌, ◌+◌, ◌^◌, Err, ◌≡◌, ◌∷◌, [], ℕ, All, List, false, OnOk, OnErr};
 ghost use Rattle.std.specs.Str.{bytes_eq};
 ghost use Rattle.entry_model.specs.Next.{offset_at};
 ghost use Rattle.session_state.specs.Readings.{IsReading, event_count};
-ghost use Rattle.osq_value.specs.declared.reading.Reading.{Reading};
 ghost use Rattle.daemon_rounds.specs.declared.error.RoundError.{RoundError};
 ghost use Rattle.daemon_rounds.specs.Adding.{Brings};
-ghost use Rattle.daemon_rounds.specs.Appending.{AreRising, end_behind, entries_of};
+ghost use Rattle.daemon_rounds.specs.Appending.{AreRising, Exceeds, end_behind, entries_of};
 
 use crate::error::RoundError;
 use osq_value::{Reading, ReadingList, Str};
@@ -26,6 +25,7 @@ fn append_one(
     requires rising { AreRising (offset_at state.old.counts.taken source.now) (reading ∷ []) }
     ensures appended { OnOk result (Brings state.old (entries_of source.now state.old.counts.moment (reading ∷ [])) state.new) }
     ensures spent { result ≡ Err RoundError.NumbersSpent → 2 ^ 62 < state.new.image.last + event_count reading }
+    ensures err { OnErr result (state.new ≡ state.old) }
 {
     match state.append(alloc, source, reading) {
         Ok(_numbers) => Ok(()),
@@ -46,7 +46,7 @@ pub fn append_all(
     requires rising { AreRising (offset_at state.old.counts.taken source.now) readings }
     ensures appended { OnOk result (Brings state.old (entries_of source.now state.old.counts.moment readings) state.new) }
     ensures offset { OnOk result (offset_at state.new.counts.taken source.now ≡ end_behind (offset_at state.old.counts.taken source.now) readings) }
-    ensures spent { result ≡ Err RoundError.NumbersSpent → (reading : Reading) × Contains readings reading × (2 ^ 62 < state.new.image.last + event_count reading) }
+    ensures spent { result ≡ Err RoundError.NumbersSpent → Exceeds source.now readings state.old state.new }
     ensures others { (other : List ℕ) → bytes_eq source.now other ≡ false → OnOk result (offset_at state.new.counts.taken other ≡ offset_at state.old.counts.taken other) }
 {
     let mut rest = VecDeque::from_vec(readings.into_vec());

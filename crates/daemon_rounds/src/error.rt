@@ -19,3 +19,47 @@ pub enum FinishError {
     SinkFault,
     NoMemory,
 }
+
+/// Why the turn of a source isn't done.
+#[derive(Clone, Copy, PartialEq, Eq, Debug)]
+pub enum TurnError {
+    /// The source failed.
+    SourceFault,
+    /// The next event's number would pass 2^62.
+    NumbersSpent,
+    NoMemory,
+}
+
+/// Why a round of the sources isn't done.
+#[derive(Clone, Copy, PartialEq, Eq, Debug)]
+pub enum TakeError {
+    /// The source at this place failed.
+    SourceFault { place: usize },
+    /// The next event's number would pass 2^62.
+    NumbersSpent,
+    NoMemory,
+}
+
+/// Why the sources of a session aren't started.
+#[derive(Clone, Copy, PartialEq, Eq, Debug)]
+pub enum StartError {
+    /// The source at this place failed.
+    SourceFault { place: usize },
+    /// The source at this place ended after `found` bytes, before the `kept` bytes that earlier sessions took of it.
+    SourceShrank { place: usize, kept: u64, found: u64 },
+    NoMemory,
+}
+
+/// Why a session isn't open.
+#[derive(Clone, Copy, PartialEq, Eq, Debug)]
+pub enum OpenError {
+    /// The clock gave this moment, which is beyond the year 9999.
+    MomentTooLarge { moment: u64 },
+    /// The source at this place failed.
+    SourceFault { place: usize },
+    /// The source at this place ended after `found` bytes, before the `kept` bytes that earlier sessions took of it.
+    SourceShrank { place: usize, kept: u64, found: u64 },
+    /// The next event's number would pass 2^62.
+    NumbersSpent,
+    NoMemory,
+}

@@ -1,24 +1,43 @@
-//! The parts of a session: a tick begins, readings are appended, due queries are answered, what is too old expires, and what was added is
-//! sealed and told.
+//! The parts of a session: it opens, a tick begins, the sources are read and their readings appended, due queries are answered, what is too old
+//! expires, and what was added is sealed and told.
 #![tactic(auto)]
 
 mod answering;
 mod appending;
+mod configuration;
+mod configuring;
 pub mod error;
+mod filling;
 mod finishing;
+mod moments;
+mod opening;
+mod rounding;
 mod sealing;
+mod session;
 mod settling;
+pub mod setup;
+mod starting;
 mod telling;
 mod ticking;
+mod turning;
 
 pub use answering::answer_due;
 pub use appending::append_all;
-pub use error::{FinishError, RoundError};
+pub use configuration::read_configuration;
+pub use configuring::configure;
+pub use error::{FinishError, OpenError, RoundError, StartError, TakeError, TurnError};
+pub use filling::fill_tick;
 pub use finishing::{answer_and_settle, finish_tick};
+pub use moments::{MomentTooLarge, read_moment};
+pub use opening::begin_session;
+pub use rounding::take_round;
 pub use sealing::{SealError, seal};
+pub use session::{Session, open_session};
 pub use settling::settle;
+pub use starting::{open_feeds, start_feeds, start_sources};
 pub use telling::lines_of_entries;
 pub use ticking::begin_tick;
+pub use turning::Which;
 
 #[cfg(test)]
 mod tests;

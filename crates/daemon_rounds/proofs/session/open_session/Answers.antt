@@ -1,0 +1,32 @@
+use Rattle.std.proofs.Common.{◌≡◌, List, Err, sym, ap, ◌∙◌, subst}
+use Rattle.source_feeds.specs.Feeding.{Feeding}
+use Rattle.entry_model.specs.declared.restored.Taken.{Taken}
+use Rattle.daemon_rounds.specs.Opening.{OpensTooMuch}
+use Rattle.daemon_rounds.specs.Starting.{IsStarted}
+use Rattle.daemon_rounds.specs.declared.error.OpenError.TheVariants.{NumbersSpent, SourceFault}
+use Rattle.daemon_rounds.specs.declared.setup.SourceName.{SourceName}
+use Rattle.daemon_rounds.proofs.Laters.{fails_since, start_later}
+use Rattle.daemon_rounds.proofs.Refused.{untaken_fault, untaken_spent}
+use Rattle.daemon_rounds.proofs.session.open_session.Goals as goal
+
+pub returns-in-Err-begin_session-clause-fault : goal.returns-in-Err-begin_session-clause-fault
+returns-in-Err-begin_session-clause-fault g c place is =
+    let same : c.untaken.result ≡ SourceFault place = (cc) in
+    let error = untaken_fault c.in-Err-begin_session.error place (sym c.untaken.ensures ∙ same) in
+    let starts = c.in-Ok-start_sources.ensures.started.starts in
+    fails_since g.S.Source.faults place c.args.sources.now c.start_sources.new.sources c.begin_session.new.sources
+    (start_later g.S.Source.tells g.S.Source.left g.S.Source.faults c.in-Ok-start_sources.ensures.started.opened c.in-Ok-start_sources.feeds.items c.args.sources.now c.start_sources.new.sources starts)
+    (c.begin_session.ensures.fault place (c.in-Err-begin_session.is ∙ ap Err error))
+
+pub returns-in-Err-begin_session-clause-spent : goal.returns-in-Err-begin_session-clause-spent
+returns-in-Err-begin_session-clause-spent g c is =
+    let same : c.untaken.result ≡ NumbersSpent = (cc) in
+    let error = untaken_spent c.in-Err-begin_session.error (sym c.untaken.ensures ∙ same) in
+    record {
+      started = c.in-Ok-start_sources.feeds.items;
+      nexts = c.begin_session.new.feeds;
+      between = c.start_sources.new.sources;
+      starts = subst (λ (taken : List Taken). IsStarted g.S.Source.tells g.S.Source.left g.S.Source.faults taken c.args.configured.now.config.categories c.args.setup.now.sources c.in-Ok-start_sources.feeds.items c.args.sources.now c.start_sources.new.sources) c.as_slice-2.ensures
+          (subst (λ (names : List SourceName). IsStarted g.S.Source.tells g.S.Source.left g.S.Source.faults c.as_slice-2.result.now c.args.configured.now.config.categories names c.in-Ok-start_sources.feeds.items c.args.sources.now c.start_sources.new.sources) c.as_slice.ensures c.in-Ok-start_sources.ensures.started);
+      too_much = subst (λ (feeds : List Feeding). OpensTooMuch g.S.Source.tells g.S.Source.left g.S.Source.faults c.args.setup.now.records c.args.restored feeds c.begin_session.new.feeds c.start_sources.new.sources c.begin_session.new.sources) c.as_mut_slice.ensures.value (c.begin_session.ensures.spent (c.in-Err-begin_session.is ∙ ap Err error));
+    }

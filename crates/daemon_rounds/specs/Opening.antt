@@ -1,0 +1,44 @@
+-- A session opens.
+use Rattle.std.specs.Prelude.{◌≡◌, ℕ, ◌+◌, false, List, [], ◌∷◌, ◌++◌}
+use Rattle.osq_config.specs.declared.config.Config.{Config}
+use Rattle.pack_rules.specs.declared.host.Host.{Host}
+use Rattle.pack_rules.specs.declared.schedule.Schedule.{Schedule}
+use Rattle.source_feeds.specs.Feeding.{Feeding}
+use Rattle.entry_model.specs.declared.entry.Entry.{Entry}
+use Rattle.entry_model.specs.declared.entry.Entry.TheVariants.{Opened, Configured}
+use Rattle.entry_model.specs.declared.restored.Restored.{Restored}
+use Rattle.session_state.specs.Kept.{Kept}
+use Rattle.session_state.specs.Stands.{Begins, Stands}
+use Rattle.daemon_rounds.specs.Telling.{AreTellable}
+use Rattle.daemon_rounds.specs.Turns.{Turn}
+use Rattle.daemon_rounds.specs.Rounding.{Overflows, Rounds, round_entries}
+use Rattle.daemon_rounds.specs.Configuring.{Configures}
+use Rattle.daemon_rounds.specs.declared.turning.Which.TheVariants as which
+
+-- the entries of an opening: Opened, the entries of what each source of tables gave in one step, source by source, and one Configured
+abbrev pub opening_entries : {S : Type 0} → Restored → List (Turn S) → List (List ℕ) → Schedule → ℕ → List Entry
+opening_entries restored turns documents schedule moment =
+    Opened (restored.sessions + 1) ∷ round_entries restored.moment turns ++ Configured documents schedule moment ∷ []
+
+-- the state stands for these entries alone, none of which is sealed, and no tick has begun
+pub record IsOpened (restored : Restored) (entries : List Entry) (state : Kept) : Type 0 where
+  pub stands : Stands restored entries state
+  pub tail : state.tail ≡ entries
+  pub tellable : AreTellable entries
+  pub unticked : state.ticked ≡ false
+
+-- A session opens over these values: it begins, each source of tables takes one step, and then the session is configured. Its entries are those.
+pub record Opens {S : Type 0} (tells : Type 0) (left : S → List ℕ) (faults : S → ℕ) (most : ℕ) (restored : Restored) (config : Config) (documents : List (List ℕ)) (host : Host) (moment : ℕ) (feeds nexts : List Feeding) (sources rests : List S) (state : Kept) : Type 0 where
+  pub begun : Kept
+  pub filled : Kept
+  pub begins : Begins restored begun
+  pub tables : Rounds tells left faults which.Tables most feeds nexts sources rests begun filled
+  pub configures : Configures config documents host moment filled state
+  pub opened : IsOpened restored (opening_entries restored tables.turns documents configures.schedule moment) state
+
+-- one step of a source of tables gave too much
+pub record OpensTooMuch {S : Type 0} (tells : Type 0) (left : S → List ℕ) (faults : S → ℕ) (most : ℕ) (restored : Restored) (feeds nexts : List Feeding) (sources rests : List S) : Type 0 where
+  pub begun : Kept
+  pub last : Kept
+  pub begins : Begins restored begun
+  pub overflows : Overflows tells left faults which.Tables most feeds nexts sources rests begun last
