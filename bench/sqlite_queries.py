@@ -94,7 +94,9 @@ class Query:
             return f"{self.value(depth)} {self.rng.choice(COMPARISONS)} {self.value(depth)}"
         if pick == 2:
             items = ", ".join(literal(self.rng) for _ in range(self.rng.randrange(4)))
-            return f"{self.value(0)} {self.rng.choice(['IN', 'NOT IN'])} ({items})"
+            test = f"{self.value(0)} {self.rng.choice(['IN', 'NOT IN'])} ({items})"
+            # (of a test against no items SQLite makes TRUE or FALSE, behind which IS is its test of truth)
+            return test if items else f"({test}) + 0"
         if pick == 3:
             form = self.rng.choice(["LIKE", "NOT LIKE"])
             pattern = self.rng.choice(["'%o%'", "'r___'", "'%'", "''", "'1%'"])
