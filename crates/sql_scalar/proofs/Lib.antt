@@ -1,6 +1,7 @@
 mod Beginnings
 mod CharCounts
 mod CharSteps
+mod Fitting
 mod Past
 mod Replacing
 pub mod Retries

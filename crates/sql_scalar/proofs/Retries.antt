@@ -58,7 +58,7 @@ behind_first sign test char rest e =
     or-cases (fits_one sign char && test rest) (somewhere (one_and sign test) rest) e
     (λ h. here test rest (and-right (fits_one sign char) (test rest) h)) (λ h. behind_one sign test rest h)
 
-somewhere-alike : (f g : List ℕ → Bool) → ((text : List ℕ) → f text ≡ g text) → (text : List ℕ) → somewhere f text ≡ somewhere g text
+pub somewhere-alike : (f g : List ℕ → Bool) → ((text : List ℕ) → f text ≡ g text) → (text : List ℕ) → somewhere f text ≡ somewhere g text
 somewhere-alike f g same [] = same []
 somewhere-alike f g same (char ∷ rest) = ap (λ b. b || somewhere f rest) (same (char ∷ rest))
     ∙ ap (λ b. g (char ∷ rest) || b) (somewhere-alike f g same rest)
@@ -68,28 +68,34 @@ absorbed true b h = refl
 absorbed false true h = sym (h refl)
 absorbed false false h = refl
 
-plain_sign : (sign : ℕ) → sign ≢ 37 → (sign == 37) ≡ false
+pub plain_sign : (sign : ℕ) → sign ≢ 37 → (sign == 37) ≡ false
 plain_sign sign plain = by (sign == 37) refl where
   by : (b : Bool) → (sign == 37) ≡ b → (sign == 37) ≡ false
   by true e = absurd (plain (eqb-true sign 37 e))
   by false e = e
 
-as_one : (sign : ℕ) (others : List ℕ) → (sign == 37) ≡ false → (text : List ℕ)
+pub as_one : (sign : ℕ) (others : List ℕ) → (sign == 37) ≡ false → (text : List ℕ)
     → is_like (sign ∷ others) text ≡ one_and sign (is_like others) text
 as_one sign others e text = rw e refl
 
 -- a further `%`: what the earlier one leaves open is open here too
-pub kept_at_any : (whole : Bool) (signs others rest from : List ℕ) (test : List ℕ → Bool) → signs ≡ 37 ∷ others
+pub open_at_any : (whole : Bool) (signs others rest from : List ℕ) (test : List ℕ → Bool) → signs ≡ 37 ∷ others
     → whole ≡ (is_like signs rest || later test from) → (somewhere test from ≡ true → somewhere (is_like signs) rest ≡ true)
-    → whole ≡ (is_like others rest || later (is_like others) rest)
-kept_at_any whole signs others rest from test is kept carried =
+    → whole ≡ somewhere (is_like others) rest
+open_at_any whole signs others rest from test is kept carried =
     let kept' : whole ≡ (somewhere (is_like others) rest || later test from) =
     subst (λ s. whole ≡ (is_like s rest || later test from)) is kept in
     let carried' : somewhere test from ≡ true → somewhere (somewhere (is_like others)) rest ≡ true =
     subst (λ s. somewhere test from ≡ true → somewhere (is_like s) rest ≡ true) is carried in
     kept'
     ∙ absorbed (somewhere (is_like others) rest) (later test from) (λ h. twice (is_like others) rest (carried' (from_later test from h)))
-    ∙ here_or_later (is_like others) rest
+
+-- behind a `%` that ends the pattern anything stands
+pub anything : (others text : List ℕ) → others ≡ [] → somewhere (is_like others) text ≡ true
+anything others text none = ap (λ s. somewhere (is_like s) text) none ∙ by text where
+  by : (rest : List ℕ) → somewhere (is_like []) rest ≡ true
+  by [] = refl
+  by (char ∷ rest) = by rest
 
 -- one sign and one character
 pub kept_at_one : (sign char : ℕ) (signs others rest behind : List ℕ) → signs ≡ sign ∷ others → rest ≡ char ∷ behind

@@ -3,7 +3,7 @@ use Rattle.std.specs.Prelude.{◌≡◌, ◌≢◌, ◌<◌, ◌≤◌, ℕ, tru
 use Rattle.std.specs.Str.{chars}
 use Rattle.sql_scalar.specs.declared.like.Turn.{Turn}
 use Rattle.sql_scalar.specs.declared.like.Turn.TheVariants.{Ends, Any, One, Fails}
-use Rattle.sql_scalar.specs.Likeness.{fits_one, is_like}
+use Rattle.sql_scalar.specs.Likeness.{fits_one, is_like, somewhere}
 
 -- the pattern is `%` and the rest
 pub record IsAny (pattern rest : List ℕ) : Type 0 where
@@ -26,3 +26,9 @@ IsTurn pattern text Ends = (chars pattern ≡ []) × (chars text ≡ [])
 IsTurn pattern text (Any rest) = IsAny pattern rest.now
 IsTurn pattern text (One pattern_rest text_rest) = IsOne pattern text pattern_rest.now text_rest.now
 IsTurn pattern text Fails = is_like (chars pattern) (chars text) ≡ false
+
+-- behind a `%` the rests of the pattern and of the text decide
+pub record IsSkip (pattern text pattern_rest text_rest : List ℕ) : Type 0 where
+  pub same : somewhere (is_like (chars pattern)) (chars text) ≡ somewhere (is_like (chars pattern_rest)) (chars text_rest)
+  pub shorter : length pattern_rest ≤ length pattern
+  pub behind : length text_rest ≤ length text

@@ -6,6 +6,7 @@ ghost use Rattle.sql_scalar.specs.Turns.{IsTurn};
 
 use crate::characters::split_first_char;
 use crate::logic::from_truth;
+use crate::skips::{first_place, skip_to_fit};
 use crate::texts::{decimal, text_of};
 use osq_value::{NoMemory, Value};
 use std::alloc::Global;
@@ -25,6 +26,10 @@ enum Turn<'a> {
 pub(crate) fn like(alloc: Global, left: &Value, right: &Value) -> Result<Value, NoMemory>
     ensures { IfOk result (λ outcome. outcome ≡ like_of left.now right.now) }
 {
+    // Two texts need no decimals.
+    if let (Value::Text(text), Value::Text(pattern)) = (left, right) {
+        return Ok(from_truth(Some(is_like(pattern.as_str(), text.as_str()))));
+    }
     let left_decimal = decimal(alloc, left)?;
     let right_decimal = decimal(alloc, right)?;
     let Some(text) = text_of(left, left_decimal.as_str()) else {
@@ -60,17 +65,22 @@ fn is_like(pattern: &str, text: &str) -> bool
 fn is_like_somewhere(pattern: &str, text: &str) -> bool
     ensures { result ≡ somewhere (is_like (chars pattern.now)) (chars text.now) }
 {
-    let mut start = pattern;
-    let mut from = text;
-    let mut signs = pattern;
-    let mut rest = text;
+    let Some((mut start, mut from)) = first_place(pattern, text) else {
+        return false;
+    };
+    let mut signs = start;
+    let mut rest = from;
     loop {
         match step(signs, rest) {
             Turn::Ends => return true,
             Turn::Any(others) => {
-                start = others;
-                from = rest;
-                signs = others;
+                let Some((behind, place)) = first_place(others, rest) else {
+                    return false;
+                };
+                start = behind;
+                from = place;
+                signs = behind;
+                rest = place;
             }
             Turn::One(others, behind) => {
                 signs = others;
@@ -80,9 +90,9 @@ fn is_like_somewhere(pattern: &str, text: &str) -> bool
                 let Some((_, later)) = split_first_char(from) else {
                     return false;
                 };
-                from = later;
+                from = skip_to_fit(start, later);
                 signs = start;
-                rest = later;
+                rest = from;
             }
         }
     }
