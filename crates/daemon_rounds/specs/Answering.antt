@@ -1,13 +1,13 @@
 -- The batches of a tick.
-use Rattle.std.specs.Prelude.{◌≡◌, ℕ, ◌+◌, ◌≤◌, true, List, [], ◌∷◌, map}
+use Rattle.std.specs.Prelude.{◌≡◌, ℕ, ◌+◌, ◌≤◌, true, List, [], ◌∷◌, map, Some, None, slice_get}
 use Rattle.sql_meaning.specs.Meaning.{is_accepted}
 use Rattle.entry_model.specs.declared.entry.Batch.{Batch}
 use Rattle.entry_model.specs.declared.entry.Entry.{Entry}
 use Rattle.entry_model.specs.declared.entry.Entry.TheVariants.{Committed}
-use Rattle.session_state.specs.Kept.{Kept}
+use Rattle.pack_rules.specs.declared.schedule.Scheduled.{Scheduled}
+use Rattle.session_state.specs.Kept.{IsState, Kept}
 use Rattle.session_state.specs.Ticks.{first_due}
-use Rattle.daemon_rounds.specs.Adding.{Brings}
-use Rattle.std.specs.Prelude.{None}
+use Rattle.daemon_rounds.specs.Adding.{AreFree, Brings}
 
 -- a line can tell of the batch: its text is a query, and the calendar has its moment
 pub record IsTellable (batch : Batch) : Type 0 where
@@ -22,9 +22,20 @@ AreOwn place (batch ∷ rest) = (batch.cut ≡ place) × IsTellable batch × Are
 abbrev pub committed_all : List Batch → List Entry
 committed_all batches = map Committed batches
 
--- each query that was due has its batch, and no entry else was added
+-- the batch is that of the first due query, where no query was claimed
+pub record AnswersFirst (old : Kept) (batch : Batch) : Type 0 where
+  pub is : IsState old
+  pub first : AreFree old.claims → (place : ℕ) × ((scheduled : Scheduled) × (first_due old ≡ Some place) × (slice_get old.schedule.queries place ≡ Some scheduled) × (batch.query ≡ scheduled.key))
+
+-- each batch answers the query that is due first behind the batches before it
+abbrev pub AnswersEach : Kept → List Batch → Kept → Type 0
+AnswersEach old [] new = Brings old [] new
+AnswersEach old (batch ∷ rest) new = AnswersFirst old batch × ((next : Kept) × Brings old (Committed batch ∷ []) next × AnswersEach next rest new)
+
+-- each query that was due has its batch, in order, and no entry else was added
 pub record AnswersDue (old new : Kept) : Type 0 where
   pub batches : List Batch
   pub brings : Brings old (committed_all batches) new
+  pub each : AnswersEach old batches new
   pub own : AreOwn old.counts.position batches
   pub none : first_due new ≡ None

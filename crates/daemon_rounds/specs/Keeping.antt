@@ -5,12 +5,12 @@ use Rattle.entry_model.specs.declared.entry.Entry.{Entry}
 use Rattle.entry_model.specs.declared.restored.Restored.{Restored}
 use Rattle.entry_model.specs.Summary.{summary}
 use Rattle.entry_model.specs.Views.{is_evented_table}
-use Rattle.session_state.specs.Kept.{Kept}
+use Rattle.session_state.specs.Kept.{IsState, Kept}
 use Rattle.session_state.specs.Expiries.{expiries}
 use Rattle.session_state.specs.Stands.{Stands}
 use Rattle.session_state.specs.Ticks.{first_due, owed_at}
 use Rattle.daemon_rounds.specs.Adding.{Brings}
-use Rattle.daemon_rounds.specs.Answering.{AreOwn, committed_all}
+use Rattle.daemon_rounds.specs.Answering.{AnswersEach, AreOwn, committed_all}
 use Rattle.daemon_rounds.specs.Telling.{AreTellable, AreTold}
 use Rattle.pack_rules.specs.declared.schedule.Form.{Form}
 
@@ -33,6 +33,8 @@ pub record Settles (old new : Kept) : Type 0 where
   pub batches : List Batch
   pub between : Kept
   pub answers : Brings old (committed_all batches) between
+  pub each : AnswersEach old batches between
+  pub is : IsState between
   pub expired : List Entry
   pub are : expired ≡ expiries between
   pub brings : Brings old (committed_all batches ++ expired) new

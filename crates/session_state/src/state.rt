@@ -243,6 +243,41 @@ impl State {
         let _position = &self.position;
     }
 
+    /// The moment of the last tick or configuration, in seconds since 1970 UTC, or 0.
+    pub fn moment(&self) -> u64
+        ensures { result ≡ self.now.counts.moment }
+    {
+        self.moment
+    }
+
+    /// The number of the last event, or 0.
+    pub fn last_number(&self) -> u64
+        ensures { result ≡ self.now.image.last }
+    {
+        self.image.last()
+    }
+
+    /// How many batches there are.
+    pub fn batch_count(&self) -> u64
+        ensures { result ≡ self.now.counts.batches }
+    {
+        self.batches
+    }
+
+    /// Up to which number the collector has the batches, or 0.
+    pub fn acknowledged(&self) -> u64
+        ensures { result ≡ self.now.counts.acked }
+    {
+        self.acked
+    }
+
+    /// The form of the result lines of the present schedule.
+    pub fn form(&self) -> Form
+        ensures { result ≡ self.now.schedule.form }
+    {
+        self.schedule.form
+    }
+
     /// Adds an acknowledgement, and answers whether it did: it does where it is above the last one, and no batch is
     /// acknowledged that there is not.
     pub fn acknowledge(&mut self, upto: u64) -> Result<bool, NoMemory>

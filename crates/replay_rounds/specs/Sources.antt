@@ -1,0 +1,47 @@
+-- The sources of a session between its steps.
+use Rattle.std.specs.Prelude.{◌≡◌, ◌⊎◌, ℕ, ◌≤◌, true, false, List, [], ◌∷◌, length, drop}
+use Rattle.osq_value.specs.declared.reading.Category.{Category}
+use Rattle.publisher_core.specs.declared.record.Piece.{Piece}
+use Rattle.publisher_core.specs.Standing.{is_at_end}
+use Rattle.publisher_core.specs.Stepping.{STEP_BYTES}
+use Rattle.source_feeds.specs.Feeding.{Fed, Feeding}
+use Rattle.source_feeds.specs.Taking.{IsBehindLastFeed}
+use Rattle.entry_model.specs.declared.entry.Entry.{Entry}
+use Rattle.entry_model.specs.Values.{taken_from}
+use Rattle.session_model.specs.Given.{Given, Source}
+use Rattle.session_model.specs.Taking.{TakesStep}
+use Rattle.daemon_rounds.specs.declared.setup.SourceName.{SourceName}
+
+-- The feed of a source in a session behind the kept list `start`, where the list is now `now`: it goes on from the offset up to which the list
+-- has the source; the session read the source's bytes behind what `start` has of them; and where it is at their end, the list has the source up to
+-- behind its last line feed.
+pub record IsFed {S : Type 0} (tells : Type 0) (left : S → List ℕ) (paths : List Category) (start now : List Entry) (source : Source) (feed : Feeding) (object : S) : Type 0 where
+  pub name : feed.name ≡ source.name
+  pub kind : feed.kind ≡ source.kind
+  pub paths_are : feed.reader.paths ≡ paths
+  pub place : feed.reader.taken ≡ taken_from now source.name
+  pub pieces : List Piece
+  pub fed : Fed tells source.bytes (left object) feed (taken_from start source.name) pieces
+  pub over : tells → is_at_end feed.reader ≡ true → IsBehindLastFeed (taken_from start source.name) source.bytes (taken_from now source.name)
+
+-- each source has its feed, and the object that it is read from
+abbrev pub AreFed : {S : Type 0} → Type 0 → (S → List ℕ) → List Category → List Entry → List Entry → List Source → List Feeding → List S → Type 0
+AreFed tells left paths start now [] [] [] = Unit {0}
+AreFed tells left paths start now (source ∷ sources) (feed ∷ feeds) (object ∷ objects) =
+    IsFed tells left paths start now source feed object × AreFed tells left paths start now sources feeds objects
+AreFed tells left paths start now _ _ _ = ⊥
+
+-- a step of the source behind this list gave as many records as a step may, or at least 16777216 bytes stood behind the offset at which it began
+abbrev pub IsFull : Given → List Entry → Source → Type 0
+IsFull given kept source =
+    (STEP_BYTES ≤ length (drop (taken_from kept source.name) source.bytes)) ⊎ ((own : List Entry) × ((step : TakesStep given kept source own) × (length step.pieces ≡ given.records)))
+
+-- each source that isn't at its end gave a full step behind this list
+abbrev pub AreFullOrOver : Given → List Entry → List Source → List Feeding → Type 0
+AreFullOrOver given kept (source ∷ sources) (feed ∷ feeds) = (is_at_end feed.reader ≡ false → IsFull given kept source) × AreFullOrOver given kept sources feeds
+AreFullOrOver given kept _ _ = Unit {0}
+
+-- the sources of these names, with the bytes that their objects have to give
+abbrev pub sources_of : {S : Type 0} → (S → List ℕ) → List SourceName → List S → List Source
+sources_of left (name ∷ names) (object ∷ objects) = record { name = name.name; kind = name.kind; bytes = left object } ∷ sources_of left names objects
+sources_of left _ _ = []
