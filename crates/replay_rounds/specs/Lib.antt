@@ -1,1 +1,5 @@
+pub mod Fixed
+pub mod Running
 pub mod Sources
+pub mod Standing
+pub mod Ticked

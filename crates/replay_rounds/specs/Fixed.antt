@@ -1,0 +1,36 @@
+-- What stays the same in a session.
+use Rattle.std.specs.Prelude.{ℕ, List}
+use Rattle.osq_config.specs.declared.config.Config.{Config}
+use Rattle.entry_model.specs.declared.entry.Entry.{Entry}
+use Rattle.session_model.specs.Given.{Given}
+use Rattle.daemon_rounds.specs.declared.setup.Setup.{Setup}
+use Rattle.replay_rounds.specs.Sources.{sources_of}
+
+-- Whether the keeper, the sink and the sources tell what they hold; what a source has left to give; what the session is given; and the kept list
+-- and the results before the session.
+pub record Fixed (S : Type 0) : Type 1 where
+  pub keeper_tells : Type 0
+  pub sink_tells : Type 0
+  pub source_tells : Type 0
+  pub left : S → List ℕ
+  pub given : Given
+  pub start : List Entry
+  pub written : List ℕ
+
+-- a session of this setup is given this configuration, and of each source what its object has left
+abbrev pub given_of : {S : Type 0} → Setup → Config → List (List ℕ) → (S → List ℕ) → List S → Given
+given_of setup config documents left objects =
+    record { host = setup.host; documents = documents; config = config; sources = sources_of left setup.sources objects; records = setup.records }
+
+-- what stays the same in a session over these objects
+abbrev pub fixed_of : {S : Type 0} (keeper_tells sink_tells source_tells : Type 0) → (S → List ℕ) → Setup → Config → List (List ℕ) → List S → List Entry → List ℕ → Fixed S
+fixed_of keeper_tells sink_tells source_tells left setup config documents objects start written =
+    record {
+      keeper_tells = keeper_tells;
+      sink_tells = sink_tells;
+      source_tells = source_tells;
+      left = left;
+      given = given_of setup config documents left objects;
+      start = start;
+      written = written;
+    }

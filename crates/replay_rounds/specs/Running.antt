@@ -1,0 +1,74 @@
+-- What a run of a session leaves.
+use Rattle.std.specs.Prelude.{◌≡◌, ℕ, ◌≤◌, true, false, All, Contains, None, List, [], ◌∷◌, ◌++◌, length, take}
+use Rattle.entry_model.specs.declared.entry.Entry.{Entry}
+use Rattle.entry_model.specs.Legal.{Legal}
+use Rattle.entry_model.specs.Values.{acked_upto, commits, last_number}
+use Rattle.entry_model.specs.Views.{due_queries, is_evented_table, owed_floor}
+use Rattle.pack_rules.specs.declared.schedule.Form.TheVariants as form
+use Rattle.session_model.specs.Given.{Given, Source}
+use Rattle.session_model.specs.Sessions.{IsSession}
+use Rattle.session_model.specs.Taking.{IsReadWhole}
+use Rattle.daemon_rounds.specs.Telling.{AreTold}
+use Rattle.replay_rounds.specs.Fixed.{Fixed}
+use Rattle.replay_rounds.specs.Sources.{IsFull}
+use Rattle.replay_rounds.specs.declared.running.Ended.{Ended}
+
+-- the clock was read for each of these readings, one after another
+abbrev pub ReadsAll : {C : Type 0} → (C → ℕ → C → Type 0) → C → List ℕ → C → Type 0
+ReadsAll reads before [] after = after ≡ before
+ReadsAll reads before (reading ∷ rest) after = (between : _) × reads before reading between × ReadsAll reads between rest after
+
+-- what a run adds at these readings: nothing before the first of them, and else a session
+abbrev pub AddsAt : Given → List Entry → List ℕ → List Entry → Type 0
+AddsAt given kept [] entries = entries ≡ []
+AddsAt given kept (reading ∷ readings) entries = IsSession given kept reading readings entries
+
+-- the list has grown by these entries, which are what a run adds at these readings
+pub record Grows {S : Type 0} (x : Fixed S) (kept : List Entry) (readings : List ℕ) (entries : List Entry) : Type 0 where
+  pub grown : x.keeper_tells → kept ≡ x.start ++ entries
+  pub adds : x.keeper_tells → x.source_tells → Legal x.start → AddsAt x.given x.start readings entries
+
+-- However a run ends, the kept list has grown by a session at the readings of the clock, of which one more may have been taken.
+pub record IsKept {S C : Type 0} (x : Fixed S) (reads : C → ℕ → C → Type 0) (clock after : C) (kept : List Entry) : Type 0 where
+  pub readings : List ℕ
+  pub more : List ℕ
+  pub entries : List Entry
+  pub read : ReadsAll reads clock (readings ++ more) after
+  pub few : length more ≤ 1
+  pub grows : Grows x kept readings entries
+
+-- However it ends, the results have grown by a front part of the lines of entries that are kept.
+pub record IsWritten {S : Type 0} (x : Fixed S) (kept : List Entry) (written : List ℕ) : Type 0 where
+  pub entries : List Entry
+  pub more : List Entry
+  pub kept_are : x.keeper_tells → kept ≡ x.start ++ (entries ++ more)
+  pub lines : List ℕ
+  pub told : AreTold x.given.host.identifier form.Event entries lines
+  pub count : ℕ
+  pub written_is : written ≡ x.written ++ take count lines
+
+-- some source gave a full step behind a list that begins this one
+pub record HasMore {S : Type 0} (x : Fixed S) (kept : List Entry) : Type 0 where
+  pub source : Source
+  pub among : Contains x.given.sources source
+  pub before : List Entry
+  pub since : List Entry
+  pub are : kept ≡ before ++ since
+  pub full : IsFull x.given before source
+
+-- All ticks were run: the list has grown by a session of as many, and the results by its lines; nothing is due, and nothing is to expire. Either
+-- every source was read to behind its last line feed, or one of them had more.
+pub record HasRun {S C : Type 0} (x : Fixed S) (reads : C → ℕ → C → Type 0) (ticks : ℕ) (clock after : C) (kept : List Entry) (written : List ℕ) (ended : Ended) : Type 0 where
+  pub readings : List ℕ
+  pub entries : List Entry
+  pub read : ReadsAll reads clock readings after
+  pub count : length readings ≡ ticks
+  pub grows : Grows x kept readings entries
+  pub told : x.sink_tells → (lines : List ℕ) × AreTold x.given.host.identifier form.Event entries lines × (written ≡ x.written ++ lines)
+  pub answered : x.keeper_tells → Legal x.start → due_queries kept ≡ []
+  pub settled : x.keeper_tells → Legal x.start → (table : ℕ) → is_evented_table table ≡ true → owed_floor kept table ≡ None
+  pub events : x.keeper_tells → Legal x.start → ended.events ≡ last_number kept
+  pub batches : x.keeper_tells → Legal x.start → ended.batches ≡ length (commits kept)
+  pub acknowledged : x.keeper_tells → Legal x.start → ended.acknowledged ≡ acked_upto kept
+  pub whole : x.keeper_tells → x.source_tells → Legal x.start → ended.is_end ≡ true → All (IsReadWhole x.start kept) x.given.sources
+  pub more : x.keeper_tells → x.source_tells → Legal x.start → ended.is_end ≡ false → HasMore x kept

@@ -1,0 +1,57 @@
+-- A whole tick, by the state and by the list.
+use Rattle.std.specs.Prelude.{◌≡◌, ◌⊎◌, ℕ, List, [], ◌∷◌, ◌++◌, take}
+use Rattle.osq_config.specs.declared.config.Config.{Config}
+use Rattle.source_feeds.specs.Feeding.{Feeding}
+use Rattle.entry_model.specs.declared.entry.Entry.{Entry}
+use Rattle.entry_model.specs.declared.entry.Entry.TheVariants.{Ticked}
+use Rattle.entry_model.specs.Legal.{Legal}
+use Rattle.pack_rules.specs.declared.schedule.Form.{Form}
+use Rattle.session_model.specs.Ticking.{Ticks}
+use Rattle.session_state.specs.Kept.{Kept}
+use Rattle.daemon_rounds.specs.Keeping.{Settles}
+use Rattle.daemon_rounds.specs.Telling.{AreTold}
+use Rattle.daemon_rounds.specs.Ticking.{Fills, asks_again, configured_last}
+use Rattle.daemon_rounds.specs.declared.setup.Setup.{Setup}
+use Rattle.replay_rounds.specs.Fixed.{Fixed}
+use Rattle.replay_rounds.specs.Sources.{AreFullOrOver}
+use Rattle.replay_rounds.specs.Standing.{Standing}
+
+-- a tick at this moment, up to its seal: it is filled, each due query is answered, and what is owed expires
+pub record TickDone {S : Type 0} (tells : Type 0) (left : S → List ℕ) (faults : S → ℕ) (setup : Setup) (config : Config) (documents : List (List ℕ)) (configured_at moment : ℕ) (feeds nexts : List Feeding) (objects rests : List S) (old settled : Kept) : Type 0 where
+  pub filled : Kept
+  pub fills : Fills tells left faults setup config documents configured_at moment feeds nexts objects rests old filled
+  pub settles : Settles filled settled
+
+-- A whole tick: its entries are kept behind the list and told on the results, where the keeper and the sink tell.
+pub record IsTick {S : Type 0} (keeper_tells sink_tells tells : Type 0) (left : S → List ℕ) (faults : S → ℕ) (setup : Setup) (config : Config) (documents : List (List ℕ)) (configured_at last moment : ℕ) (kept_before kept_after : List Entry) (written_before written_after : List ℕ) (feeds nexts : List Feeding) (objects rests : List S) (old new : Kept) : Type 0 where
+  pub settled : Kept
+  pub done : TickDone tells left faults setup config documents configured_at moment feeds nexts objects rests old settled
+  pub taken : new ≡ record settled { tail = [] }
+  pub last_is : last ≡ configured_last (asks_again config configured_at moment) configured_at moment
+  pub kept : keeper_tells → kept_after ≡ kept_before ++ settled.tail
+  pub told : sink_tells → (lines : List ℕ) × AreTold setup.host.identifier old.schedule.form settled.tail lines × (written_after ≡ written_before ++ lines)
+
+-- a tick that isn't done left the kept list as it was, or it kept all of its entries
+abbrev pub IsWholeTick : {S : Type 0} (tells : Type 0) (left : S → List ℕ) (faults : S → ℕ) (setup : Setup) (config : Config) (documents : List (List ℕ)) (configured_at moment : ℕ) (kept_before kept_after : List Entry) (feeds nexts : List Feeding) (objects rests : List S) (old : Kept) → Type 0
+IsWholeTick tells left faults setup config documents configured_at moment kept_before kept_after feeds nexts objects rests old =
+    (kept_after ≡ kept_before)
+    ⊎ ((settled : Kept) × TickDone tells left faults setup config documents configured_at moment feeds nexts objects rests old settled × (kept_after ≡ kept_before ++ settled.tail))
+
+-- all of its entries are kept, and a front part of their lines was written
+pub record IsPartlyTold {S : Type 0} (keeper_tells tells : Type 0) (left : S → List ℕ) (faults : S → ℕ) (setup : Setup) (config : Config) (documents : List (List ℕ)) (configured_at moment : ℕ) (kept_before kept_after : List Entry) (written_before written_after : List ℕ) (feeds nexts : List Feeding) (objects rests : List S) (old : Kept) : Type 0 where
+  pub settled : Kept
+  pub done : TickDone tells left faults setup config documents configured_at moment feeds nexts objects rests old settled
+  pub kept : keeper_tells → kept_after ≡ kept_before ++ settled.tail
+  pub lines : List ℕ
+  pub count : ℕ
+  pub told : AreTold setup.host.identifier old.schedule.form settled.tail lines
+  pub written : written_after ≡ written_before ++ take count lines
+
+-- By the list: behind what the session has added there are now the entries of a tick at this moment, and where a source isn't at its end its
+-- step was full. The state has them in its tail.
+pub record TakesTick {S : Type 0} (x : Fixed S) (added kept : List Entry) (nexts : List Feeding) (rests : List S) (last moment : ℕ) (old settled : Kept) : Type 0 where
+  pub own : List Entry
+  pub ticks : x.keeper_tells → x.source_tells → Legal x.start → Ticks x.given (x.start ++ added) moment own
+  pub full : x.keeper_tells → x.source_tells → Legal x.start → (configured : List Entry) × AreFullOrOver x.given (x.start ++ (added ++ Ticked moment ∷ configured)) x.given.sources nexts
+  pub standing : Standing x (added ++ own) kept nexts rests last settled
+  pub tail : settled.tail ≡ old.tail ++ own

@@ -1,0 +1,47 @@
+//! The values that a session goes on from.
+
+ghost use Rattle.std.specs.Prelude.{◌≡◌, ◌≤◌, Err, IfOk, OnOk};
+ghost use Rattle.osq_outside.specs.Causes.{Rose};
+ghost use Rattle.entry_model.specs.Fits.{Fits};
+ghost use Rattle.entry_model.specs.Legal.{Legal};
+ghost use Rattle.entry_model.specs.Summary.{summary};
+ghost use Rattle.replay_rounds.specs.declared.loading.LoadError.{LoadError};
+
+use batch_keeper::{Keeper, KeeperError};
+use entry_model::laws;
+use entry_model::restored::Restored;
+use entry_summary::fitting::fits;
+use std::alloc::Global;
+
+/// Why there are no values to go on from.
+#[derive(Clone, Copy, PartialEq, Eq, Debug)]
+pub enum LoadError {
+    /// The keeper failed.
+    KeeperFault,
+    /// The keeper gave values that no session may go on from.
+    KeeperRefused,
+    NoMemory,
+}
+
+/// The values of the keeper's list, where a session may go on from them. Those of a legal list are never refused.
+pub fn load_values<K: Keeper>(alloc: Global, keeper: &mut K) -> Result<Restored, LoadError>
+    ensures fits { IfOk result Fits }
+    ensures value { K.tells → IfOk result (λ restored. restored ≡ summary (K.kept keeper.old)) }
+    ensures same { K.tells → K.kept keeper.new ≡ K.kept keeper.old }
+    ensures refused { K.tells → result ≡ Err LoadError.KeeperRefused → ¬ Fits (summary (K.kept keeper.old)) }
+    ensures illegal { K.tells → result ≡ Err LoadError.KeeperRefused → ¬ Legal (K.kept keeper.old) }
+    ensures cause { result ≡ Err LoadError.KeeperFault → Rose (K.faults keeper.old) (K.faults keeper.new) }
+    ensures later { K.faults keeper.old ≤ K.faults keeper.new }
+{
+    laws::fitting();
+    let restored = match keeper.load(alloc) {
+        Ok(restored) => restored,
+        Err(KeeperError::Fault) => return Err(LoadError::KeeperFault),
+        Err(KeeperError::NoMemory) => return Err(LoadError::NoMemory),
+    };
+    if fits(&restored) {
+        Ok(restored)
+    } else {
+        Err(LoadError::KeeperRefused)
+    }
+}
