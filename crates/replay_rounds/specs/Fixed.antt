@@ -6,13 +6,11 @@ use Rattle.session_model.specs.Given.{Given}
 use Rattle.daemon_rounds.specs.declared.setup.Setup.{Setup}
 use Rattle.replay_rounds.specs.Sources.{sources_of}
 
--- Whether the keeper, the sink and the sources tell what they hold; what a source has left to give; what the session is given; and the kept list
--- and the results before the session.
-pub record Fixed (S : Type 0) : Type 1 where
+-- Whether the keeper, the sink and the sources tell what they hold; what the session is given; and the kept list and the results before it.
+pub record Fixed : Type 1 where
   pub keeper_tells : Type 0
   pub sink_tells : Type 0
   pub source_tells : Type 0
-  pub left : S → List ℕ
   pub given : Given
   pub start : List Entry
   pub written : List ℕ
@@ -23,13 +21,12 @@ given_of setup config documents left objects =
     record { host = setup.host; documents = documents; config = config; sources = sources_of left setup.sources objects; records = setup.records }
 
 -- what stays the same in a session over these objects
-abbrev pub fixed_of : {S : Type 0} (keeper_tells sink_tells source_tells : Type 0) → (S → List ℕ) → Setup → Config → List (List ℕ) → List S → List Entry → List ℕ → Fixed S
+abbrev pub fixed_of : {S : Type 0} (keeper_tells sink_tells source_tells : Type 0) → (S → List ℕ) → Setup → Config → List (List ℕ) → List S → List Entry → List ℕ → Fixed
 fixed_of keeper_tells sink_tells source_tells left setup config documents objects start written =
     record {
       keeper_tells = keeper_tells;
       sink_tells = sink_tells;
       source_tells = source_tells;
-      left = left;
       given = given_of setup config documents left objects;
       start = start;
       written = written;

@@ -1,4 +1,5 @@
 pub mod Fixed
+pub mod Refusals
 pub mod Running
 pub mod Sources
 pub mod Standing

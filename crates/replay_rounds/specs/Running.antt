@@ -1,5 +1,6 @@
 -- What a run of a session leaves.
 use Rattle.std.specs.Prelude.{◌≡◌, ℕ, ◌≤◌, true, false, All, Contains, None, List, [], ◌∷◌, ◌++◌, length, take}
+use Rattle.entry_model.specs.Covered.{Covered}
 use Rattle.entry_model.specs.declared.entry.Entry.{Entry}
 use Rattle.entry_model.specs.Legal.{Legal}
 use Rattle.entry_model.specs.Values.{acked_upto, commits, last_number}
@@ -24,21 +25,22 @@ AddsAt given kept [] entries = entries ≡ []
 AddsAt given kept (reading ∷ readings) entries = IsSession given kept reading readings entries
 
 -- the list has grown by these entries, which are what a run adds at these readings
-pub record Grows {S : Type 0} (x : Fixed S) (kept : List Entry) (readings : List ℕ) (entries : List Entry) : Type 0 where
+pub record Grows (x : Fixed) (kept : List Entry) (readings : List ℕ) (entries : List Entry) : Type 0 where
   pub grown : x.keeper_tells → kept ≡ x.start ++ entries
   pub adds : x.keeper_tells → x.source_tells → Legal x.start → AddsAt x.given x.start readings entries
 
--- However a run ends, the kept list has grown by a session at the readings of the clock, of which one more may have been taken.
-pub record IsKept {S C : Type 0} (x : Fixed S) (reads : C → ℕ → C → Type 0) (clock after : C) (kept : List Entry) : Type 0 where
+-- However a run ends, the kept list has grown by a session at the readings of the clock, which may have been read once more. `has_read` says
+-- which readings it gave.
+pub record IsKept (x : Fixed) (has_read : List ℕ → Type 0) (kept : List Entry) : Type 0 where
   pub readings : List ℕ
   pub more : List ℕ
   pub entries : List Entry
-  pub read : ReadsAll reads clock (readings ++ more) after
+  pub read : has_read (readings ++ more)
   pub few : length more ≤ 1
   pub grows : Grows x kept readings entries
 
 -- However it ends, the results have grown by a front part of the lines of entries that are kept.
-pub record IsWritten {S : Type 0} (x : Fixed S) (kept : List Entry) (written : List ℕ) : Type 0 where
+pub record IsWritten (x : Fixed) (kept : List Entry) (written : List ℕ) : Type 0 where
   pub entries : List Entry
   pub more : List Entry
   pub kept_are : x.keeper_tells → kept ≡ x.start ++ (entries ++ more)
@@ -48,7 +50,7 @@ pub record IsWritten {S : Type 0} (x : Fixed S) (kept : List Entry) (written : L
   pub written_is : written ≡ x.written ++ take count lines
 
 -- some source gave a full step behind a list that begins this one
-pub record HasMore {S : Type 0} (x : Fixed S) (kept : List Entry) : Type 0 where
+pub record HasMore (x : Fixed) (kept : List Entry) : Type 0 where
   pub source : Source
   pub among : Contains x.given.sources source
   pub before : List Entry
@@ -58,17 +60,18 @@ pub record HasMore {S : Type 0} (x : Fixed S) (kept : List Entry) : Type 0 where
 
 -- All ticks were run: the list has grown by a session of as many, and the results by its lines; nothing is due, and nothing is to expire. Either
 -- every source was read to behind its last line feed, or one of them had more.
-pub record HasRun {S C : Type 0} (x : Fixed S) (reads : C → ℕ → C → Type 0) (ticks : ℕ) (clock after : C) (kept : List Entry) (written : List ℕ) (ended : Ended) : Type 0 where
+pub record HasRun (x : Fixed) (has_read : List ℕ → Type 0) (ticks : ℕ) (kept : List Entry) (written : List ℕ) (ended : Ended) : Type 0 where
   pub readings : List ℕ
   pub entries : List Entry
-  pub read : ReadsAll reads clock readings after
+  pub read : has_read readings
   pub count : length readings ≡ ticks
   pub grows : Grows x kept readings entries
   pub told : x.sink_tells → (lines : List ℕ) × AreTold x.given.host.identifier form.Event entries lines × (written ≡ x.written ++ lines)
+  pub covered : x.keeper_tells → Legal x.start → Covered kept
   pub answered : x.keeper_tells → Legal x.start → due_queries kept ≡ []
   pub settled : x.keeper_tells → Legal x.start → (table : ℕ) → is_evented_table table ≡ true → owed_floor kept table ≡ None
-  pub events : x.keeper_tells → Legal x.start → ended.events ≡ last_number kept
-  pub batches : x.keeper_tells → Legal x.start → ended.batches ≡ length (commits kept)
-  pub acknowledged : x.keeper_tells → Legal x.start → ended.acknowledged ≡ acked_upto kept
+  pub events : x.keeper_tells → Legal x.start → ended.numbers.events ≡ last_number kept
+  pub batches : x.keeper_tells → Legal x.start → ended.numbers.batches ≡ length (commits kept)
+  pub acknowledged : x.keeper_tells → Legal x.start → ended.numbers.acknowledged ≡ acked_upto kept
   pub whole : x.keeper_tells → x.source_tells → Legal x.start → ended.is_end ≡ true → All (IsReadWhole x.start kept) x.given.sources
   pub more : x.keeper_tells → x.source_tells → Legal x.start → ended.is_end ≡ false → HasMore x kept

@@ -18,7 +18,7 @@ use Rattle.replay_rounds.specs.Sources.{AreFed}
 
 -- The session has added these entries to the list before it; the keeper has all of them but those in the state's tail; no query is claimed; and
 -- its sources are fed.
-pub record Standing {S : Type 0} (x : Fixed S) (added kept : List Entry) (feeds : List Feeding) (objects : List S) (configured_at : ℕ) (s : Kept) : Type 0 where
+pub record Standing {S : Type 0} (left : S → List ℕ) (x : Fixed) (added kept : List Entry) (feeds : List Feeding) (objects : List S) (configured_at : ℕ) (s : Kept) : Type 0 where
   pub base : Restored
   pub same : x.keeper_tells → summary x.start ≡ base
   pub stands : Stands base added s
@@ -27,7 +27,7 @@ pub record Standing {S : Type 0} (x : Fixed S) (added kept : List Entry) (feeds 
   pub list : x.keeper_tells → kept ≡ x.start ++ sealed
   pub free : AreFree s.claims
   pub configured : (before : ℕ) → last_of configured_in before added ≡ configured_at
-  pub fed : x.keeper_tells → AreFed x.source_tells x.left x.given.config.categories x.start (x.start ++ added) x.given.sources feeds objects
+  pub fed : x.keeper_tells → AreFed x.source_tells left x.given.config.categories x.start (x.start ++ added) x.given.sources feeds objects
 
 -- the next tick may begin
 pub record IsReady (feeds : List Feeding) (configured_at : ℕ) (s : Kept) : Type 0 where

@@ -49,9 +49,9 @@ pub record IsPartlyTold {S : Type 0} (keeper_tells tells : Type 0) (left : S →
 
 -- By the list: behind what the session has added there are now the entries of a tick at this moment, and where a source isn't at its end its
 -- step was full. The state has them in its tail.
-pub record TakesTick {S : Type 0} (x : Fixed S) (added kept : List Entry) (nexts : List Feeding) (rests : List S) (last moment : ℕ) (old settled : Kept) : Type 0 where
+pub record TakesTick {S : Type 0} (left : S → List ℕ) (x : Fixed) (added kept : List Entry) (nexts : List Feeding) (rests : List S) (last moment : ℕ) (old settled : Kept) : Type 0 where
   pub own : List Entry
   pub ticks : x.keeper_tells → x.source_tells → Legal x.start → Ticks x.given (x.start ++ added) moment own
   pub full : x.keeper_tells → x.source_tells → Legal x.start → (configured : List Entry) × AreFullOrOver x.given (x.start ++ (added ++ Ticked moment ∷ configured)) x.given.sources nexts
-  pub standing : Standing x (added ++ own) kept nexts rests last settled
+  pub standing : Standing left x (added ++ own) kept nexts rests last settled
   pub tail : settled.tail ≡ old.tail ++ own

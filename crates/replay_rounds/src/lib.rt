@@ -6,5 +6,5 @@ pub mod running;
 mod ticking;
 
 pub use loading::{LoadError, load_values};
-pub use running::{Ended, RunError, run_session};
+pub use running::{Ended, Numbers, Refused, RunError, run_session};
 pub use ticking::{TickError, take_tick};
