@@ -79,7 +79,7 @@ pub owed_is : (K : List Entry) (s : Kept) → HasValues K s → (table : ℕ) �
 owed_is K s h table is =
     λ i. if h.ticked i then owed_of (h.schedule i).events_expiry (h.schedule i).events_max (h.counts i).moment (sym (h.image.live table is) i) else None
 
-none_due : (K : List Entry) (s : Kept) → HasValues K s → All (IsRun s.counts.batches) s.counts.runs → first_due s ≡ None → due_queries K ≡ []
+pub none_due : (K : List Entry) (s : Kept) → HasValues K s → All (IsRun s.counts.batches) s.counts.runs → first_due s ≡ None → due_queries K ≡ []
 none_due K s h runs none = due_queries_are K s h runs ∙ by_tick s.ticked refl
   where
     by_tick : (b : Bool) → s.ticked ≡ b → (if s.ticked then map (λ (scheduled : Scheduled). scheduled.key) (filter (cursors.is_due_by s.counts.runs s.counts.moment) s.schedule.queries) else []) ≡ []
