@@ -1,9 +1,8 @@
 -- A whole tick, by the state and by the list.
-use Rattle.std.specs.Prelude.{◌≡◌, ◌⊎◌, ℕ, List, [], ◌∷◌, ◌++◌, take}
+use Rattle.std.specs.Prelude.{◌≡◌, ◌⊎◌, ℕ, List, [], ◌++◌, take}
 use Rattle.osq_config.specs.declared.config.Config.{Config}
 use Rattle.source_feeds.specs.Feeding.{Feeding}
 use Rattle.entry_model.specs.declared.entry.Entry.{Entry}
-use Rattle.entry_model.specs.declared.entry.Entry.TheVariants.{Ticked}
 use Rattle.entry_model.specs.Legal.{Legal}
 use Rattle.pack_rules.specs.declared.schedule.Form.{Form}
 use Rattle.session_model.specs.Ticking.{Ticks}
@@ -48,10 +47,10 @@ pub record IsPartlyTold {S : Type 0} (keeper_tells tells : Type 0) (left : S →
   pub written : written_after ≡ written_before ++ take count lines
 
 -- By the list: behind what the session has added there are now the entries of a tick at this moment, and where a source isn't at its end its
--- step was full. The state has them in its tail.
+-- step behind some of them was full. The state has them in its tail.
 pub record TakesTick {S : Type 0} (left : S → List ℕ) (x : Fixed) (added kept : List Entry) (nexts : List Feeding) (rests : List S) (last moment : ℕ) (old settled : Kept) : Type 0 where
   pub own : List Entry
   pub ticks : x.keeper_tells → x.source_tells → Legal x.start → Ticks x.given (x.start ++ added) moment own
-  pub full : x.keeper_tells → x.source_tells → Legal x.start → (configured : List Entry) × AreFullOrOver x.given (x.start ++ (added ++ Ticked moment ∷ configured)) x.given.sources nexts
+  pub full : x.keeper_tells → x.source_tells → Legal x.start → (before : List Entry) × (since : List Entry) × (own ≡ before ++ since) × AreFullOrOver x.given (x.start ++ (added ++ before)) x.given.sources nexts
   pub standing : Standing left x (added ++ own) kept nexts rests last settled
   pub tail : settled.tail ≡ old.tail ++ own
