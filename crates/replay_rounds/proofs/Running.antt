@@ -1,6 +1,7 @@
 -- A session that runs: what holds of it behind each of its ticks.
-use Rattle.std.proofs.Common.{◌≡◌, ◌⊎◌, ℕ, ◌≤◌, List, [], ◌∷◌, ◌++◌, length, refl, sym, ap, ◌∙◌, subst, append_assoc, arith, length-append}
+use Rattle.std.proofs.Common.{◌≡◌, ℕ, ◌+◌, ◌≤◌, List, [], ◌∷◌, ◌++◌, length, refl, sym, ap, ◌∙◌, subst, append_assoc, arith}
 use Rattle.std.specs.Prelude.{max, take}
+use Rattle.std.proofs.Math.Seq.{take-append-add, take-length}
 use Rattle.std.proofs.lemmas.List.{append-nil}
 use Rattle.config_files.specs.Configurations.{IsConfigOf}
 use Rattle.source_feeds.specs.Feeding.{Feeding}
@@ -25,7 +26,7 @@ use Rattle.replay_rounds.specs.Sources.{AreFullOrOver}
 use Rattle.replay_rounds.specs.Standing.{Standing}
 use Rattle.replay_rounds.specs.Ticked.{TakesTick}
 use Rattle.replay_rounds.proofs.Sessions.{TicksBy, session_first, session_more}
-use Rattle.replay_rounds.proofs.Tellings.{form_is, told_more}
+use Rattle.replay_rounds.proofs.Tellings.{form_behind, form_is, told_more}
 
 pub reads_more : {C : Type 0} (reads : C → ℕ → C → Type 0) (before between after : C) (readings : List ℕ) (reading : ℕ) → ReadsAll reads before readings between → reads between reading after → ReadsAll reads before (readings ++ reading ∷ []) after
 reads_more reads before between after [] reading same read =
@@ -44,8 +45,8 @@ pub record IsFullTick (x : Fixed) (entries : List Entry) (feeds : List Feeding) 
   pub are : entries ≡ before ++ since
   pub full : AreFullOrOver x.given (x.start ++ before) x.given.sources feeds
 
--- Behind a tick: the clock was read so often; the session has added these entries, all of which are kept and told.
-pub record IsRunning {S C : Type 0} (left : S → List ℕ) (x : Fixed) (reads : C → ℕ → C → Type 0) (clock now : C) (kept : List Entry) (written : List ℕ) (feeds : List Feeding) (objects : List S) (last : ℕ) (s : Kept) : Type 0 where
+-- Behind a tick: the clock was read so often, and the session has added these entries, all of which are kept.
+pub record IsAdded {S C : Type 0} (left : S → List ℕ) (x : Fixed) (reads : C → ℕ → C → Type 0) (clock now : C) (kept : List Entry) (feeds : List Feeding) (objects : List S) (last : ℕ) (s : Kept) : Type 0 where
   pub reading : ℕ
   pub readings : List ℕ
   pub entries : List Entry
@@ -53,11 +54,12 @@ pub record IsRunning {S C : Type 0} (left : S → List ℕ) (x : Fixed) (reads :
   pub standing : Standing left x entries kept feeds objects last s
   pub empty : s.tail ≡ []
   pub session : x.keeper_tells → x.source_tells → Legal x.start → IsSession x.given x.start reading readings entries
-  pub told : x.sink_tells → IsToldAll x entries written
-  pub opened : ℕ
-  pub rest : List Entry
-  pub begins : entries ≡ Opened opened ∷ rest
   pub full : x.keeper_tells → x.source_tells → Legal x.start → IsFullTick x entries feeds
+
+-- and they are told
+pub record IsRunning {S C : Type 0} (left : S → List ℕ) (x : Fixed) (reads : C → ℕ → C → Type 0) (clock now : C) (kept : List Entry) (written : List ℕ) (feeds : List Feeding) (objects : List S) (last : ℕ) (s : Kept) : Type 0 where
+  pub added : IsAdded left x reads clock now kept feeds objects last s
+  pub told : x.sink_tells → IsToldAll x added.entries written
 
 -- what is sealed goes from the tail to the keeper
 pub sealed_standing : {S : Type 0} (left : S → List ℕ) (x : Fixed) (entries kept now : List Entry) (feeds : List Feeding) (objects : List S) (last : ℕ) (s t : Kept) → Standing left x entries kept feeds objects last s → t ≡ record s { tail = [] } → (x.keeper_tells → now ≡ kept ++ s.tail) → Standing left x entries now feeds objects last t
@@ -90,7 +92,7 @@ pub moment_is : {S : Type 0} (left : S → List ℕ) (x : Fixed) (entries kept :
 moment_is left x entries kept feeds objects last s h tells legal =
     ap (λ (c : Counts). c.moment) (values left x entries kept feeds objects last s h tells legal).counts
 
-module _ {S C : Type 0} (left : S → List ℕ) (x : Fixed) (reads : C → ℕ → C → Type 0) (clock now : C) (kept next : List Entry) (written : List ℕ) (feeds nexts : List Feeding) (objects rests : List S) (configured_at last moment : ℕ) (old settled new : Kept) (added : List Entry) (t : TakesTick left x added kept nexts rests last moment old settled) (taken : new ≡ record settled { tail = [] }) (grown : x.keeper_tells → next ≡ kept ++ settled.tail) where
+module _ {S C : Type 0} (left : S → List ℕ) (x : Fixed) (reads : C → ℕ → C → Type 0) (clock now : C) (kept next : List Entry) (nexts : List Feeding) (rests : List S) (last moment : ℕ) (old settled new : Kept) (added : List Entry) (t : TakesTick left x added kept nexts rests last moment old settled) (taken : new ≡ record settled { tail = [] }) (grown : x.keeper_tells → next ≡ kept ++ settled.tail) where
   standing_behind : Standing left x (added ++ t.own) next nexts rests last new
   standing_behind =
       sealed_standing left x (added ++ t.own) kept next nexts rests last settled new t.standing taken grown
@@ -108,25 +110,128 @@ module _ {S C : Type 0} (left : S → List ℕ) (x : Fixed) (reads : C → ℕ �
       record { before = added ++ before; since = since; are = ap (λ (es : List Entry). added ++ es) are ∙ sym (append_assoc added before since); full = full }
 
   -- the first tick of a session that opened at the clock's first reading
-  pub first_ran : (reading : ℕ) (notes : List ℕ) (number : ℕ) (rest : List Entry) (lines : List ℕ) → reads clock reading now → IsConfigOf x.given.documents x.given.config notes → added ≡ Opened number ∷ rest → (x.keeper_tells → x.source_tells → Legal x.start → Opens x.given x.start reading added) → (x.keeper_tells → Legal x.start → moment ≡ max reading (moment_of (x.start ++ added)))
-      → old.tail ≡ added → (before : Form) → (x.sink_tells → (lines : List ℕ) × AreTold x.given.host.identifier before settled.tail lines × (written ≡ x.written ++ lines)) → IsRunning left x reads clock now next written nexts rests last new
-  first_ran reading notes number rest lines read configuration begins opens at tail before told = record {
-    reading = reading;
-    readings = [];
-    entries = added ++ t.own;
-    read = (now, read, refl);
-    standing = standing_behind;
-    empty = empty_behind;
-    session = λ tells sources legal. session_first x.given x.start reading notes added t.own configuration (opens tells sources legal) (subst (λ (m : ℕ). Ticks x.given (x.start ++ added) m t.own) (at tells legal) (t.ticks tells sources legal)) (legal_behind tells legal);
-    told = λ tells.
-        let (text, are, is) = told tells in
-        (text, from_opened text (subst (λ (es : List Entry). AreTold x.given.host.identifier before es text) (t.tail ∙ ap (λ (es : List Entry). es ++ t.own) tail) are), is);
-    opened = number;
-    rest = rest ++ t.own;
-    begins = ap (λ (es : List Entry). es ++ t.own) begins;
-    full = λ tells sources legal. full_behind tells sources legal;
-  }
+  module _ (reading : ℕ) (notes : List ℕ) (read : reads clock reading now) (configuration : IsConfigOf x.given.documents x.given.config notes) (opens : x.keeper_tells → x.source_tells → Legal x.start → Opens x.given x.start reading added) (at : x.keeper_tells → Legal x.start → moment ≡ max reading (moment_of (x.start ++ added))) where
+    pub first_added : IsAdded left x reads clock now next nexts rests last new
+    first_added = record {
+      reading = reading;
+      readings = [];
+      entries = added ++ t.own;
+      read = (now, read, refl);
+      standing = standing_behind;
+      empty = empty_behind;
+      session = λ tells sources legal. session_first x.given x.start reading notes added t.own configuration (opens tells sources legal) (subst (λ (m : ℕ). Ticks x.given (x.start ++ added) m t.own) (at tells legal) (t.ticks tells sources legal)) (legal_behind tells legal);
+      full = full_behind;
+    }
+
+    pub first_ran : (written : List ℕ) → (x.sink_tells → IsToldAll x (added ++ t.own) written) → IsRunning left x reads clock now next written nexts rests last new
+    unfolding first_added
+    first_ran written told = record { added = first_added; told = told }
+
+-- lines of the entries of a session that opens are the same, whatever form ran before it
+pub from_opened : (host : List ℕ) (before : Form) (number : ℕ) (added own rest : List Entry) (text : List ℕ) → added ≡ Opened number ∷ rest → AreTold host before (added ++ own) text → AreTold host form.Event (added ++ own) text
+from_opened host before number added own rest text begins are =
+    subst (λ (es : List Entry). AreTold host form.Event (es ++ own) text) (sym begins) (subst (λ (es : List Entry). AreTold host before (es ++ own) text) begins are)
+
+-- a further tick at the clock's next reading
+module _ {S C : Type 0} (left : S → List ℕ) (x : Fixed) (reads : C → ℕ → C → Type 0) (clock between now : C) (kept next : List Entry) (feeds nexts : List Feeding) (objects rests : List S) (configured_at last moment reading : ℕ) (old settled new : Kept) (r : IsAdded left x reads clock between kept feeds objects configured_at old) (t : TakesTick left x r.entries kept nexts rests last moment old settled) where
+  pub tail_own : settled.tail ≡ t.own
+  tail_own = t.tail ∙ ap (λ (es : List Entry). es ++ t.own) r.empty
+
+  -- the lines of all entries go on with those of the tick's
+  pub told_on : (before more : List ℕ) → IsToldAll x r.entries before → AreTold x.given.host.identifier old.schedule.form settled.tail more → (lines : List ℕ) × (before ≡ x.written ++ lines) × AreTold x.given.host.identifier form.Event (r.entries ++ t.own) (lines ++ more)
+  told_on before more (lines, are, is) ares =
+      (lines, is, told_more x.given.host.identifier form.Event r.entries t.own lines more are own)
     where
-      from_opened : (text : List ℕ) → AreTold x.given.host.identifier before (added ++ t.own) text → AreTold x.given.host.identifier form.Event (added ++ t.own) text
-      from_opened text are =
-          subst (λ (es : List Entry). AreTold x.given.host.identifier form.Event (es ++ t.own) text) (sym begins) (subst (λ (es : List Entry). AreTold x.given.host.identifier before (es ++ t.own) text) begins are)
+      form_now : form_behind form.Event r.entries ≡ old.schedule.form
+      form_now = form_is no_schedule r.entries ∙ ap (λ (d : Schedule). d.form) (r.standing.schedule no_schedule)
+
+      own : AreTold x.given.host.identifier (form_behind form.Event r.entries) t.own more
+      own =
+          subst (λ (f : Form). AreTold x.given.host.identifier f t.own more) (sym form_now) (subst (λ (es : List Entry). AreTold x.given.host.identifier old.schedule.form es more) tail_own ares)
+
+  module _ (taken : new ≡ record settled { tail = [] }) (grown : x.keeper_tells → next ≡ kept ++ settled.tail) (read : reads between reading now) (at : moment ≡ max reading old.counts.moment) where
+    standing_now : Standing left x (r.entries ++ t.own) next nexts rests last new
+    standing_now =
+        standing_behind left x reads clock now kept next nexts rests last moment old settled new r.entries t taken grown
+
+    pub added_on : IsAdded left x reads clock now next nexts rests last new
+    added_on = record {
+      reading = r.reading;
+      readings = r.readings ++ reading ∷ [];
+      entries = r.entries ++ t.own;
+      read = reads_more reads clock between now (r.reading ∷ r.readings) reading r.read read;
+      standing = standing_now;
+      empty = ap (λ (k : Kept). k.tail) taken;
+      session = λ tells sources legal.
+          let same : moment ≡ max reading (moment_of (x.start ++ r.entries)) = at ∙ ap (max reading) (sym (moment_is left x r.entries kept feeds objects configured_at old r.standing tells legal)) in
+          session_more x.given x.start r.reading r.readings reading r.entries t.own (r.session tells sources legal) (subst (λ (m : ℕ). Ticks x.given (x.start ++ r.entries) m t.own) same (t.ticks tells sources legal)) (values left x (r.entries ++ t.own) next nexts rests last new standing_now tells legal).legal;
+      full = full_behind left x reads clock now kept next nexts rests last moment old settled new r.entries t taken grown;
+    }
+
+    pub ran_on : (before written : List ℕ) → (x.sink_tells → IsToldAll x r.entries before) → (x.sink_tells → (more : List ℕ) × AreTold x.given.host.identifier old.schedule.form settled.tail more × (written ≡ before ++ more)) → IsRunning left x reads clock now next written nexts rests last new
+    unfolding added_on
+    ran_on before written told more = record {
+      added = added_on;
+      told = λ tells.
+          let (text, ares, is) = more tells in
+          let (lines, was, all) = told_on before text (told tells) ares in
+          (lines ++ text, all, is ∙ ap (λ (front : List ℕ). front ++ text) was ∙ append_assoc x.written lines text);
+    }
+
+-- what is kept where nothing was sealed
+pub none_kept : (x : Fixed) (has_read : List ℕ → Type 0) (readings : List ℕ) (kept : List Entry) → has_read readings → length readings ≤ 1 → (x.keeper_tells → kept ≡ x.start) → IsKept x has_read kept
+none_kept x has_read readings kept read few same = record {
+  readings = [];
+  more = readings;
+  entries = [];
+  read = read;
+  few = few;
+  grows = record { grown = λ tells. same tells ∙ sym (append-nil x.start); adds = λ tells sources legal. refl };
+}
+
+module _ {S C : Type 0} (left : S → List ℕ) (x : Fixed) (reads : C → ℕ → C → Type 0) (clock now : C) (kept : List Entry) (feeds : List Feeding) (objects : List S) (last : ℕ) (s : Kept) (r : IsAdded left x reads clock now kept feeds objects last s) where
+  pub grows : Grows x kept (r.reading ∷ r.readings) r.entries
+  grows = record { grown = all_kept left x r.entries kept feeds objects last s r.standing r.empty; adds = r.session }
+
+  -- what is kept behind a tick
+  pub all_is_kept : IsKept x (λ readings. ReadsAll reads clock readings now) kept
+  all_is_kept = record {
+    readings = r.reading ∷ r.readings;
+    more = [];
+    entries = r.entries;
+    read = subst (λ (rs : List ℕ). ReadsAll reads clock rs now) (sym (append-nil (r.reading ∷ r.readings))) r.read;
+    few = omega arith;
+    grows = grows;
+  }
+
+  -- it is still kept where the next tick isn't, for which the clock was read once more
+  pub still_kept : (reading : ℕ) (after : C) (list : List Entry) → reads now reading after → list ≡ kept → IsKept x (λ readings. ReadsAll reads clock readings after) list
+  still_kept reading after list read same = record {
+    readings = r.reading ∷ r.readings;
+    more = reading ∷ [];
+    entries = r.entries;
+    read = reads_more reads clock now after (r.reading ∷ r.readings) reading r.read read;
+    few = omega arith;
+    grows = record { grown = λ tells. same ∙ all_kept left x r.entries kept feeds objects last s r.standing r.empty tells; adds = r.session };
+  }
+
+-- the results where nothing was written
+pub none_written : (x : Fixed) (kept : List Entry) (written : List ℕ) → (x.keeper_tells → (more : List Entry) × (kept ≡ x.start ++ more)) → written ≡ x.written → IsWritten x kept written
+none_written x kept written kept_are same =
+    record { entries = []; kept_are = kept_are; lines = []; told = refl; count = 0; written_is = same ∙ sym (append-nil x.written) }
+
+-- where the lines of these entries were written whole, and the list has more since
+pub all_written : (x : Fixed) (kept entries : List Entry) (written : List ℕ) → (x.keeper_tells → (more : List Entry) × (kept ≡ x.start ++ (entries ++ more))) → IsToldAll x entries written → IsWritten x kept written
+all_written x kept entries written kept_are (lines, are, is) =
+    record { entries = entries; kept_are = kept_are; lines = lines; told = are; count = length lines; written_is = is ∙ ap (λ (text : List ℕ). x.written ++ text) (sym (take-length lines)) }
+
+-- where behind them a front part of the lines of a tick was written
+pub partly_written : (x : Fixed) (kept entries : List Entry) (written lines more : List ℕ) (count : ℕ) → (x.keeper_tells → kept ≡ x.start ++ entries) → AreTold x.given.host.identifier form.Event entries (lines ++ more) → written ≡ (x.written ++ lines) ++ take count more → IsWritten x kept written
+partly_written x kept entries written lines more count kept_are are is = record {
+  entries = entries;
+  kept_are = λ tells. ([], kept_are tells ∙ ap (λ (es : List Entry). x.start ++ es) (sym (append-nil entries)));
+  lines = lines ++ more;
+  told = are;
+  count = length lines + count;
+  written_is = is ∙ append_assoc x.written lines (take count more) ∙ ap (λ (text : List ℕ). x.written ++ text) (sym (take-append-add lines more count));
+}

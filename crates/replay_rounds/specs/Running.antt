@@ -42,8 +42,7 @@ pub record IsKept (x : Fixed) (has_read : List ℕ → Type 0) (kept : List Entr
 -- However it ends, the results have grown by a front part of the lines of entries that are kept.
 pub record IsWritten (x : Fixed) (kept : List Entry) (written : List ℕ) : Type 0 where
   pub entries : List Entry
-  pub more : List Entry
-  pub kept_are : x.keeper_tells → kept ≡ x.start ++ (entries ++ more)
+  pub kept_are : x.keeper_tells → (more : List Entry) × (kept ≡ x.start ++ (entries ++ more))
   pub lines : List ℕ
   pub told : AreTold x.given.host.identifier form.Event entries lines
   pub count : ℕ
