@@ -1,3 +1,7 @@
 pub mod Answered
+pub mod Ended
+pub mod Running
+pub mod Sessions
 pub mod Stepped
+pub mod Tellings
 pub mod Ticked

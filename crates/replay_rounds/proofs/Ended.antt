@@ -1,0 +1,49 @@
+-- How a session that ran all its ticks left its sources.
+use Rattle.std.proofs.Common.{◌≡◌, ℕ, suc, Bool, true, false, ◌&&◌, List, [], ◌∷◌, ◌++◌, refl, sym, ap, ◌∙◌, arith}
+use Rattle.std.specs.Prelude.{All, Contains}
+use Rattle.std.specs.List.{list_all}
+use Rattle.std.proofs.lemmas.List.Elements.{All-cons, All-nil}
+use Rattle.osq_value.specs.declared.reading.Category.{Category}
+use Rattle.publisher_core.specs.Standing.{is_at_end}
+use Rattle.source_feeds.specs.Feeding.{Feeding}
+use Rattle.entry_model.specs.declared.entry.Entry.{Entry}
+use Rattle.session_model.specs.Given.{Given, Source}
+use Rattle.session_model.specs.Taking.{IsReadWhole}
+use Rattle.replay_rounds.specs.Sources.{AreFed, AreFullOrOver, IsFull}
+
+abbrev pub all_over : List Feeding → Bool
+all_over feeds = list_all (λ (feed : Feeding). is_at_end feed.reader) feeds
+
+both : (a b : Bool) → (a && b) ≡ true → (a ≡ true) × (b ≡ true)
+both true b h = (refl, h)
+both false b h = absurd (cc)
+
+-- where each feed is at its end, each source is read whole
+pub all_whole : {S : Type 0} (tells : Type 0) (left : S → List ℕ) (paths : List Category) (start now : List Entry) (sources : List Source) (feeds : List Feeding) (objects : List S) → tells → AreFed tells left paths start now sources feeds objects → all_over feeds ≡ true → All (IsReadWhole start now) sources
+all_whole tells left paths start now [] feeds objects told fed over = All-nil (IsReadWhole start now)
+all_whole tells left paths start now (source ∷ sources) [] objects told fed over = absurd fed
+all_whole tells left paths start now (source ∷ sources) (feed ∷ feeds) [] told fed over = absurd fed
+all_whole tells left paths start now (source ∷ sources) (feed ∷ feeds) (object ∷ objects) told fed over =
+    let (here, rest) = both (is_at_end feed.reader) (all_over feeds) over in
+    All-cons (IsReadWhole start now) source sources (fed.0.over told here) (all_whole tells left paths start now sources feeds objects told fed.1 rest)
+
+here : {X : Type 0} (x : X) (xs : List X) → Contains (x ∷ xs) x
+here x xs = (0, omega arith, refl)
+
+later : {X : Type 0} (y : X) (xs : List X) (x : X) → Contains xs x → Contains (y ∷ xs) x
+later y xs x (i, within, is) = (suc i, omega (arith, within), is)
+
+-- where one isn't, its source gave a full step
+pub one_full : {S : Type 0} (tells : Type 0) (left : S → List ℕ) (paths : List Category) (start now : List Entry) (given : Given) (kept : List Entry) (sources : List Source) (feeds : List Feeding) (objects : List S) → AreFed tells left paths start now sources feeds objects → AreFullOrOver given kept sources feeds → all_over feeds ≡ false → (source : Source) × Contains sources source × IsFull given kept source
+one_full tells left paths start now given kept [] [] objects fed full over = absurd (cc)
+one_full tells left paths start now given kept [] (feed ∷ feeds) objects fed full over = absurd fed
+one_full tells left paths start now given kept (source ∷ sources) [] objects fed full over = absurd fed
+one_full tells left paths start now given kept (source ∷ sources) (feed ∷ feeds) [] fed full over = absurd fed
+one_full tells left paths start now given kept (source ∷ sources) (feed ∷ feeds) (object ∷ objects) fed full over =
+    by_end (is_at_end feed.reader) refl (one_full tells left paths start now given kept sources feeds objects fed.1 full.1)
+  where
+    by_end : (b : Bool) → is_at_end feed.reader ≡ b → (all_over feeds ≡ false → (s : Source) × Contains sources s × IsFull given kept s) → (s : Source) × Contains (source ∷ sources) s × IsFull given kept s
+    by_end false e further = (source, here source sources, full.0 e)
+    by_end true e further =
+        let (found, among, is) = further (sym (ap (λ (b : Bool). b && all_over feeds) e) ∙ over) in
+        (found, later source sources found among, is)
