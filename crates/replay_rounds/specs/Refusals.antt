@@ -1,37 +1,43 @@
 -- The same refusal, as a run answers it, and the numbers of a state.
-use Rattle.std.specs.Prelude.{ℕ}
 use Rattle.session_state.specs.Kept.{Kept}
+use Rattle.daemon_rounds.specs.declared.error.FinishError.{FinishError}
+use Rattle.daemon_rounds.specs.declared.error.FinishError.TheVariants as finish
 use Rattle.daemon_rounds.specs.declared.error.OpenError.{OpenError}
 use Rattle.daemon_rounds.specs.declared.error.OpenError.TheVariants as opening
+use Rattle.daemon_rounds.specs.declared.error.TakeError.{TakeError}
+use Rattle.daemon_rounds.specs.declared.error.TakeError.TheVariants as taking
 use Rattle.replay_rounds.specs.declared.loading.LoadError.{LoadError}
 use Rattle.replay_rounds.specs.declared.loading.LoadError.TheVariants as loading
-use Rattle.replay_rounds.specs.declared.running.Numbers.{Numbers}
-use Rattle.replay_rounds.specs.declared.running.RunError.{RunError}
-use Rattle.replay_rounds.specs.declared.running.RunError.TheVariants as running
-use Rattle.replay_rounds.specs.declared.ticking.TickError.{TickError}
-use Rattle.replay_rounds.specs.declared.ticking.TickError.TheVariants as ticking
+use Rattle.replay_rounds.specs.declared.refused.Numbers.{Numbers}
+use Rattle.replay_rounds.specs.declared.refused.RunError.{RunError}
+use Rattle.replay_rounds.specs.declared.refused.RunError.TheVariants as run
 
 -- of values that aren't loaded
 abbrev pub unloaded_by : LoadError → RunError
-unloaded_by loading.KeeperFault = running.KeeperFault
-unloaded_by loading.KeeperRefused = running.KeeperRefused
-unloaded_by loading.NoMemory = running.NoMemory
+unloaded_by loading.KeeperFault = run.KeeperFault
+unloaded_by loading.KeeperRefused = run.KeeperRefused
+unloaded_by loading.NoMemory = run.NoMemory
 
 -- of a session that isn't open
 abbrev pub unopened_by : OpenError → RunError
-unopened_by (opening.MomentTooLarge moment) = running.MomentTooLarge moment
-unopened_by (opening.SourceFault place) = running.SourceFault place
-unopened_by (opening.SourceShrank place kept found) = running.SourceShrank place kept found
-unopened_by opening.NumbersSpent = running.NumbersSpent
-unopened_by opening.NoMemory = running.NoMemory
+unopened_by (opening.MomentTooLarge moment) = run.MomentTooLarge moment
+unopened_by (opening.SourceFault place) = run.SourceFault place
+unopened_by (opening.SourceShrank place kept found) = run.SourceShrank place kept found
+unopened_by opening.NumbersSpent = run.NumbersSpent
+unopened_by opening.NoMemory = run.NoMemory
 
--- of a tick that isn't done
-abbrev pub unticked_by : TickError → RunError
-unticked_by (ticking.SourceFault place) = running.SourceFault place
-unticked_by ticking.NumbersSpent = running.NumbersSpent
-unticked_by ticking.KeeperFault = running.KeeperFault
-unticked_by ticking.SinkFault = running.SinkFault
-unticked_by ticking.NoMemory = running.NoMemory
+-- of a tick that isn't filled
+abbrev pub unfilled_by : TakeError → RunError
+unfilled_by (taking.SourceFault place) = run.SourceFault place
+unfilled_by taking.NumbersSpent = run.NumbersSpent
+unfilled_by taking.NoMemory = run.NoMemory
+
+-- of a tick that isn't finished
+abbrev pub unfinished_by : FinishError → RunError
+unfinished_by finish.NumbersSpent = run.NumbersSpent
+unfinished_by finish.KeeperFault = run.KeeperFault
+unfinished_by finish.SinkFault = run.SinkFault
+unfinished_by finish.NoMemory = run.NoMemory
 
 -- the numbers of a state
 abbrev pub numbers_of : Kept → Numbers

@@ -2,9 +2,11 @@
 #![tactic(auto)]
 
 mod loading;
+pub mod refused;
 pub mod running;
 mod ticking;
 
 pub use loading::{LoadError, load_values};
-pub use running::{Ended, Numbers, Refused, RunError, run_session};
-pub use ticking::{TickError, take_tick};
+pub use refused::{Numbers, Refused, RunError};
+pub use running::{Ended, run_session};
+pub use ticking::take_tick;

@@ -1,61 +1,31 @@
 //! A whole session.
 
-ghost use Rattle.std.specs.Prelude.{◌≡◌, ◌<◌, ◌≤◌, ◌⊎◌, ℕ, length, bytes_eq, Err, IfOk};
+ghost use Rattle.std.specs.Prelude.{◌≡◌, ◌<◌, ◌≤◌, ◌⊎◌, ℕ, length, bytes_eq, [], ◌∷◌, ◌++◌, List, Err, IfOk, IfErr};
 ghost use Rattle.config_files.specs.Configurations.{IsConfigOf};
 ghost use Rattle.osq_config.specs.Bounds.{IsBounded};
 ghost use Rattle.osq_outside.specs.Causes.{Rose};
 ghost use Rattle.entry_model.specs.Fits.{Fits, IsDistinct};
 ghost use Rattle.entry_model.specs.Legal.{Legal};
 ghost use Rattle.entry_model.specs.Summary.{summary};
+ghost use Rattle.daemon_rounds.specs.Moments.{IsRead};
 ghost use Rattle.daemon_rounds.specs.Rounding.{FailsAt};
 ghost use Rattle.daemon_rounds.specs.Starting.{HasShrunk, source_names};
 ghost use Rattle.replay_rounds.specs.Fixed.{fixed_of};
 ghost use Rattle.replay_rounds.specs.Running.{HasRun, IsKept, IsWritten, ReadsAll};
-ghost use Rattle.replay_rounds.specs.Refusals.{numbers_of, unloaded_by, unopened_by, unticked_by};
-ghost use Rattle.replay_rounds.specs.declared.running.Refused.{Refused};
-ghost use Rattle.replay_rounds.specs.declared.running.RunError.{RunError};
+ghost use Rattle.replay_rounds.specs.declared.refused.Refused.{Refused};
+ghost use Rattle.replay_rounds.specs.declared.refused.RunError.{RunError};
 
-use crate::loading::{LoadError, load_values};
-use crate::ticking::{TickError, take_tick};
+use crate::loading::load_values;
+use crate::refused::{Numbers, Refused, RunError, numbers_of, unloaded, unopened};
+use crate::ticking::take_tick;
 use batch_keeper::Keeper;
 use config_files::Configured;
 use daemon_rounds::setup::Setup;
-use daemon_rounds::{MomentTooLarge, OpenError, Session, open_session, read_moment};
+use daemon_rounds::{MomentTooLarge, Session, open_session, read_moment};
 use entry_model::restored::Restored;
 use osq_outside::{Clock, Sink, Source};
 use session_state::State;
-use source_feeds::Feed;
 use std::alloc::Global;
-
-/// Why a session ends before its last tick is done.
-#[derive(Clone, Copy, PartialEq, Eq, Debug)]
-pub enum RunError {
-    /// The keeper failed: at a seal it has all entries of the tick, or none.
-    KeeperFault,
-    /// The keeper gave values that no session may go on from.
-    KeeperRefused,
-    /// The clock gave this moment, which is beyond the year 9999.
-    MomentTooLarge { moment: u64 },
-    /// The source at this place failed.
-    SourceFault { place: usize },
-    /// The source at this place ended after `found` bytes, before the `kept` bytes that earlier sessions took of it.
-    SourceShrank { place: usize, kept: u64, found: u64 },
-    /// The next event's or the next batch's number would pass 2^62.
-    NumbersSpent,
-    /// The entries of the tick are kept, and a front part of their lines was written.
-    SinkFault,
-    NoMemory,
-}
-
-/// The numbers of a kept list.
-#[derive(Clone, Copy, PartialEq, Eq, Debug)]
-pub struct Numbers {
-    /// The number of the last event, or 0.
-    pub events: u64,
-    pub batches: u64,
-    /// Up to which number the collector has the batches, or 0.
-    pub acknowledged: u64,
-}
 
 /// A session that ran all its ticks.
 #[derive(Clone, Copy, PartialEq, Eq, Debug)]
@@ -64,64 +34,6 @@ pub struct Ended {
     pub is_end: bool,
     /// Those of the kept list behind it.
     pub numbers: Numbers,
-}
-
-/// A session that ended before.
-#[derive(Clone, Copy, PartialEq, Eq, Debug)]
-pub struct Refused {
-    pub error: RunError,
-    /// Those of the kept list as it was loaded or last sealed, where it was loaded.
-    pub numbers: Option<Numbers>,
-}
-
-/// The same answer to values that aren't loaded.
-fn unloaded(error: LoadError) -> RunError
-    ensures { result ≡ unloaded_by error }
-{
-    match error {
-        LoadError::KeeperFault => RunError::KeeperFault,
-        LoadError::KeeperRefused => RunError::KeeperRefused,
-        LoadError::NoMemory => RunError::NoMemory,
-    }
-}
-
-/// The same answer to a session that isn't open.
-fn unopened(error: OpenError) -> RunError
-    ensures { result ≡ unopened_by error }
-{
-    match error {
-        OpenError::MomentTooLarge { moment } => RunError::MomentTooLarge { moment },
-        OpenError::SourceFault { place } => RunError::SourceFault { place },
-        OpenError::SourceShrank { place, kept, found } => {
-            RunError::SourceShrank { place, kept, found }
-        }
-        OpenError::NumbersSpent => RunError::NumbersSpent,
-        OpenError::NoMemory => RunError::NoMemory,
-    }
-}
-
-/// The same answer to a tick that isn't done.
-fn unticked(error: TickError) -> RunError
-    ensures { result ≡ unticked_by error }
-{
-    match error {
-        TickError::SourceFault { place } => RunError::SourceFault { place },
-        TickError::NumbersSpent => RunError::NumbersSpent,
-        TickError::KeeperFault => RunError::KeeperFault,
-        TickError::SinkFault => RunError::SinkFault,
-        TickError::NoMemory => RunError::NoMemory,
-    }
-}
-
-/// The numbers that the state has.
-fn numbers_of(state: &State) -> Numbers
-    ensures { result ≡ numbers_of state.now }
-{
-    Numbers {
-        events: state.last_number(),
-        batches: state.batch_count(),
-        acknowledged: state.acknowledged(),
-    }
 }
 
 /// The numbers of these values.
@@ -133,59 +45,18 @@ fn numbers_in(restored: &Restored) -> Numbers {
     }
 }
 
-/// The answer to a tick that isn't done: its entries are kept where only their lines could not be written.
-fn ended_by(error: TickError, state: &State, sealed: Numbers) -> Refused
-    ensures { result.error ≡ unticked_by error }
+/// The moment of the next tick: the clock is read once, and it is its reading, or the last moment, whichever is later.
+fn next_moment<C: Clock>(clock: &mut C, state: &State) -> Result<u64, Refused>
+    ensures read { IfOk result (λ moment. IsRead C.reads clock.old clock.new state.now.counts.moment moment) }
+    ensures beyond { IfErr result (λ refused. (moment : ℕ) × (refused.error ≡ RunError.MomentTooLarge moment) × C.reads clock.old moment clock.new × (253402300799 < moment)) }
 {
-    let numbers = match error {
-        TickError::SinkFault => numbers_of(state),
-        _ => sealed,
-    };
-    Refused {
-        error: unticked(error),
-        numbers: Some(numbers),
+    match read_moment(clock, state.moment()) {
+        Ok(moment) => Ok(moment),
+        Err(MomentTooLarge { moment }) => Err(Refused {
+            error: RunError::MomentTooLarge { moment },
+            numbers: Some(numbers_of(state)),
+        }),
     }
-}
-
-/// The ticks of an open session: the first at the moment of its opening, and each further one at the clock's next reading.
-fn take_ticks<S: Source, K: Keeper, O: Sink, C: Clock>(
-    alloc: Global,
-    setup: &Setup,
-    configured: &Configured,
-    state: &mut State,
-    feeds: &mut [Feed],
-    clock: &mut C,
-    sources: &mut [S],
-    keeper: &mut K,
-    results: &mut O,
-    opened_at: u64,
-    kept: Numbers,
-) -> Result<(), Refused> {
-    let mut last = match take_tick(
-        alloc, setup, configured, state, feeds, sources, keeper, results, opened_at, opened_at,
-    ) {
-        Ok(last) => last,
-        Err(error) => return Err(ended_by(error, state, kept)),
-    };
-    for _ in 1..setup.ticks {
-        let sealed = numbers_of(state);
-        let moment = match read_moment(clock, state.moment()) {
-            Ok(moment) => moment,
-            Err(MomentTooLarge { moment }) => {
-                return Err(Refused {
-                    error: RunError::MomentTooLarge { moment },
-                    numbers: Some(sealed),
-                });
-            }
-        };
-        last = match take_tick(
-            alloc, setup, configured, state, feeds, sources, keeper, results, last, moment,
-        ) {
-            Ok(last) => last,
-            Err(error) => return Err(ended_by(error, state, sealed)),
-        };
-    }
-    Ok(())
 }
 
 /// Runs a whole session behind the keeper's list: it is loaded, the session opens, and all ticks are run, each of which is sealed by itself and then
@@ -218,12 +89,7 @@ pub fn run_session<S: Source, K: Keeper, O: Sink, C: Clock>(
 {
     let restored = match load_values(alloc, keeper) {
         Ok(restored) => restored,
-        Err(error) => {
-            return Err(Refused {
-                error: unloaded(error),
-                numbers: None,
-            });
-        }
+        Err(error) => return Err(unloaded(error)),
     };
     let kept = numbers_in(&restored);
     let Session {
@@ -232,26 +98,28 @@ pub fn run_session<S: Source, K: Keeper, O: Sink, C: Clock>(
         configured_at,
     } = match open_session(alloc, setup, configured, restored, clock, sources) {
         Ok(session) => session,
-        Err(error) => {
-            return Err(Refused {
-                error: unopened(error),
-                numbers: Some(kept),
-            });
-        }
+        Err(error) => return Err(unopened(error, kept)),
     };
-    take_ticks(
+    let feeds = feeds.as_mut_slice();
+    let mut last = take_tick(
         alloc,
         setup,
         configured,
         &mut state,
-        feeds.as_mut_slice(),
-        clock,
+        feeds,
         sources,
         keeper,
         results,
         configured_at,
-        kept,
+        configured_at,
     )?;
+    for _ in 1..setup.ticks {
+        let moment = next_moment(clock, &state)?;
+        last = take_tick(
+            alloc, setup, configured, &mut state, feeds, sources, keeper, results, last, moment,
+        )?;
+    }
+    state.is_state();
     Ok(Ended {
         is_end: feeds.iter().all(|feed| feed.at_end()),
         numbers: numbers_of(&state),

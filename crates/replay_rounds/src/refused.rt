@@ -1,0 +1,123 @@
+//! Why a session ends before its last tick is done.
+
+ghost use Rattle.std.specs.Prelude.{◌≡◌};
+ghost use Rattle.replay_rounds.specs.Refusals.{numbers_of, unloaded_by, unopened_by, unfilled_by, unfinished_by};
+
+use crate::loading::LoadError;
+use daemon_rounds::{FinishError, OpenError, TakeError};
+use session_state::State;
+
+/// Why a session ends before its last tick is done.
+#[derive(Clone, Copy, PartialEq, Eq, Debug)]
+pub enum RunError {
+    /// The keeper failed: at a seal it has all entries of the tick, or none.
+    KeeperFault,
+    /// The keeper gave values that no session may go on from.
+    KeeperRefused,
+    /// The clock gave this moment, which is beyond the year 9999.
+    MomentTooLarge { moment: u64 },
+    /// The source at this place failed.
+    SourceFault { place: usize },
+    /// The source at this place ended after `found` bytes, before the `kept` bytes that earlier sessions took of it.
+    SourceShrank { place: usize, kept: u64, found: u64 },
+    /// The next event's or the next batch's number would pass 2^62.
+    NumbersSpent,
+    /// The entries of the tick are kept, and a front part of their lines was written.
+    SinkFault,
+    NoMemory,
+}
+
+/// The numbers of a kept list.
+#[derive(Clone, Copy, PartialEq, Eq, Debug)]
+pub struct Numbers {
+    /// The number of the last event, or 0.
+    pub events: u64,
+    pub batches: u64,
+    /// Up to which number the collector has the batches, or 0.
+    pub acknowledged: u64,
+}
+
+/// A session that ended before its last tick was done.
+#[derive(Clone, Copy, PartialEq, Eq, Debug)]
+pub struct Refused {
+    pub error: RunError,
+    /// Those of the kept list as it was loaded or last sealed, where it was loaded.
+    pub numbers: Option<Numbers>,
+}
+
+/// The numbers that the state has.
+pub(crate) fn numbers_of(state: &State) -> Numbers
+    ensures { result ≡ numbers_of state.now }
+{
+    Numbers {
+        events: state.last_number(),
+        batches: state.batch_count(),
+        acknowledged: state.acknowledged(),
+    }
+}
+
+/// The answer to values that aren't loaded.
+pub(crate) fn unloaded(error: LoadError) -> Refused
+    ensures { result.error ≡ unloaded_by error }
+{
+    let error = match error {
+        LoadError::KeeperFault => RunError::KeeperFault,
+        LoadError::KeeperRefused => RunError::KeeperRefused,
+        LoadError::NoMemory => RunError::NoMemory,
+    };
+    Refused {
+        error,
+        numbers: None,
+    }
+}
+
+/// The answer to a session that isn't open, over a kept list of these numbers.
+pub(crate) fn unopened(error: OpenError, kept: Numbers) -> Refused
+    ensures { result.error ≡ unopened_by error }
+{
+    let error = match error {
+        OpenError::MomentTooLarge { moment } => RunError::MomentTooLarge { moment },
+        OpenError::SourceFault { place } => RunError::SourceFault { place },
+        OpenError::SourceShrank { place, kept, found } => {
+            RunError::SourceShrank { place, kept, found }
+        }
+        OpenError::NumbersSpent => RunError::NumbersSpent,
+        OpenError::NoMemory => RunError::NoMemory,
+    };
+    Refused {
+        error,
+        numbers: Some(kept),
+    }
+}
+
+/// The answer to a tick that isn't filled, over a kept list of these numbers.
+pub(crate) fn unfilled(error: TakeError, sealed: Numbers) -> Refused
+    ensures { result.error ≡ unfilled_by error }
+{
+    let error = match error {
+        TakeError::SourceFault { place } => RunError::SourceFault { place },
+        TakeError::NumbersSpent => RunError::NumbersSpent,
+        TakeError::NoMemory => RunError::NoMemory,
+    };
+    Refused {
+        error,
+        numbers: Some(sealed),
+    }
+}
+
+/// The answer to a tick that isn't finished, over a kept list of these numbers: where only its lines could not be written, the list has the
+/// numbers of the state.
+pub(crate) fn unfinished(error: FinishError, state: &State, sealed: Numbers) -> Refused
+    ensures { result.error ≡ unfinished_by error }
+{
+    let (error, numbers) = match error {
+        FinishError::NumbersSpent => (RunError::NumbersSpent, sealed),
+        FinishError::KeeperFault => (RunError::KeeperFault, sealed),
+        FinishError::SinkFault => (RunError::SinkFault, numbers_of(state)),
+        FinishError::NoMemory => (RunError::NoMemory, sealed),
+    };
+    Refused {
+        error,
+        numbers: Some(numbers),
+    }
+}
