@@ -1,4 +1,5 @@
 pub mod Answered
+pub mod Done
 pub mod Ended
 pub mod Running
 pub mod Sessions
