@@ -1,6 +1,10 @@
 pub mod Answered
+pub mod Begun
 pub mod Done
 pub mod Ended
+pub mod Feeds
+pub mod Nothing
+pub mod Passed
 pub mod Running
 pub mod Sessions
 pub mod Stepped
