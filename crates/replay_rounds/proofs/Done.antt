@@ -19,7 +19,7 @@ use Rattle.replay_rounds.specs.Running.{HasMore, HasRun, ReadsAll}
 use Rattle.replay_rounds.specs.Standing.{IsReady}
 use Rattle.replay_rounds.specs.declared.refused.Numbers.{Numbers}
 use Rattle.replay_rounds.specs.declared.running.Ended.{Ended}
-use Rattle.replay_rounds.proofs.Ended.{all_over, all_whole, one_full}
+use Rattle.replay_rounds.proofs.Ended.{all_over, all_present, all_whole, one_full}
 use Rattle.replay_rounds.proofs.Running.{IsFullTick, IsRunning, all_kept, grows, values}
 
 module _ {S C : Type 0} (left : S → List ℕ) (x : Fixed) (reads : C → ℕ → C → Type 0) (clock now : C) (kept : List Entry) (written : List ℕ) (feeds : List Feeding) (objects : List S) (last : ℕ) (s : Kept) (r : IsRunning left x reads clock now kept written feeds objects last s) (is : IsState s) (ready : IsReady feeds last s) (coverage : Coverage) where
@@ -57,6 +57,7 @@ module _ {S C : Type 0} (left : S → List ℕ) (x : Fixed) (reads : C → ℕ �
     events = λ tells legal. ap (λ (n : Numbers). n.events) numbers ∙ (has tells legal).image.last;
     batches = λ tells legal. ap (λ (n : Numbers). n.batches) numbers ∙ sym (ap (λ (c : Counts). c.batches) (has tells legal).counts);
     acknowledged = λ tells legal. ap (λ (n : Numbers). n.acknowledged) numbers ∙ sym (ap (λ (c : Counts). c.acked) (has tells legal).counts);
+    present = λ tells sources. all_present x.source_tells left x.given.config.categories x.start (x.start ++ r.added.entries) x.given.sources feeds objects sources (r.added.standing.fed tells);
     whole = λ tells sources legal ended_all.
         subst (λ (list : List Entry). All (IsReadWhole x.start list) x.given.sources) (sym (list_is tells)) (all_whole x.source_tells left x.given.config.categories x.start (x.start ++ r.added.entries) x.given.sources feeds objects sources (r.added.standing.fed tells) (sym over ∙ ended_all));
     more = λ tells sources legal ended_not. has_more tells sources legal (sym over ∙ ended_not);

@@ -1,5 +1,5 @@
 -- How a session that ran all its ticks left its sources.
-use Rattle.std.proofs.Common.{◌≡◌, ℕ, suc, Bool, true, false, ◌&&◌, List, [], ◌∷◌, ◌++◌, refl, sym, ap, ◌∙◌, arith}
+use Rattle.std.proofs.Common.{◌≡◌, ℕ, suc, ◌≤◌, Bool, true, false, ◌&&◌, List, [], ◌∷◌, ◌++◌, length, refl, sym, ap, ◌∙◌, arith, length-append}
 use Rattle.std.specs.Prelude.{All, Contains}
 use Rattle.std.specs.List.{list_all}
 use Rattle.std.proofs.lemmas.List.Elements.{All-cons, All-nil}
@@ -7,6 +7,7 @@ use Rattle.osq_value.specs.declared.reading.Category.{Category}
 use Rattle.publisher_core.specs.Standing.{is_at_end}
 use Rattle.source_feeds.specs.Feeding.{Feeding}
 use Rattle.entry_model.specs.declared.entry.Entry.{Entry}
+use Rattle.entry_model.specs.Values.{taken_from}
 use Rattle.session_model.specs.Given.{Given, Source}
 use Rattle.session_model.specs.Taking.{IsReadWhole}
 use Rattle.replay_rounds.specs.Sources.{AreFed, AreFullOrOver, IsFull}
@@ -26,6 +27,19 @@ all_whole tells left paths start now (source ∷ sources) (feed ∷ feeds) [] to
 all_whole tells left paths start now (source ∷ sources) (feed ∷ feeds) (object ∷ objects) told fed over =
     let (here, rest) = both (is_at_end feed.reader) (all_over feeds) over in
     All-cons (IsReadWhole start now) source sources (fed.0.over told here) (all_whole tells left paths start now sources feeds objects told fed.1 rest)
+
+-- each source has the bytes that were dropped
+pub all_present : {S : Type 0} (tells : Type 0) (left : S → List ℕ) (paths : List Category) (start now : List Entry) (sources : List Source) (feeds : List Feeding) (objects : List S) → tells → AreFed tells left paths start now sources feeds objects → All (λ (source : Source). taken_from start source.name ≤ length source.bytes) sources
+all_present tells left paths start now [] feeds objects told fed =
+    All-nil (λ (source : Source). taken_from start source.name ≤ length source.bytes)
+all_present tells left paths start now (source ∷ sources) [] objects told fed = absurd fed
+all_present tells left paths start now (source ∷ sources) (feed ∷ feeds) [] told fed = absurd fed
+all_present tells left paths start now (source ∷ sources) (feed ∷ feeds) (object ∷ objects) told fed =
+    let is = fed.0.fed.left told in
+    let size = is.size in
+    let whole = ap length is.bytes in
+    let parts = length-append is.dropped (fed.0.fed.stream ++ left object) in
+    All-cons (λ (source : Source). taken_from start source.name ≤ length source.bytes) source sources (omega (arith, size, whole, parts)) (all_present tells left paths start now sources feeds objects told fed.1)
 
 here : {X : Type 0} (x : X) (xs : List X) → Contains (x ∷ xs) x
 here x xs = (0, omega arith, refl)

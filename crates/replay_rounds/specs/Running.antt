@@ -3,7 +3,7 @@ use Rattle.std.specs.Prelude.{◌≡◌, ℕ, ◌≤◌, true, false, All, Conta
 use Rattle.entry_model.specs.Covered.{Covered}
 use Rattle.entry_model.specs.declared.entry.Entry.{Entry}
 use Rattle.entry_model.specs.Legal.{Legal}
-use Rattle.entry_model.specs.Values.{acked_upto, commits, last_number}
+use Rattle.entry_model.specs.Values.{acked_upto, commits, last_number, taken_from}
 use Rattle.entry_model.specs.Views.{due_queries, is_evented_table, owed_floor}
 use Rattle.pack_rules.specs.declared.schedule.Form.TheVariants as form
 use Rattle.session_model.specs.Given.{Given, Source}
@@ -57,8 +57,8 @@ pub record HasMore (x : Fixed) (kept : List Entry) : Type 0 where
   pub are : kept ≡ before ++ since
   pub full : IsFull x.given before source
 
--- All ticks were run: the list has grown by a session of as many, and the results by its lines; nothing is due, and nothing is to expire. Either
--- every source was read to behind its last line feed, or one of them had more.
+-- All ticks were run: the list has grown by a session of as many, and the results by its lines; nothing is due, and nothing is to expire. Each
+-- source had the bytes that earlier sessions took of it, and either every source was read to behind its last line feed, or one of them had more.
 pub record HasRun (x : Fixed) (has_read : List ℕ → Type 0) (ticks : ℕ) (kept : List Entry) (written : List ℕ) (ended : Ended) : Type 0 where
   pub readings : List ℕ
   pub entries : List Entry
@@ -72,5 +72,6 @@ pub record HasRun (x : Fixed) (has_read : List ℕ → Type 0) (ticks : ℕ) (ke
   pub events : x.keeper_tells → Legal x.start → ended.numbers.events ≡ last_number kept
   pub batches : x.keeper_tells → Legal x.start → ended.numbers.batches ≡ length (commits kept)
   pub acknowledged : x.keeper_tells → Legal x.start → ended.numbers.acknowledged ≡ acked_upto kept
+  pub present : x.keeper_tells → x.source_tells → All (λ (source : Source). taken_from x.start source.name ≤ length source.bytes) x.given.sources
   pub whole : x.keeper_tells → x.source_tells → Legal x.start → ended.is_end ≡ true → All (IsReadWhole x.start kept) x.given.sources
   pub more : x.keeper_tells → x.source_tells → Legal x.start → ended.is_end ≡ false → HasMore x kept
