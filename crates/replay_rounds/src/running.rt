@@ -4,6 +4,7 @@ ghost use Rattle.std.specs.Prelude.{◌≡◌, ◌<◌, ◌≤◌, ◌⊎◌, �
 ghost use Rattle.config_files.specs.Configurations.{IsConfigOf};
 ghost use Rattle.osq_config.specs.Bounds.{IsBounded};
 ghost use Rattle.osq_outside.specs.Causes.{Rose};
+ghost use Rattle.entry_model.specs.declared.restored.Taken.{Taken};
 ghost use Rattle.entry_model.specs.Fits.{Fits, IsDistinct};
 ghost use Rattle.entry_model.specs.Legal.{Legal};
 ghost use Rattle.entry_model.specs.Summary.{summary};
@@ -83,7 +84,7 @@ pub fn run_session<S: Source, K: Keeper, O: Sink, C: Clock>(
     ensures illegal { K.tells → (refused : Refused) → result ≡ Err refused → refused.error ≡ RunError.KeeperRefused → ¬ Legal (K.kept keeper.old) }
     ensures moment { (refused : Refused) (moment : ℕ) → result ≡ Err refused → refused.error ≡ RunError.MomentTooLarge moment → (253402300799 < moment) × ((readings : List ℕ) × ReadsAll C.reads clock.old (readings ++ moment ∷ []) clock.new) }
     ensures fault { (refused : Refused) (place : ℕ) → result ≡ Err refused → refused.error ≡ RunError.SourceFault place → FailsAt S.faults place sources.old sources.new }
-    ensures shrank { K.tells → (refused : Refused) (place kept found : ℕ) → result ≡ Err refused → refused.error ≡ RunError.SourceShrank place kept found → HasShrunk S.tells S.left (summary (K.kept keeper.old)).taken setup.now.sources place kept found sources.old }
+    ensures shrank { (refused : Refused) (place kept found : ℕ) → result ≡ Err refused → refused.error ≡ RunError.SourceShrank place kept found → (taken : List Taken) × (K.tells → taken ≡ (summary (K.kept keeper.old)).taken) × HasShrunk S.tells S.left taken setup.now.sources place kept found sources.old }
     ensures sink_cause { (refused : Refused) → result ≡ Err refused → refused.error ≡ RunError.SinkFault → Rose (O.faults results.old) (O.faults results.new) }
     ensures later { (K.faults keeper.old ≤ K.faults keeper.new) × (O.faults results.old ≤ O.faults results.new) }
 {
