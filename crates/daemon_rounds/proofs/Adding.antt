@@ -1,7 +1,7 @@
 -- What a state gains by entries, one after another.
-use Rattle.std.proofs.Common.{◌≡◌, ℕ, List, [], ◌∷◌, ◌++◌, Some, None, refl, sym, ap, ◌∙◌, subst, append_assoc}
-use Rattle.std.specs.Prelude.{true}
+use Rattle.std.proofs.Common.{◌≡◌, ℕ, Bool, false, List, [], ◌∷◌, ◌++◌, replicate, refl, sym, ap, ◌∙◌, subst, append_assoc}
 use Rattle.std.proofs.lemmas.List.{append-nil}
+use Rattle.std.proofs.lemmas.List.Elements.{All-replicate}
 use Rattle.entry_model.specs.declared.entry.Entry.{Entry}
 use Rattle.entry_model.specs.declared.restored.Restored.{Restored}
 use Rattle.entry_model.specs.Values.{last_of, schedule_in, tick_in}
@@ -12,7 +12,7 @@ use Rattle.pack_rules.specs.declared.schedule.Schedule.{Schedule}
 use Rattle.session_state.specs.Kept.{Counts, Kept, counts_next}
 use Rattle.session_state.specs.Stands.{HasValues, Stands, Adds}
 use Rattle.session_state.specs.Expiries.{Stays, AddsAll}
-use Rattle.daemon_rounds.specs.Adding.{counts_after, Brings}
+use Rattle.daemon_rounds.specs.Adding.{AreFree, Brings, counts_after}
 
 -- a state with the same values, but for its claims and room
 pub record IsLike (s t : Kept) : Type 0 where
@@ -38,8 +38,24 @@ stands_like s t same base added stands = record {
   position = ap (λ (c : Counts). c.position) same.counts ∙ stands.position;
 }
 
-pub brings_none : (s t : Kept) → IsLike s t → Brings s [] t
-brings_none s t same = record {
+-- new claims are free
+pub all_free : (s t : Kept) (count : ℕ) → t.claims ≡ replicate count false → AreFree s.claims → AreFree t.claims
+all_free s t count fresh free = subst AreFree (sym fresh) (All-replicate (λ (claim : Bool). claim ≡ false) count false refl)
+
+-- claims that stay are free where they were
+pub still_free : (s t : Kept) → t.claims ≡ s.claims → AreFree s.claims → AreFree t.claims
+still_free s t same free = subst AreFree (sym same) free
+
+-- what a state gains, whatever becomes of its claims
+record Gains (s : Kept) (entries : List Entry) (t : Kept) : Type 0 where
+  pub stands : (base : Restored) (added : List Entry) → Stands base added s → Stands base (added ++ entries) t
+  pub counts : t.counts ≡ counts_after s.counts entries
+  pub schedule : t.schedule ≡ last_of schedule_in s.schedule entries
+  pub ticked : t.ticked ≡ last_of tick_in s.ticked entries
+  pub tail : t.tail ≡ s.tail ++ entries
+
+gains_none : (s t : Kept) → IsLike s t → Gains s [] t
+gains_none s t same = record {
   stands = λ base added stands. subst (λ (es : List Entry). Stands base es t) (sym (append-nil added)) (stands_like s t same base added stands);
   counts = same.counts;
   schedule = same.schedule;
@@ -47,16 +63,16 @@ brings_none s t same = record {
   tail = same.tail ∙ sym (append-nil s.tail);
 }
 
-pub brings_one : (s t : Kept) (e : Entry) → Adds s e t → Brings s (e ∷ []) t
-brings_one s t e a =
+gains_one : (s t : Kept) (e : Entry) → Adds s e t → Gains s (e ∷ []) t
+gains_one s t e a =
     record { stands = a.stands; counts = a.moves.counts; schedule = a.moves.schedule; ticked = a.moves.ticked; tail = a.moves.tail }
 
 pub counts-append : (c : Counts) (xs ys : List Entry) → counts_after c (xs ++ ys) ≡ counts_after (counts_after c xs) ys
 counts-append c [] ys = refl
 counts-append c (x ∷ xs) ys = counts-append (counts_next c x) xs ys
 
-pub brings_then : (s t u : Kept) (xs ys : List Entry) → Brings s xs t → Brings t ys u → Brings s (xs ++ ys) u
-brings_then s t u xs ys first second = record {
+gains_then : (s t u : Kept) (xs ys : List Entry) → Gains s xs t → Gains t ys u → Gains s (xs ++ ys) u
+gains_then s t u xs ys first second = record {
   stands = λ base added stands. subst (λ (es : List Entry). Stands base es u) (append_assoc added xs ys) (second.stands base (added ++ xs) (first.stands base added stands));
   counts = second.counts ∙ ap (λ (c : Counts). counts_after c ys) first.counts ∙ sym (counts-append s.counts xs ys);
   schedule = second.schedule ∙ ap (λ (d : Schedule). last_of schedule_in d ys) first.schedule ∙ sym (last_of-append schedule_in s.schedule xs ys);
@@ -64,7 +80,33 @@ brings_then s t u xs ys first second = record {
   tail = second.tail ∙ ap (λ (es : List Entry). es ++ ys) first.tail ∙ append_assoc s.tail xs ys;
 }
 
-pub brings_all : (s t : Kept) (es : List Entry) → AddsAll s es t → Brings s es t
-brings_all s t [] h =
-    brings_none s t (record { counts = h.counts; image = h.image; schedule = h.schedule; ticked = h.ticked; marks = h.marks; tail = h.tail })
-brings_all s t (e ∷ es) h = brings_then s h.0 t (e ∷ []) es (brings_one s h.0 e h.1) (brings_all h.0 t es h.2)
+gains_all : (s t : Kept) (es : List Entry) → AddsAll s es t → Gains s es t
+gains_all s t [] h =
+    gains_none s t (record { counts = h.counts; image = h.image; schedule = h.schedule; ticked = h.ticked; marks = h.marks; tail = h.tail })
+gains_all s t (e ∷ es) h = gains_then s h.0 t (e ∷ []) es (gains_one s h.0 e h.1) (gains_all h.0 t es h.2)
+
+gains_of : (s t : Kept) (es : List Entry) → Brings s es t → Gains s es t
+gains_of s t es b =
+    record { stands = b.stands; counts = b.counts; schedule = b.schedule; ticked = b.ticked; tail = b.tail }
+
+with_free : (s t : Kept) (es : List Entry) → Gains s es t → (AreFree s.claims → AreFree t.claims) → Brings s es t
+with_free s t es g free =
+    record { stands = g.stands; counts = g.counts; schedule = g.schedule; ticked = g.ticked; tail = g.tail; free = free }
+
+pub brings_none : (s t : Kept) → IsLike s t → (AreFree s.claims → AreFree t.claims) → Brings s [] t
+brings_none s t same free = with_free s t [] (gains_none s t same) free
+
+-- a state brings nothing to itself
+pub brings_same : (s : Kept) → Brings s [] s
+brings_same s =
+    brings_none s s (record { counts = refl; image = refl; schedule = refl; ticked = refl; marks = refl; tail = refl }) (λ free. free)
+
+pub brings_one : (s t : Kept) (e : Entry) → Adds s e t → (AreFree s.claims → AreFree t.claims) → Brings s (e ∷ []) t
+brings_one s t e a free = with_free s t (e ∷ []) (gains_one s t e a) free
+
+pub brings_then : (s t u : Kept) (xs ys : List Entry) → Brings s xs t → Brings t ys u → Brings s (xs ++ ys) u
+brings_then s t u xs ys first second =
+    with_free s u (xs ++ ys) (gains_then s t u xs ys (gains_of s t xs first) (gains_of t u ys second)) (λ free. second.free (first.free free))
+
+pub brings_all : (s t : Kept) (es : List Entry) → AddsAll s es t → (AreFree s.claims → AreFree t.claims) → Brings s es t
+brings_all s t es h free = with_free s t es (gains_all s t es h) free

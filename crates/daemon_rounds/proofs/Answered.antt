@@ -2,7 +2,7 @@
 use Rattle.std.proofs.Common.{◌≡◌, ℕ, ◌+◌, ◌≤◌, ◌<◌, Bool, true, false, cond, List, [], ◌∷◌, ◌++◌, length, Option, Some, None, refl, sym, ap, ◌∙◌, subst, arith, append_assoc}
 use Rattle.std.specs.Prelude.{All, find, nat_le, nat_lt, set, ◌==◌, ◌^◌, slice_get, option_map, map, IfSome}
 use Rattle.std.proofs.lemmas.Bool.Decides.{nat_tests}
-use Rattle.std.proofs.lemmas.List.{append-nil, map-append}
+use Rattle.std.proofs.lemmas.List.{append-nil}
 use Rattle.std.proofs.lemmas.List.Elements.{All-contains}
 use Rattle.osq_value.specs.declared.value.Value.{Value}
 use Rattle.sql_meaning.specs.Meaning.{is_accepted}
@@ -29,9 +29,10 @@ use Rattle.session_state.specs.Cutting.{next_place, next_cut, cut_at, cut_of, cl
 use Rattle.session_state.specs.Commits.{Commits, committed, commit_refusal, refusal_by}
 use Rattle.session_state.proofs.Cutting.{contains_at, IsAt, at_place, is_next, IsNext}
 use Rattle.session_state.proofs.Rooms.{fewer_due}
-use Rattle.daemon_rounds.specs.Adding.{counts_after, Brings}
-use Rattle.daemon_rounds.specs.Answering.{AnswersDue, AreOwn, IsTellable, committed_all}
-use Rattle.daemon_rounds.proofs.Adding.{IsLike, stands_like, brings_none, brings_then}
+use Rattle.daemon_rounds.specs.Adding.{AreFree, Brings}
+use Rattle.daemon_rounds.specs.Answering.{AnswersFirst, IsTellable}
+use Rattle.daemon_rounds.proofs.Adding.{IsLike, brings_none, stands_like}
+use Rattle.daemon_rounds.proofs.Freed.{freed, next_is}
 
 -- the cut that a state gives is that of a query of its schedule
 pub record IsGiven (s : Kept) (cut : CutValue) : Type 0 where
@@ -116,8 +117,14 @@ module _ (s : Kept) (is : IsState s) (cut : CutValue) (g : IsGiven s cut) (t : K
     abbrev batch : Batch
     batch = batch_of cut (t.counts.batches + 1) rows
 
-    pub brings_batch : Brings s (Committed batch ∷ []) new
-    brings_batch = record {
+    -- the query of the batch is claimed, and then not any more
+    free_after : new.claims ≡ set t.claims cut.place false → AreFree s.claims → AreFree new.claims
+    free_after claims free =
+        let are : new.claims ≡ set (set s.claims g.place true) g.place false = claims ∙ (λ i. set (claimed_is i).claims (g.is i).place false) in
+        subst AreFree (sym are) (freed s.claims g.place free)
+
+    pub brings_batch : new.claims ≡ set t.claims cut.place false → Brings s (Committed batch ∷ []) new
+    brings_batch claims = record {
       stands = λ base added stands.
           let at = c.stands base added [] (cuts base added stands) (subst (λ (es : List Entry). Stands base es t) (sym (append-nil added)) (stands_like s t like base added stands)) in
           subst (λ (es : List Entry). Stands base (es ++ Committed batch ∷ []) new) (append-nil added) at;
@@ -125,6 +132,14 @@ module _ (s : Kept) (is : IsState s) (cut : CutValue) (g : IsGiven s cut) (t : K
       schedule = c.moves.schedule ∙ like.schedule;
       ticked = c.moves.ticked ∙ like.ticked;
       tail = c.moves.tail ∙ ap (λ (es : List Entry). es ++ Committed batch ∷ []) like.tail;
+      free = free_after claims;
+    }
+
+    pub answers_first : AnswersFirst s batch
+    answers_first = record {
+      is = is;
+      now = ap (λ (c : CutValue). c.moment) g.is;
+      first = λ free. (g.place, (g.scheduled, sym (next_is s is free) ∙ g.next, g.stands, key_is));
     }
 
     pub own_place : batch.cut ≡ s.counts.position
@@ -164,46 +179,10 @@ due_claimed s None = refl
 due_claimed s (Some place) = refl
 
 -- where no query is due, none is cut, and nothing is added
-pub none_due : (s t : Kept) → t ≡ claimed_at s (next_place s) → first_due s ≡ None → (first_due t ≡ None) × Brings s [] t
-none_due s t claimed none =
-    (ap first_due claimed ∙ due_claimed s (next_place s) ∙ none, brings_none s t (subst (IsLike s) (sym claimed) (claimed_like s (next_place s))))
-
-count-after : (c : Counts) (batches : List Batch) → (counts_after c (committed_all batches)).position ≡ c.position + length batches
-count-after c [] = omega arith
-count-after c (batch ∷ batches) = let h = count-after (counts_next c (Committed batch)) batches in omega (arith, h)
-
-own_push : (place : ℕ) (batches : List Batch) (batch : Batch) → AreOwn place batches → batch.cut ≡ place + length batches → IsTellable batch → AreOwn place (batches ++ batch ∷ [])
-own_push place [] batch own at told = (omega (arith, at), told, tt)
-own_push place (first ∷ batches) batch own at told =
-    (own.0, own.1, own_push (place + 1) batches batch own.2 (omega (arith, at)) told)
-
--- some queries are answered
-pub record AreAnswered (s t : Kept) : Type 0 where
-  pub batches : List Batch
-  pub brings : Brings s (committed_all batches) t
-  pub own : AreOwn s.counts.position batches
-
-pub none_answered : (s : Kept) → AreAnswered s s
-none_answered s = record {
-  batches = [];
-  brings = brings_none s s (record { counts = refl; image = refl; schedule = refl; ticked = refl; marks = refl; tail = refl });
-  own = tt;
-}
-
-pub all_answered : (s t : Kept) → AreAnswered s t → first_due t ≡ None → AnswersDue s t
-all_answered s t so none = record { batches = so.batches; brings = so.brings; own = so.own; none = none }
-
-pub none_more : (s t u : Kept) → AreAnswered s t → Brings t [] u → AreAnswered s u
-none_more s t u so more = record {
-  batches = so.batches;
-  brings = subst (λ (es : List Entry). Brings s es u) (append-nil (committed_all so.batches)) (brings_then s t u (committed_all so.batches) [] so.brings more);
-  own = so.own;
-}
-
--- one batch more is answered
-pub one_answered : (s t u : Kept) → AreAnswered s t → (batch : Batch) → Brings t (Committed batch ∷ []) u → batch.cut ≡ t.counts.position → IsTellable batch → AreAnswered s u
-one_answered s t u so batch more at told = record {
-  batches = so.batches ++ batch ∷ [];
-  brings = subst (λ (es : List Entry). Brings s es u) (sym (map-append Committed so.batches (batch ∷ []))) (brings_then s t u (committed_all so.batches) (Committed batch ∷ []) so.brings more);
-  own = own_push s.counts.position so.batches batch so.own (at ∙ ap (λ (k : Counts). k.position) so.brings.counts ∙ count-after s.counts so.batches) told;
-}
+pub none_due : (s t : Kept) → IsState s → t ≡ claimed_at s (next_place s) → first_due s ≡ None → (first_due t ≡ None) × Brings s [] t
+none_due s t is claimed none =
+    (ap first_due claimed ∙ due_claimed s (next_place s) ∙ none, brings_none s t (subst (IsLike s) (sym claimed) (claimed_like s (next_place s))) free_after)
+  where
+    free_after : AreFree s.claims → AreFree t.claims
+    free_after free =
+        let same : t ≡ s = claimed ∙ ap (claimed_at s) (next_is s is free ∙ none) in subst (λ (u : Kept). AreFree u.claims) (sym same) free

@@ -12,7 +12,7 @@ use Rattle.session_state.specs.Kept.{Counts, Kept, counts_next}
 use Rattle.session_state.specs.Readings.{IsReading, entry_of, event_count, taken_of}
 use Rattle.daemon_rounds.specs.Adding.{Brings}
 use Rattle.daemon_rounds.specs.Appending.{AreRising, Exceeds, end_behind, entries_of}
-use Rattle.daemon_rounds.proofs.Adding.{brings_none, brings_then}
+use Rattle.daemon_rounds.proofs.Adding.{brings_same, brings_then}
 use Rattle.daemon_rounds.proofs.Offsets.{offset_here, offset_other}
 
 -- some of the readings are appended, and the rest is left
@@ -30,7 +30,7 @@ pub none_appended : (s : Kept) (source : List ℕ) (all : List Reading) → All 
 none_appended s source all good rising = record {
   done = [];
   whole = refl;
-  brings = brings_none s s (record { counts = refl; image = refl; schedule = refl; ticked = refl; marks = refl; tail = refl });
+  brings = brings_same s;
   moment = refl;
   offset = refl;
   others = λ other differs. refl;

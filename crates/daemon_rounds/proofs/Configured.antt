@@ -1,5 +1,5 @@
 -- A session is configured.
-use Rattle.std.proofs.Common.{◌≡◌, ℕ, ◌≤◌, List, [], ◌∷◌, ◌++◌, max, sym, ap, ◌∙◌, subst, arith}
+use Rattle.std.proofs.Common.{◌≡◌, ℕ, ◌≤◌, false, List, [], ◌∷◌, ◌++◌, length, max, replicate, sym, ap, ◌∙◌, subst, arith}
 use Rattle.osq_config.specs.declared.config.Config.{Config}
 use Rattle.pack_rules.specs.declared.host.Host.{Host}
 use Rattle.pack_rules.specs.declared.schedule.Schedule.{Schedule}
@@ -17,7 +17,7 @@ use Rattle.session_state.specs.Computed.{shown_by}
 use Rattle.session_state.proofs.Shown.{shows}
 use Rattle.daemon_rounds.specs.Adding.{Brings}
 use Rattle.daemon_rounds.specs.Configuring.{Configures, IsScheduleOver, tables_of}
-use Rattle.daemon_rounds.proofs.Adding.{brings_one}
+use Rattle.daemon_rounds.proofs.Adding.{all_free, brings_one}
 
 -- the tables of a state are those of each list for which it stands
 tables_same : (entries : List Entry) (state : Kept) (moment : ℕ) → IsState state → HasValues entries state → rows_in (shown_by state state.image.last moment) ≡ tables_of entries moment
@@ -26,13 +26,13 @@ tables_same entries state moment is has =
     shown ∙ ap (λ (last : ℕ). view_of entries last moment) has.image.last
 
 pub configures : (config : Config) (documents given : List (List ℕ)) (host : Host) (moment : ℕ) (old new : Kept) (view : Shown) (schedule : Schedule) → IsState old → given ≡ documents → old.counts.moment ≤ moment → view ≡ shown_by old old.image.last moment → IsScheduleOver config host (rows_in view) schedule
-    → Adds old (Configured given schedule (max moment old.counts.moment)) new → Configures config documents host moment old new
-configures config documents given host moment old new view schedule state same later shown is adds = record {
+    → Adds old (Configured given schedule (max moment old.counts.moment)) new → new.claims ≡ replicate (length schedule.queries) false → Configures config documents host moment old new
+configures config documents given host moment old new view schedule state same later shown is adds claims = record {
   schedule = schedule;
   of_state = over;
   of_list = λ base added stands before legal whole.
       subst (λ (view : View). IsScheduleOver config host view schedule) (tables_same (before ++ added) old moment state (stands.values before legal whole)) over;
-  brings = brings_one old new (Configured documents schedule moment) (subst (λ (given : List (List ℕ)). Adds old (Configured given schedule moment) new) same (subst (λ (at : ℕ). Adds old (Configured given schedule at) new) latest adds));
+  brings = brings_one old new (Configured documents schedule moment) (subst (λ (given : List (List ℕ)). Adds old (Configured given schedule moment) new) same (subst (λ (at : ℕ). Adds old (Configured given schedule at) new) latest adds)) (all_free old new (length schedule.queries) claims);
 }
   where
     latest : max moment old.counts.moment ≡ moment

@@ -13,7 +13,7 @@ use Rattle.entry_model.specs.Summary.{summary}
 use Rattle.entry_model.specs.Legal.{Legal}
 use Rattle.entry_model.specs.Views.{is_evented_table}
 use Rattle.entry_model.proofs.Follows.{Legal-front}
-use Rattle.session_state.specs.Kept.{Kept}
+use Rattle.session_state.specs.Kept.{IsState, Kept}
 use Rattle.session_state.specs.Readings.{entry_of}
 use Rattle.session_state.specs.Stands.{Adds, Stands}
 use Rattle.session_state.specs.Ticks.{first_due, owed_at}
@@ -23,7 +23,7 @@ use Rattle.daemon_rounds.specs.Answering.{AnswersDue, AreOwn, committed_all}
 use Rattle.daemon_rounds.specs.Appending.{entries_of}
 use Rattle.daemon_rounds.specs.Keeping.{GoesOn, IsKeptFrom, Settles}
 use Rattle.daemon_rounds.specs.Telling.{AreTellable, IsTold}
-use Rattle.daemon_rounds.proofs.Adding.{IsLike, brings_then}
+use Rattle.daemon_rounds.proofs.Adding.{brings_then}
 
 -- what the state has in its tail may be sealed
 pub may_seal : (tells : Type 0) (kept : List Entry) (s : Kept) → GoesOn tells kept s → tells → Legal kept → Legal (kept ++ s.tail)
@@ -74,11 +74,13 @@ expiry_tellable s table rest tellable = by_owed (owed_at s table)
 expiries_tellable : (s : Kept) → AreTellable (expiries s)
 expiries_tellable s = expiry_tellable s 0 _ (expiry_tellable s 1 _ (expiry_tellable s 2 [] tt))
 
-pub settles : (s t u : Kept) → AnswersDue s t → Brings t (expiries t) u → first_due u ≡ first_due t → ((table : ℕ) → is_evented_table table ≡ true → owed_at u table ≡ None) → Settles s u
-settles s t u answers expired same owed = record {
+pub settles : (s t u : Kept) → IsState t → AnswersDue s t → Brings t (expiries t) u → first_due u ≡ first_due t → ((table : ℕ) → is_evented_table table ≡ true → owed_at u table ≡ None) → Settles s u
+settles s t u is answers expired same owed = record {
   batches = answers.batches;
   between = t;
   answers = answers.brings;
+  each = answers.each;
+  is = is;
   expired = expiries t;
   are = refl;
   brings = brings_then s t u (committed_all answers.batches) (expiries t) answers.brings expired;

@@ -1,8 +1,10 @@
 pub mod Adding
+pub mod AllAnswered
 pub mod Answered
 pub mod Appended
 pub mod Bounded
 pub mod Configured
+pub mod Freed
 pub mod Fronts
 pub mod Keeping
 pub mod Laters

@@ -19,7 +19,7 @@ use Rattle.daemon_rounds.specs.Appending.{entries_of}
 use Rattle.daemon_rounds.specs.Turns.{HasTooMuch, HasTurn, IsGoing, IsTurn, Turn, turn_entries, turn_of}
 use Rattle.daemon_rounds.specs.Rounding.{AreGoing, FailsAt, Front, Overflows, Rounds, names_of, round_entries}
 use Rattle.daemon_rounds.specs.declared.turning.Which.{Which}
-use Rattle.daemon_rounds.proofs.Adding.{brings_none, brings_then}
+use Rattle.daemon_rounds.proofs.Adding.{brings_same, brings_then}
 use Rattle.daemon_rounds.proofs.Fronts as fronts
 use Rattle.daemon_rounds.proofs.Turned.{moment_same}
 
@@ -85,7 +85,7 @@ none_yet tells left faults which most feeds sources s going = record {
   gone = refl;
   front = fronts.none_gone feeds sources;
   each = All-nil (IsTurn tells left faults which most);
-  brings = brings_none s s (record { counts = refl; image = refl; schedule = refl; ticked = refl; marks = refl; tail = refl });
+  brings = brings_same s;
   moment = refl;
   going = going;
 }

@@ -16,7 +16,7 @@ use Rattle.daemon_rounds.specs.Adding.{Brings, counts_after}
 use Rattle.daemon_rounds.specs.Appending.{AreRising, Exceeds, end_behind, entries_of}
 use Rattle.daemon_rounds.specs.Turns.{Gave, HasTooMuch, HasTurn, IsGoing, IsTurn, Plays, takes_part, turn_of}
 use Rattle.daemon_rounds.specs.declared.turning.Which.{Which}
-use Rattle.daemon_rounds.proofs.Adding.{brings_none}
+use Rattle.daemon_rounds.proofs.Adding.{brings_same}
 
 same_reading : (reading : Reading) → feeds.IsReading reading → IsReading reading
 same_reading (Events taken events skipped) good = good
@@ -82,5 +82,5 @@ had_none tells left faults which most feed source s part later = record {
     plays = subst (λ (b : Bool). Plays tells left most b (turn_of feed feed source source [])) (sym part) (record { feed = refl; source = refl; none = refl });
     later = later;
   };
-  brings = brings_none s s (record { counts = refl; image = refl; schedule = refl; ticked = refl; marks = refl; tail = refl });
+  brings = brings_same s;
 }

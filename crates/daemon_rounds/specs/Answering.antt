@@ -22,9 +22,10 @@ AreOwn place (batch ∷ rest) = (batch.cut ≡ place) × IsTellable batch × Are
 abbrev pub committed_all : List Batch → List Entry
 committed_all batches = map Committed batches
 
--- the batch is that of the first due query, where no query was claimed
+-- the batch is one of the present moment, and that of the first due query, where no query was claimed
 pub record AnswersFirst (old : Kept) (batch : Batch) : Type 0 where
   pub is : IsState old
+  pub now : batch.moment ≡ old.counts.moment
   pub first : AreFree old.claims → (place : ℕ) × ((scheduled : Scheduled) × (first_due old ≡ Some place) × (slice_get old.schedule.queries place ≡ Some scheduled) × (batch.query ≡ scheduled.key))
 
 -- each batch answers the query that is due first behind the batches before it

@@ -8,7 +8,7 @@ ghost use Rattle.session_state.specs.Kept.{due_count};
 ghost use Rattle.session_state.specs.Ticks.{first_due};
 ghost use Rattle.daemon_rounds.specs.Adding.{Brings};
 ghost use Rattle.daemon_rounds.specs.declared.error.RoundError.{RoundError};
-ghost use Rattle.daemon_rounds.specs.Answering.{AnswersDue, IsTellable};
+ghost use Rattle.daemon_rounds.specs.Answering.{AnswersDue, AnswersFirst, IsTellable};
 
 use crate::error::RoundError;
 use osq_value::{NoMemory, RowList, Tables};
@@ -29,7 +29,7 @@ fn rows_of<V: Tables>(alloc: Global, text: &str, view: &V) -> Result<RowList, No
 
 /// Answers the first due query by its batch, and says whether one was due.
 fn answer_next(alloc: Global, state: &mut State) -> Result<bool, RoundError>
-    ensures answered { IfOk result (λ more. more ≡ true → (batch : Batch) × Brings state.old (Committed batch ∷ []) state.new × (batch.cut ≡ state.old.counts.position) × IsTellable batch) }
+    ensures answered { IfOk result (λ more. more ≡ true → (batch : Batch) × Brings state.old (Committed batch ∷ []) state.new × (batch.cut ≡ state.old.counts.position) × IsTellable batch × AnswersFirst state.old batch) }
     ensures fewer { IfOk result (λ more. more ≡ true → due_count state.new + 1 ≤ due_count state.old) }
     ensures none { IfOk result (λ more. more ≡ false → (first_due state.new ≡ None) × Brings state.old [] state.new) }
     ensures spent { result ≡ Err RoundError.NumbersSpent → 2 ^ 62 < state.new.counts.batches + 1 }

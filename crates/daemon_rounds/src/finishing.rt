@@ -26,6 +26,7 @@ pub fn answer_and_settle(alloc: Global, state: &mut State) -> Result<(), RoundEr
     ensures spent { result ≡ Err RoundError.NumbersSpent → 2 ^ 62 < state.new.counts.batches + 1 }
 {
     answer_due(alloc, state)?;
+    state.is_state();
     match settle(state) {
         Ok(()) => Ok(()),
         Err(NoMemory) => Err(RoundError::NoMemory),

@@ -1,5 +1,5 @@
 use Rattle.session_state.specs.Kept.{due_count}
-use Rattle.daemon_rounds.proofs.Answered.{AreAnswered}
+use Rattle.daemon_rounds.proofs.AllAnswered.{AreAnswered}
 use Rattle.daemon_rounds.proofs.answering.answer_due.Given as goal
 
 abbrev pub invariant-loop : goal.invariant-loop

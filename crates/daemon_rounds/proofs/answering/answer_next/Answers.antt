@@ -3,12 +3,12 @@ use Rattle.pack_rules.specs.declared.schedule.QueryKey.{QueryKey}
 use Rattle.sql_meaning.specs.Meaning.{is_accepted}
 use Rattle.session_state.specs.Cut.{batch_of}
 use Rattle.session_state.specs.Kept.{Kept}
-use Rattle.daemon_rounds.proofs.Answered.{given, none_due, accepted, only_spent, brings_batch, own_place, tellable, fewer, stands_cut}
+use Rattle.daemon_rounds.proofs.Answered.{accepted, answers_first, brings_batch, fewer, given, none_due, only_spent, own_place, stands_cut, tellable}
 use Rattle.daemon_rounds.proofs.answering.answer_next.Goals as goal
 
 pub returns-in-Ok-None-clause-none : goal.returns-in-Ok-None-clause-none
 returns-in-Ok-None-clause-none c e =
-    none_due c.args.state.now c.claim_cut.new.self c.in-Ok-None.ensures.claimed (c.claim_cut.ensures.none.0 (c.in-Ok-None.is ∙ ap Ok c.in-Ok-None.field-0-is))
+    none_due c.args.state.now c.claim_cut.new.self c.is_state.ensures c.in-Ok-None.ensures.claimed (c.claim_cut.ensures.none.0 (c.in-Ok-None.is ∙ ap Ok c.in-Ok-None.field-0-is))
 
 pub rows_of-requires : goal.rows_of-requires
 rows_of-requires c =
@@ -43,7 +43,7 @@ returns-in-Ok-commit-clause-answered c e =
     let claimed = c.in-Ok-Some.ensures.claimed in
     let done = c.in-Ok-commit.ensures.committed in
     let stands = stands_cut s _ cut c.in-Ok-Some.field-0-is c.in-Ok-Some.ensures.stands in
-    (batch_of cut (t.counts.batches + 1) _, brings_batch s is cut g t claimed _ _ done stands, own_place s is cut g t claimed _ _ done stands, tellable s is cut g t claimed _ _ done stands)
+    (batch_of cut (t.counts.batches + 1) _, brings_batch s is cut g t claimed _ _ done stands c.in-Ok-commit.ensures.claims, own_place s is cut g t claimed _ _ done stands, tellable s is cut g t claimed _ _ done stands, answers_first s is cut g t claimed _ _ done stands)
 
 pub returns-in-Ok-commit-clause-fewer : goal.returns-in-Ok-commit-clause-fewer
 returns-in-Ok-commit-clause-fewer c e =

@@ -1,4 +1,5 @@
 use Rattle.std.proofs.Common.{Err, ap, ◌∙◌, arith}
+use Rattle.daemon_rounds.proofs.Adding.{brings_one, still_free}
 use Rattle.daemon_rounds.proofs.appending.append_one.Goals as goal
 
 pub unreachable-requires : goal.unreachable-requires
@@ -8,3 +9,6 @@ unreachable-requires c =
     let most = late.1 in
     let before = c.requires.rising.0 in
     omega (arith, kept, most, before)
+
+pub returns-in-Ok-clause-appended : goal.returns-in-Ok-clause-appended
+returns-in-Ok-clause-appended c = brings_one _ _ _ c.in-Ok.ensures.added (still_free _ _ c.append.ensures.claims)

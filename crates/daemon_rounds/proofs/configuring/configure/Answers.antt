@@ -8,4 +8,4 @@ configure-requires-clause-sound c =
 
 pub returns-in-Ok-clause-configured : goal.returns-in-Ok-clause-configured
 returns-in-Ok-clause-configured c =
-    configures c.args.config.now c.args.documents.now _ c.args.host.now c.args.moment c.args.state.now c.configure.new.self _ _ c.is_state.ensures c.in_ok-documents.ensures c.requires.later c.in_ok-view.ensures c.in_ok-schedule.ensures c.in-Ok.ensures.configured
+    configures c.args.config.now c.args.documents.now _ c.args.host.now c.args.moment c.args.state.now c.configure.new.self _ _ c.is_state.ensures c.in_ok-documents.ensures c.requires.later c.in_ok-view.ensures c.in_ok-schedule.ensures c.in-Ok.ensures.configured c.in-Ok.ensures.claims

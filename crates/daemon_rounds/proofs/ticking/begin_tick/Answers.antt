@@ -1,0 +1,5 @@
+use Rattle.daemon_rounds.proofs.Adding.{all_free, brings_one}
+use Rattle.daemon_rounds.proofs.ticking.begin_tick.Goals as goal
+
+pub returns-in-Ok-clause-ticked : goal.returns-in-Ok-clause-ticked
+returns-in-Ok-clause-ticked c = brings_one _ _ _ c.in-Ok.ensures.ticked (all_free _ _ _ c.in-Ok.ensures.claims)
