@@ -10,8 +10,8 @@ use Rattle.event_store.specs.Contents.{Contents}
 use Rattle.event_store.specs.Laws.{StandsFor}
 use Rattle.pack_rules.specs.declared.schedule.Schedule.{Schedule}
 use Rattle.session_state.specs.Kept.{Counts, Kept, counts_next}
-use Rattle.session_state.specs.Stands.{HasValues, Stands, Adds}
-use Rattle.session_state.specs.Expiries.{Stays, AddsAll}
+use Rattle.session_state.specs.Stands.{Stands, Adds}
+use Rattle.session_state.specs.Expiries.{AddsAll}
 use Rattle.daemon_rounds.specs.Adding.{AreFree, Brings, counts_after}
 
 -- a state with the same values, but for its claims and room

@@ -1,6 +1,6 @@
 -- The batch of the query that is due first.
-use Rattle.std.proofs.Common.{◌≡◌, ℕ, ◌+◌, ◌≤◌, ◌<◌, Bool, true, false, cond, List, [], ◌∷◌, ◌++◌, length, Option, Some, None, refl, sym, ap, ◌∙◌, subst, arith, append_assoc}
-use Rattle.std.specs.Prelude.{All, find, nat_le, nat_lt, set, ◌==◌, ◌^◌, slice_get, option_map, map, IfSome}
+use Rattle.std.proofs.Common.{◌≡◌, ℕ, ◌+◌, ◌≤◌, ◌<◌, Bool, true, false, cond, List, [], ◌∷◌, ◌++◌, length, Option, Some, None, refl, sym, ap, ◌∙◌, subst, arith}
+use Rattle.std.specs.Prelude.{find, nat_le, nat_lt, set, ◌==◌, ◌^◌, slice_get, option_map, IfSome}
 use Rattle.std.proofs.lemmas.Bool.Decides.{nat_tests}
 use Rattle.std.proofs.lemmas.List.{append-nil}
 use Rattle.std.proofs.lemmas.List.Elements.{All-contains}
@@ -17,17 +17,17 @@ use Rattle.entry_model.specs.Runs.{with_batch}
 use Rattle.entry_model.specs.Schedules.{IsRunnable}
 use Rattle.query_cursors.specs.Due as cursors
 use Rattle.session_state.specs.declared.state.CommitRefusal.{CommitRefusal}
-use Rattle.session_state.specs.declared.state.CommitRefusal.TheVariants.{Superseded, Stale, NumbersSpent}
+use Rattle.session_state.specs.declared.state.CommitRefusal.TheVariants.{Superseded, NumbersSpent}
 use Rattle.session_state.specs.Kept.{Counts, Kept, IsState, counts_next, due_count}
 use Rattle.session_state.specs.Marks.{IsRising, behind_marks}
 use Rattle.session_state.specs.Rooms.{all_due}
-use Rattle.session_state.specs.Stands.{Stands, Moves}
+use Rattle.session_state.specs.Stands.{Stands}
 use Rattle.session_state.specs.Ticks.{first_due}
 use Rattle.session_state.specs.Cut.{CutValue, batch_of}
-use Rattle.session_state.specs.CutOf.{mark_from, IsCutOf}
+use Rattle.session_state.specs.CutOf.{mark_from}
 use Rattle.session_state.specs.Cutting.{next_place, next_cut, cut_at, cut_of, claimed_at, CutStands}
-use Rattle.session_state.specs.Commits.{Commits, committed, commit_refusal, refusal_by}
-use Rattle.session_state.proofs.Cutting.{contains_at, IsAt, at_place, is_next, IsNext}
+use Rattle.session_state.specs.Commits.{Commits, commit_refusal, refusal_by}
+use Rattle.session_state.proofs.Cutting.{contains_at, is_next}
 use Rattle.session_state.proofs.Rooms.{fewer_due}
 use Rattle.daemon_rounds.specs.Adding.{AreFree, Brings}
 use Rattle.daemon_rounds.specs.Answering.{AnswersFirst, IsTellable}

@@ -1,6 +1,6 @@
 -- A state goes on from the keeper's list, whatever it gains and whatever is sealed.
 use Rattle.std.proofs.Common.{◌≡◌, ℕ, ◌+◌, List, [], ◌∷◌, ◌++◌, Option, Some, None, refl, sym, ap, ◌∙◌, subst, append_assoc}
-use Rattle.std.specs.Prelude.{filter_map, option_map, true}
+use Rattle.std.specs.Prelude.{option_map, true}
 use Rattle.std.specs.List.{cons_option}
 use Rattle.std.proofs.lemmas.List.{append-nil}
 use Rattle.osq_value.specs.declared.reading.Reading.{Reading}
@@ -21,8 +21,8 @@ use Rattle.session_state.specs.Expiries.{expiry_of, expiries}
 use Rattle.daemon_rounds.specs.Adding.{Brings}
 use Rattle.daemon_rounds.specs.Answering.{AnswersDue, AreOwn, committed_all}
 use Rattle.daemon_rounds.specs.Appending.{entries_of}
-use Rattle.daemon_rounds.specs.Keeping.{GoesOn, IsKeptFrom, Settles}
-use Rattle.daemon_rounds.specs.Telling.{AreTellable, IsTold}
+use Rattle.daemon_rounds.specs.Keeping.{GoesOn, Settles}
+use Rattle.daemon_rounds.specs.Telling.{AreTellable}
 use Rattle.daemon_rounds.proofs.Adding.{brings_then}
 
 -- what the state has in its tail may be sealed

@@ -1,6 +1,7 @@
 pub mod Answered
 pub mod Begun
 pub mod Done
+pub mod Dues
 pub mod Ended
 pub mod Feeds
 pub mod Nothing
@@ -9,4 +10,3 @@ pub mod Running
 pub mod Sessions
 pub mod Stepped
 pub mod Tellings
-pub mod Ticked
