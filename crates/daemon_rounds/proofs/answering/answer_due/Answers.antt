@@ -1,7 +1,12 @@
-use Rattle.daemon_rounds.proofs.AllAnswered.{one_answered}
+use Rattle.daemon_rounds.proofs.AllAnswered.{all_answered, one_answered}
 use Rattle.daemon_rounds.proofs.answering.answer_due.Goals as goal
 
 pub loop-preserved : goal.loop-preserved
 loop-preserved c =
     let a = c.in_ok-answer_next.ensures.answered c.if-branch.true in
     one_answered c.args.state.now c.loop.state c.answer_next.new.state c.loop.invariant a.0 a.1 a.2 a.3 a.4
+
+pub returns-clause-answered : goal.returns-clause-answered
+returns-clause-answered c =
+    let last = c.in_ok-answer_next.ensures.none c.if-branch.false in
+    all_answered c.args.state.now c.loop.state c.answer_next.new.state c.loop.invariant last.0 last.1

@@ -11,4 +11,4 @@ unreachable-requires c =
     omega (arith, kept, most, before)
 
 pub returns-in-Ok-clause-appended : goal.returns-in-Ok-clause-appended
-returns-in-Ok-clause-appended c = brings_one _ _ _ c.in-Ok.ensures.added (still_free _ _ c.append.ensures.claims)
+returns-in-Ok-clause-appended c = brings_one _ _ _ c.in-Ok.ensures.added (still_free c.args.state.now c.append.new.self c.append.ensures.claims)
