@@ -1,3 +1,4 @@
+pub mod Again
 pub mod Answered
 pub mod Begun
 pub mod Done
@@ -10,3 +11,6 @@ pub mod Running
 pub mod Sessions
 pub mod Stepped
 pub mod Tellings
+pub mod Ticked
+pub mod Unconfigured
+pub mod Undue
