@@ -6,6 +6,7 @@ pub mod Dues
 pub mod Ended
 pub mod Feeds
 pub mod Nothing
+pub mod OpenedSession
 pub mod Passed
 pub mod Running
 pub mod Sessions
