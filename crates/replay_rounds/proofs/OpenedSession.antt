@@ -1,5 +1,5 @@
 -- A session that opened by the state opened by the list.
-use Rattle.std.proofs.Common.{◌≡◌, ℕ, ◌+◌, ◌≤◌, List, [], ◌∷◌, ◌++◌, refl, sym, ap, ◌∙◌, subst, append_assoc, arith}
+use Rattle.std.proofs.Common.{◌≡◌, ℕ, ◌+◌, List, [], ◌∷◌, ◌++◌, refl, sym, ap, ◌∙◌, subst, append_assoc, arith}
 use Rattle.std.specs.Prelude.{bytes_eq, filter, max, false}
 use Rattle.std.proofs.lemmas.List.{append-nil}
 use Rattle.std.proofs.lemmas.List.Elements.{All-nil}
@@ -13,7 +13,7 @@ use Rattle.entry_model.specs.Fits.{IsDistinct}
 use Rattle.entry_model.specs.Legal.{Legal}
 use Rattle.entry_model.specs.Next.{offset_at}
 use Rattle.entry_model.specs.Summary.{summary}
-use Rattle.entry_model.specs.Values.{last_of, moment_in, moment_of, schedule_in, sessions}
+use Rattle.entry_model.specs.Values.{moment_in, moment_of, schedule_in, sessions}
 use Rattle.entry_model.proofs.Lasts.{last_of-append}
 use Rattle.entry_model.proofs.Summaries.{taken_is}
 use Rattle.session_model.specs.Configuring as configuring

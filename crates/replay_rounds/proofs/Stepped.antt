@@ -182,7 +182,7 @@ module _ {S : Type 0} (tells : Type 0) (left : S → List ℕ) (faults : S → �
   distinct_of distinct whole =
       subst (λ (feeds : List Feeding). IsDistinct bytes_eq (names_of feeds)) whole.feeds_are distinct
 
-  fed_after : (which : Which) → AreFed tells left given.config.categories start kept given.sources feeds objects → IsDistinct bytes_eq (names_of feeds) → Whole feeds nexts objects rests turns → All (IsTurn tells left faults which given.records) turns → AreFed tells left given.config.categories start (kept ++ round_entries moment turns) given.sources nexts rests
+  pub fed_after : (which : Which) → AreFed tells left given.config.categories start kept given.sources feeds objects → IsDistinct bytes_eq (names_of feeds) → Whole feeds nexts objects rests turns → All (IsTurn tells left faults which given.records) turns → AreFed tells left given.config.categories start (kept ++ round_entries moment turns) given.sources nexts rests
   fed_after which are distinct whole each =
       subst (λ (rests : List S). AreFed tells left given.config.categories start (kept ++ round_entries moment turns) given.sources nexts rests) (sym whole.rests_are) (subst (λ (nexts : List Feeding). AreFed tells left given.config.categories start (kept ++ round_entries moment turns) given.sources nexts (rests_of turns)) (sym whole.nexts_are) (round_fed tells left faults which start given.records given.config.categories moment kept given.sources turns (distinct_of distinct whole) each (of_turns are whole)))
 

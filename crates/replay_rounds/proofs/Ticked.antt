@@ -133,7 +133,7 @@ module _ {S : Type 0} (left : S → List ℕ) (faults : S → ℕ) (x : Fixed) (
       answers_due : Answers ((x.start ++ added) ++ (begun ++ taken)) (due_queries ((x.start ++ added) ++ (begun ++ taken))) answered
       answers_due =
           subst (λ (list : List Entry). Answers list (due_queries list) answered) (sym (append_assoc x.start added (begun ++ taken)))
-          (answered_are x.start (added ++ (begun ++ taken)) standing.base filled settles.between settles.batches legal (standing.same tells) (fills.stands standing.base added standing.stands) (fills.free standing.free) settles.each settles.own settles.is (none_between filled settled settles))
+          (answered_are standing.base x.start legal (standing.same tells) (added ++ (begun ++ taken)) filled settles.between settles.batches (fills.stands standing.base added standing.stands) (fills.free standing.free) settles.each settles.own settles.is (none_between filled settled settles))
 
       expires : settles.expired ≡ expiries_of ((x.start ++ added) ++ (begun ++ taken ++ answered))
       expires =

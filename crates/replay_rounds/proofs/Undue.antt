@@ -1,16 +1,14 @@
 -- Expiries leave due what is due.
-use Rattle.std.proofs.Common.{◌≡◌, ℕ, Bool, List, [], ◌∷◌, ◌++◌, Option, Some, None, refl, sym, ap, ◌∙◌, subst}
+use Rattle.std.proofs.Common.{◌≡◌, ℕ, Bool, List, [], ◌∷◌, Option, Some, None, refl, sym, ap, ◌∙◌, subst}
 use Rattle.std.specs.Prelude.{filter_map, option_map, if◌then◌else◌}
 use Rattle.std.specs.List.{cons_option}
 use Rattle.pack_rules.specs.declared.schedule.Schedule.{Schedule}
 use Rattle.entry_model.specs.declared.entry.Entry.{Entry}
 use Rattle.entry_model.specs.declared.entry.Entry.TheVariants.{Expired}
-use Rattle.entry_model.specs.declared.restored.Run.{Run}
 use Rattle.entry_model.specs.Values.{last_of, schedule_in, tick_in}
 use Rattle.entry_model.proofs.Lasts.{last_of-append}
 use Rattle.query_cursors.specs.Due as cursors
 use Rattle.session_state.specs.Kept.{Counts, Kept, counts_next}
-use Rattle.session_state.specs.Expiries.{expiries}
 use Rattle.session_state.specs.Ticks.{first_due, owed_at}
 use Rattle.daemon_rounds.specs.Adding.{counts_after}
 use Rattle.daemon_rounds.specs.Answering.{committed_all}
