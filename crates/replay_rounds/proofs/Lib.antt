@@ -5,10 +5,11 @@ pub mod Done
 pub mod Dues
 pub mod Ended
 pub mod Feeds
+pub mod Looping
 pub mod Nothing
 pub mod OpenedSession
 pub mod Passed
-pub mod Running
+pub mod Ran
 pub mod Sessions
 pub mod Stepped
 pub mod Tellings

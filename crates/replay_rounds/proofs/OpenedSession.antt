@@ -52,6 +52,7 @@ pub record OpensSession {S C : Type 0} (left : S → List ℕ) (x : Fixed) (read
   pub opens : x.keeper_tells → x.source_tells → Legal x.start → session.Opens x.given x.start reading (Opened number ∷ rest)
   pub at : moment ≡ max reading (moment_of (x.start ++ (Opened number ∷ rest)))
   pub standing : Standing left x (Opened number ∷ rest) kept feeds objects moment s
+  pub tail : s.tail ≡ Opened number ∷ rest
   pub ready : AreGoing s.counts.taken feeds → IsReady feeds moment s
 
 module _ {S : Type 0} (left : S → List ℕ) (faults : S → ℕ) (x : Fixed) (setup : Setup) (restored : Restored) (kept : List Entry) (started feeds : List Feeding) (objects between rests : List S) (moment : ℕ) (state : Kept) (same : x.keeper_tells → restored ≡ summary x.start) (distinct : IsDistinct bytes_eq (source_names setup.sources)) (sources_are : x.given.sources ≡ sources_of left setup.sources objects)
@@ -170,6 +171,7 @@ module _ {S : Type 0} (left : S → List ℕ) (faults : S → ℕ) (x : Fixed) (
     opens = λ tells told legal. by_list tells legal told read.reading read.is;
     at = at_reading read.reading read.is;
     standing = stands kept_is;
+    tail = opens.opened.tail;
     ready = ready;
   }
 
