@@ -1,6 +1,7 @@
 -- The turns of the loop over ticks.
-use Rattle.std.proofs.Common.{◌≡◌, ℕ, ◌+◌, List, [], ◌∷◌, ◌++◌, length, refl, sym, ap, ◌∙◌, subst, arith, length-append}
-use Rattle.std.specs.Prelude.{max}
+use Rattle.std.proofs.Common.{◌≡◌, ℕ, ◌+◌, List, [], ◌∷◌, ◌++◌, length, refl, sym, ap, ◌∙◌, subst, arith, append_assoc, length-append, inl, inr}
+use Rattle.std.specs.Prelude.{max, take}
+use Rattle.std.proofs.lemmas.List.{append-nil}
 use Rattle.osq_config.specs.declared.config.Config.{Config}
 use Rattle.config_files.specs.Configurations.{IsConfigOf}
 use Rattle.source_feeds.specs.Feeding.{Feeding}
@@ -9,7 +10,9 @@ use Rattle.entry_model.specs.declared.entry.Entry.{Entry}
 use Rattle.entry_model.specs.declared.entry.Entry.TheVariants.{Opened}
 use Rattle.session_state.specs.Kept.{Kept}
 use Rattle.daemon_rounds.specs.Moments.{IsRead}
+use Rattle.daemon_rounds.specs.Rounding.{AreGoing}
 use Rattle.daemon_rounds.specs.Telling.{AreTold}
+use Rattle.daemon_rounds.specs.Ticking.{asks_again, configured_last}
 use Rattle.daemon_rounds.specs.declared.setup.Setup.{Setup}
 use Rattle.daemon_rounds.proofs.Laters.{AreLater, later_then, round_later}
 use Rattle.daemon_rounds.specs.declared.turning.Which.TheVariants as which
@@ -18,7 +21,7 @@ use Rattle.replay_rounds.specs.Running.{IsKept, IsWritten, ReadsAll}
 use Rattle.replay_rounds.specs.Standing.{IsReady, Standing}
 use Rattle.replay_rounds.specs.Ticked.{IsPartlyTold, IsTick, IsWholeTick, TakesTick, TickDone}
 use Rattle.replay_rounds.proofs.OpenedSession.{OpensSession}
-use Rattle.replay_rounds.proofs.Ran.{IsAdded, IsRunning, IsToldAll, added_on, all_is_kept, all_kept, all_written, first_added, first_ran, from_opened, none_kept, none_written, partly_written, ran_on, still_kept, told_on}
+use Rattle.replay_rounds.proofs.Ran.{tail_own, IsAdded, IsRunning, IsToldAll, added_on, all_is_kept, all_kept, all_written, first_added, first_ran, from_opened, none_kept, none_written, partly_written, ran_on, still_kept, told_on}
 use Rattle.replay_rounds.proofs.Ticked.{takes_tick}
 
 -- the counts of the sources' faults never fell in a tick
@@ -36,6 +39,101 @@ module _ {S C : Type 0} (keeper_tells sink_tells tells : Type 0) (left : S → L
     pub count : length (running.added.reading ∷ running.added.readings) ≡ rounds
     pub later : AreLater faults sources objects
 
-  takes : (added kept : List Entry) (feeds nexts : List Feeding) (objects rests : List S) (configured_at last moment : ℕ) (old settled : Kept) → Standing left x added kept feeds objects configured_at old → IsReady feeds configured_at old → TickDone tells left faults setup config documents configured_at moment feeds nexts objects rests old settled → TakesTick left x added kept nexts rests _ moment old settled
-  takes added kept feeds nexts objects rests configured_at last moment old settled standing ready done =
-      takes_tick left faults x setup config documents added kept feeds nexts objects rests configured_at _ moment old settled refl refl refl refl standing ready.going.distinct done refl
+  takes : (added kept : List Entry) (feeds nexts : List Feeding) (objects rests : List S) (configured_at last moment : ℕ) (old settled : Kept) → Standing left x added kept feeds objects configured_at old → AreGoing old.counts.taken feeds → TickDone tells left faults setup config documents configured_at moment feeds nexts objects rests old settled → last ≡ configured_last (asks_again config configured_at moment) configured_at moment → TakesTick left x added kept nexts rests last moment old settled
+  takes added kept feeds nexts objects rests configured_at last moment old settled standing going done last_is =
+      takes_tick left faults x setup config documents added kept feeds nexts objects rests configured_at last moment old settled refl refl refl refl standing going.distinct done last_is
+
+  -- when a session was configured last, behind a tick
+  abbrev last_in : ℕ → ℕ → ℕ
+  last_in configured_at moment = configured_last (asks_again config configured_at moment) configured_at moment
+
+  -- the first tick
+  module _ (now : C) (kept next : List Entry) (written : List ℕ) (feeds nexts : List Feeding) (objects rests : List S) (opened_at : ℕ) (old : Kept) (notes : List ℕ) (configuration : IsConfigOf documents config notes) (o : OpensSession left x reads clock now kept feeds objects opened_at old) (going : AreGoing old.counts.taken feeds) (kept_is : keeper_tells → kept ≡ start) where
+    abbrev opening : List Entry
+    opening = Opened o.number ∷ o.rest
+
+    first_takes : (last : ℕ) (settled : Kept) → TickDone tells left faults setup config documents opened_at opened_at feeds nexts objects rests old settled → last ≡ last_in opened_at opened_at → TakesTick left x opening kept nexts rests last opened_at old settled
+    first_takes last settled done last_is =
+        takes opening kept feeds nexts objects rests opened_at last opened_at old settled o.standing going done last_is
+
+    first_adds : (last : ℕ) (settled new : Kept) (t : TakesTick left x opening kept nexts rests last opened_at old settled) → new ≡ record settled { tail = [] } → (keeper_tells → next ≡ kept ++ settled.tail) → IsAdded left x reads clock now next nexts rests last new
+    first_adds last settled new t taken grown =
+        first_added left x reads clock now kept next nexts rests last opened_at old settled new opening t taken grown o.reading notes o.read configuration o.opens (λ tells legal. o.at)
+
+    own_tail : (last : ℕ) (settled : Kept) (t : TakesTick left x opening kept nexts rests last opened_at old settled) → settled.tail ≡ opening ++ t.own
+    own_tail last settled t = t.tail ∙ ap (λ (es : List Entry). es ++ t.own) o.tail
+
+    first_told : (last : ℕ) (settled : Kept) (t : TakesTick left x opening kept nexts rests last opened_at old settled) (lines : List ℕ) → AreTold setup.host.identifier old.schedule.form settled.tail lines → AreTold setup.host.identifier form.Event (opening ++ t.own) lines
+    first_told last settled t lines told =
+        from_opened setup.host.identifier old.schedule.form o.number opening t.own o.rest lines refl (subst (λ (es : List Entry). AreTold setup.host.identifier old.schedule.form es lines) (own_tail last settled t) told)
+
+    pub looped_first : (last : ℕ) (new : Kept) → IsTick keeper_tells sink_tells tells left faults setup config documents opened_at last opened_at kept next before written feeds nexts objects rests old new → AreLater faults sources objects → IsLooping now 1 next written nexts rests last new
+    unfolding first_ran first_added
+    looped_first last new tick later =
+        let t = first_takes last tick.settled tick.done tick.last_is in
+        record {
+          running = first_ran left x reads clock now kept next nexts rests last opened_at old tick.settled new opening t tick.taken tick.kept o.reading notes o.read configuration o.opens (λ tells legal. o.at) written (λ tells. let (lines, told, is) = tick.told tells in (lines, first_told last tick.settled t lines told, is));
+          count = refl;
+          later = later_then faults sources objects rests later (tick_later tells left faults setup config documents opened_at opened_at feeds nexts objects rests old tick.settled tick.done);
+        }
+
+    -- what is kept where it isn't done
+    pub kept_first : IsWholeTick tells left faults setup config documents opened_at opened_at kept next feeds nexts objects rests old → keeper_tells → IsKept x (λ readings. ReadsAll reads clock readings now) next
+    kept_first (inl same) told =
+        none_kept x (λ readings. ReadsAll reads clock readings now) (o.reading ∷ []) next (now, o.read, refl) (omega arith) (λ tells. same ∙ kept_is tells)
+    kept_first (inr (settled, done, grown)) told =
+        all_is_kept left x reads clock now next nexts rests (last_in opened_at opened_at) (record settled { tail = [] }) (first_adds (last_in opened_at opened_at) settled (record settled { tail = [] }) (first_takes (last_in opened_at opened_at) settled done refl) refl (λ tells. grown))
+
+    pub partly_first : IsPartlyTold keeper_tells tells left faults setup config documents opened_at opened_at kept next before written feeds nexts objects rests old → IsWritten x next written
+    partly_first p =
+        let t = first_takes (last_in opened_at opened_at) p.settled p.done refl in
+        partly_written x next (opening ++ t.own) written [] p.lines p.count (λ tells. p.kept tells ∙ ap (λ (list : List Entry). list ++ p.settled.tail) (kept_is tells) ∙ ap (λ (es : List Entry). start ++ es) (own_tail (last_in opened_at opened_at) p.settled t)) (first_told (last_in opened_at opened_at) p.settled t p.lines p.told) (p.written ∙ ap (λ (text : List ℕ). text ++ take p.count p.lines) (sym (append-nil before)))
+
+  -- a further tick
+  module _ (between now : C) (rounds : ℕ) (kept next : List Entry) (between_written : List ℕ) (feeds nexts : List Feeding) (objects rests : List S) (configured_at moment : ℕ) (old : Kept) (l : IsLooping between rounds kept between_written feeds objects configured_at old) (going : AreGoing old.counts.taken feeds) (read : IsRead reads between now old.counts.moment moment) where
+    abbrev r : IsAdded left x reads clock between kept feeds objects configured_at old
+    r = l.running.added
+
+    next_takes : (last : ℕ) (settled : Kept) → TickDone tells left faults setup config documents configured_at moment feeds nexts objects rests old settled → last ≡ last_in configured_at moment → TakesTick left x r.entries kept nexts rests last moment old settled
+    next_takes last settled done last_is =
+        takes r.entries kept feeds nexts objects rests configured_at last moment old settled r.standing going done last_is
+
+    counted : {A : Type 0} (first more : A) (rest : List A) → length (first ∷ (rest ++ more ∷ [])) ≡ length (first ∷ rest) + 1
+    counted first more rest = let size = length-append rest (more ∷ []) in omega (arith, size)
+
+    pub looped_on : (written : List ℕ) (last : ℕ) (new : Kept) → IsTick keeper_tells sink_tells tells left faults setup config documents configured_at last moment kept next between_written written feeds nexts objects rests old new → IsLooping now (rounds + 1) next written nexts rests last new
+    unfolding ran_on added_on
+    looped_on written last new tick =
+        let t = next_takes last tick.settled tick.done tick.last_is in
+        record {
+          running = ran_on left x reads clock between now kept next feeds nexts objects rests configured_at last moment read.reading old tick.settled new r t tick.taken tick.kept read.reads_it read.is between_written written l.running.told tick.told;
+          count = counted r.reading read.reading r.readings ∙ ap (λ n. n + 1) l.count;
+          later = later_then faults sources objects rests l.later (tick_later tells left faults setup config documents configured_at moment feeds nexts objects rests old tick.settled tick.done);
+        }
+
+    pub kept_on : IsWholeTick tells left faults setup config documents configured_at moment kept next feeds nexts objects rests old → keeper_tells → IsKept x (λ readings. ReadsAll reads clock readings now) next
+    kept_on (inl same) told =
+        still_kept left x reads clock between kept feeds objects configured_at old r read.reading now next read.reads_it same
+    kept_on (inr (settled, done, grown)) told =
+        let last = last_in configured_at moment in
+        all_is_kept left x reads clock now next nexts rests last (record settled { tail = [] }) (added_on left x reads clock between now kept next feeds nexts objects rests configured_at last moment read.reading old settled (record settled { tail = [] }) r (next_takes last settled done refl) refl (λ tells. grown) read.reads_it read.is)
+
+    list_is : keeper_tells → kept ≡ start ++ r.entries
+    list_is = all_kept left x r.entries kept feeds objects configured_at old r.standing r.empty
+
+    -- the list where a tick isn't done begins with what was told
+    more_kept : IsWholeTick tells left faults setup config documents configured_at moment kept next feeds nexts objects rests old → keeper_tells → (more : List Entry) × (next ≡ start ++ (r.entries ++ more))
+    more_kept (inl same) told =
+        ([], same ∙ list_is told ∙ ap (λ (es : List Entry). start ++ es) (sym (append-nil r.entries)))
+    more_kept (inr (settled, done, grown)) told =
+        (settled.tail, grown ∙ ap (λ (list : List Entry). list ++ settled.tail) (list_is told) ∙ append_assoc start r.entries settled.tail)
+
+    pub written_on : (keeper_tells → IsWholeTick tells left faults setup config documents configured_at moment kept next feeds nexts objects rests old) → sink_tells → IsWritten x next between_written
+    written_on whole told = all_written x next r.entries between_written (λ tells. more_kept (whole tells) tells) (l.running.told told)
+
+    pub partly_on : (written : List ℕ) → IsPartlyTold keeper_tells tells left faults setup config documents configured_at moment kept next between_written written feeds nexts objects rests old → sink_tells → IsWritten x next written
+    partly_on written p told =
+        let last = last_in configured_at moment in
+        let t = next_takes last p.settled p.done refl in
+        let (lines, was, all) = told_on left x reads clock between now kept next feeds nexts objects rests configured_at last moment read.reading old p.settled p.settled r t between_written p.lines (l.running.told told) p.told in
+        partly_written x next (r.entries ++ t.own) written lines p.lines p.count (λ tells. p.kept tells ∙ ap (λ (list : List Entry). list ++ p.settled.tail) (list_is tells) ∙ append_assoc start r.entries p.settled.tail ∙ ap (λ (es : List Entry). start ++ (r.entries ++ es)) (tail_own left x reads clock between now kept next feeds nexts objects rests configured_at last moment read.reading old p.settled p.settled r t)) all (p.written ∙ ap (λ (text : List ℕ). text ++ take p.count p.lines) was)

@@ -93,25 +93,25 @@ moment_is left x entries kept feeds objects last s h tells legal =
     ap (λ (c : Counts). c.moment) (values left x entries kept feeds objects last s h tells legal).counts
 
 module _ {S C : Type 0} (left : S → List ℕ) (x : Fixed) (reads : C → ℕ → C → Type 0) (clock now : C) (kept next : List Entry) (nexts : List Feeding) (rests : List S) (last moment : ℕ) (old settled new : Kept) (added : List Entry) (t : TakesTick left x added kept nexts rests last moment old settled) (taken : new ≡ record settled { tail = [] }) (grown : x.keeper_tells → next ≡ kept ++ settled.tail) where
-  standing_behind : Standing left x (added ++ t.own) next nexts rests last new
+  pub standing_behind : Standing left x (added ++ t.own) next nexts rests last new
   standing_behind =
       sealed_standing left x (added ++ t.own) kept next nexts rests last settled new t.standing taken grown
 
-  empty_behind : new.tail ≡ []
+  pub empty_behind : new.tail ≡ []
   empty_behind = ap (λ (k : Kept). k.tail) taken
 
-  legal_behind : x.keeper_tells → Legal x.start → Legal (x.start ++ (added ++ t.own))
+  pub legal_behind : x.keeper_tells → Legal x.start → Legal (x.start ++ (added ++ t.own))
   legal_behind tells legal =
       (values left x (added ++ t.own) next nexts rests last new standing_behind tells legal).legal
 
-  full_behind : x.keeper_tells → x.source_tells → Legal x.start → IsFullTick x (added ++ t.own) nexts
+  pub full_behind : x.keeper_tells → x.source_tells → Legal x.start → IsFullTick x (added ++ t.own) nexts
   full_behind tells told legal =
       let (before, since, are, full) = t.full tells told legal in
       record { before = added ++ before; since = since; are = ap (λ (es : List Entry). added ++ es) are ∙ sym (append_assoc added before since); full = full }
 
   -- the first tick of a session that opened at the clock's first reading
   module _ (reading : ℕ) (notes : List ℕ) (read : reads clock reading now) (configuration : IsConfigOf x.given.documents x.given.config notes) (opens : x.keeper_tells → x.source_tells → Legal x.start → Opens x.given x.start reading added) (at : x.keeper_tells → Legal x.start → moment ≡ max reading (moment_of (x.start ++ added))) where
-    pub first_added : IsAdded left x reads clock now next nexts rests last new
+    unfoldable pub first_added : IsAdded left x reads clock now next nexts rests last new
     first_added = record {
       reading = reading;
       readings = [];
@@ -123,7 +123,7 @@ module _ {S C : Type 0} (left : S → List ℕ) (x : Fixed) (reads : C → ℕ �
       full = full_behind;
     }
 
-    pub first_ran : (written : List ℕ) → (x.sink_tells → IsToldAll x (added ++ t.own) written) → IsRunning left x reads clock now next written nexts rests last new
+    unfoldable pub first_ran : (written : List ℕ) → (x.sink_tells → IsToldAll x (added ++ t.own) written) → IsRunning left x reads clock now next written nexts rests last new
     unfolding first_added
     first_ran written told = record { added = first_added; told = told }
 
@@ -150,11 +150,11 @@ module _ {S C : Type 0} (left : S → List ℕ) (x : Fixed) (reads : C → ℕ �
           subst (λ (f : Form). AreTold x.given.host.identifier f t.own more) (sym form_now) (subst (λ (es : List Entry). AreTold x.given.host.identifier old.schedule.form es more) tail_own ares)
 
   module _ (taken : new ≡ record settled { tail = [] }) (grown : x.keeper_tells → next ≡ kept ++ settled.tail) (read : reads between reading now) (at : moment ≡ max reading old.counts.moment) where
-    standing_now : Standing left x (r.entries ++ t.own) next nexts rests last new
+    pub standing_now : Standing left x (r.entries ++ t.own) next nexts rests last new
     standing_now =
         standing_behind left x reads clock now kept next nexts rests last moment old settled new r.entries t taken grown
 
-    pub added_on : IsAdded left x reads clock now next nexts rests last new
+    unfoldable pub added_on : IsAdded left x reads clock now next nexts rests last new
     added_on = record {
       reading = r.reading;
       readings = r.readings ++ reading ∷ [];
@@ -168,7 +168,7 @@ module _ {S C : Type 0} (left : S → List ℕ) (x : Fixed) (reads : C → ℕ �
       full = full_behind left x reads clock now kept next nexts rests last moment old settled new r.entries t taken grown;
     }
 
-    pub ran_on : (before written : List ℕ) → (x.sink_tells → IsToldAll x r.entries before) → (x.sink_tells → (more : List ℕ) × AreTold x.given.host.identifier old.schedule.form settled.tail more × (written ≡ before ++ more)) → IsRunning left x reads clock now next written nexts rests last new
+    unfoldable pub ran_on : (before written : List ℕ) → (x.sink_tells → IsToldAll x r.entries before) → (x.sink_tells → (more : List ℕ) × AreTold x.given.host.identifier old.schedule.form settled.tail more × (written ≡ before ++ more)) → IsRunning left x reads clock now next written nexts rests last new
     unfolding added_on
     ran_on before written told more = record {
       added = added_on;
