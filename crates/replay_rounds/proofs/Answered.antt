@@ -20,7 +20,7 @@ use Rattle.session_state.specs.Expiries as state
 use Rattle.session_state.specs.Expiries.{expiries}
 use Rattle.session_state.specs.Stands.{HasValues, Stands}
 use Rattle.session_state.specs.Ticks.{first_due}
-use Rattle.session_state.proofs.Dues.{due_queries_are, no_position, none_pass, owed_is}
+use Rattle.session_state.proofs.Dues.{due_queries_are, none_due, owed_is}
 use Rattle.session_model.specs.Ticking as model
 use Rattle.session_model.specs.Ticking.{Answers, expiries_of}
 use Rattle.daemon_rounds.specs.Adding.{AreFree, Brings}
@@ -59,17 +59,6 @@ keys queries = map (λ (scheduled : Scheduled). scheduled.key) queries
 
 abbrev due_of : Kept → List QueryKey
 due_of s = keys (filter (cursors.is_due_by s.counts.runs s.counts.moment) s.schedule.queries)
-
--- where a state has no due query, its list has none
-none_left : (entries : List Entry) (s : Kept) → HasValues entries s → All (IsRun s.counts.batches) s.counts.runs → first_due s ≡ None → due_queries entries ≡ []
-none_left entries s h runs none = due_queries_are entries s h runs ∙ by_tick s.ticked refl
-  where
-    by_tick : (b : Bool) → s.ticked ≡ b → (if s.ticked then due_of s else []) ≡ []
-    by_tick false e = ap (λ (b : Bool). cond b (due_of s) []) e
-    by_tick true e =
-        let at : position (cursors.is_due_by s.counts.runs s.counts.moment) s.schedule.queries ≡ None = sym (ap (λ (b : Bool). cond b (cursors.first_due s.counts.runs s.schedule.queries s.counts.moment) None) e) ∙ none in
-        ap (λ (b : Bool). cond b (due_of s) []) e
-        ∙ ap keys (none_pass (cursors.is_due_by s.counts.runs s.counts.moment) s.schedule.queries (no_position (cursors.is_due_by s.counts.runs s.counts.moment) s.schedule.queries at))
 
 known_runs : (s t : Kept) (batches : List Batch) → AnswersEach s batches t → IsState t → All (IsRun s.counts.batches) s.counts.runs
 known_runs s t [] each is = subst (λ (counts : Counts). All (IsRun counts.batches) counts.runs) each.counts is.runs
@@ -125,7 +114,7 @@ module _ (base : Restored) (start : List Entry) (legal : Legal start) (same : su
   answered_are added s t [] stands free each own is none =
       let now = (each.stands base added stands).values start legal same in
       let over = subst (λ (entries : List Entry). HasValues (start ++ entries) t) (append-nil added) now in
-      subst (λ (queries : List QueryKey). Answers (start ++ added) queries []) (sym (none_left (start ++ added) t over is.runs none)) refl
+      subst (λ (queries : List QueryKey). Answers (start ++ added) queries []) (sym (none_due (start ++ added) t over is.runs none)) refl
   answered_are added s t (batch ∷ batches) stands free each own is none =
       let next = each.1.0 in
       let more = each.1.1 in
