@@ -19,7 +19,7 @@ use Rattle.replay_rounds.specs.Running.{HasMore, HasRun, ReadsAll}
 use Rattle.replay_rounds.specs.Standing.{IsReady}
 use Rattle.replay_rounds.specs.declared.refused.Numbers.{Numbers}
 use Rattle.replay_rounds.specs.declared.running.Ended.{Ended}
-use Rattle.replay_rounds.proofs.Ended.{all_over, all_present, all_whole, one_full}
+use Rattle.replay_rounds.proofs.Endings.{all_over, all_present, all_whole, one_full}
 use Rattle.replay_rounds.proofs.Ran.{IsFullTick, IsRunning, all_kept, grows, values}
 
 module _ {S C : Type 0} (left : S → List ℕ) (x : Fixed) (reads : C → ℕ → C → Type 0) (clock now : C) (kept : List Entry) (written : List ℕ) (feeds : List Feeding) (objects : List S) (last : ℕ) (s : Kept) (r : IsRunning left x reads clock now kept written feeds objects last s) (is : IsState s) (ready : IsReady feeds last s) (coverage : Coverage) where

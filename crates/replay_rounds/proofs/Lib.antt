@@ -3,7 +3,7 @@ pub mod Answered
 pub mod Begun
 pub mod Done
 pub mod Dues
-pub mod Ended
+pub mod Endings
 pub mod Feeds
 pub mod Looping
 pub mod Nothing
