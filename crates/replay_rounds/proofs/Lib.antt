@@ -1,10 +1,12 @@
 pub mod Again
 pub mod Answered
 pub mod Begun
+pub mod Causes
 pub mod Done
 pub mod Dues
 pub mod Endings
 pub mod Feeds
+pub mod Filled
 pub mod Looping
 pub mod Nothing
 pub mod OpenedSession
