@@ -71,6 +71,7 @@ pub fn open_session<S: Source, C: Clock>(
     requires distinct { IsDistinct bytes_eq (source_names setup.now.sources) }
     ensures opened { IfOk result (λ session. IsOpen S.tells S.left S.faults C.reads setup.now configured.now.config configured.now.documents restored clock.old clock.new sources.old sources.new session.configured_at session.feeds.items session.state) }
     ensures going { IfOk result (λ session. AreGoing session.state.counts.taken session.feeds.items) }
+    ensures read { (reading : ℕ) × C.reads clock.old reading clock.new }
     ensures moment { (moment : ℕ) → result ≡ Err (OpenError.MomentTooLarge moment) → C.reads clock.old moment clock.new × (253402300799 < moment) }
     ensures fault { (place : ℕ) → result ≡ Err (OpenError.SourceFault place) → FailsAt S.faults place sources.old sources.new }
     ensures shrank { (place kept found : ℕ) → result ≡ Err (OpenError.SourceShrank place kept found) → HasShrunk S.tells S.left restored.taken setup.now.sources place kept found sources.old }

@@ -102,7 +102,7 @@ pub fn run_session<S: Source, K: Keeper, O: Sink, C: Clock>(
         Err(error) => return Err(unopened(error, kept)),
     };
     let feeds = feeds.as_mut_slice();
-    let mut last = take_tick(
+    let mut last = match take_tick(
         alloc,
         setup,
         configured,
@@ -113,12 +113,21 @@ pub fn run_session<S: Source, K: Keeper, O: Sink, C: Clock>(
         results,
         configured_at,
         configured_at,
-    )?;
+    ) {
+        Ok(last) => last,
+        Err(refused) => return Err(refused),
+    };
     for _ in 1..setup.ticks {
-        let moment = next_moment(clock, &state)?;
-        last = take_tick(
+        let moment = match next_moment(clock, &state) {
+            Ok(moment) => moment,
+            Err(refused) => return Err(refused),
+        };
+        last = match take_tick(
             alloc, setup, configured, &mut state, feeds, sources, keeper, results, last, moment,
-        )?;
+        ) {
+            Ok(last) => last,
+            Err(refused) => return Err(refused),
+        };
     }
     state.is_state();
     Ok(Ended {
