@@ -1,13 +1,15 @@
 -- Why a run was refused.
-use Rattle.std.proofs.Common.{◌≡◌, ℕ, refl}
+use Rattle.std.proofs.Common.{◌≡◌, ◌≢◌, ℕ, List, refl}
 use Rattle.daemon_rounds.specs.declared.error.FinishError.{FinishError}
 use Rattle.daemon_rounds.specs.declared.error.FinishError.TheVariants as finish
 use Rattle.daemon_rounds.specs.declared.error.OpenError.{OpenError}
 use Rattle.daemon_rounds.specs.declared.error.OpenError.TheVariants as opening
 use Rattle.daemon_rounds.specs.declared.error.TakeError.{TakeError}
 use Rattle.daemon_rounds.specs.declared.error.TakeError.TheVariants as taking
-use Rattle.replay_rounds.specs.Refusals.{unfilled_by, unfinished_by}
-use Rattle.replay_rounds.specs.declared.refused.Refused.{Refused}
+use Rattle.entry_model.specs.declared.entry.Entry.{Entry}
+use Rattle.replay_rounds.specs.Fixed.{Fixed}
+use Rattle.replay_rounds.specs.Refusals.{unfilled_by, unfinished_by, unopened_by}
+use Rattle.replay_rounds.specs.Running.{IsWritten}
 use Rattle.replay_rounds.specs.declared.refused.RunError.{RunError}
 use Rattle.replay_rounds.specs.declared.refused.RunError.TheVariants as run
 
@@ -87,3 +89,31 @@ unfinished_shrank finish.NumbersSpent place kept found h = cc
 unfinished_shrank finish.KeeperFault place kept found h = cc
 unfinished_shrank finish.SinkFault place kept found h = cc
 unfinished_shrank finish.NoMemory place kept found h = cc
+
+pub unopened_late : (e : OpenError) (moment : ℕ) → unopened_by e ≡ run.MomentTooLarge moment → e ≡ opening.MomentTooLarge moment
+unopened_late (opening.MomentTooLarge other) moment h = cc
+unopened_late (opening.SourceFault place) moment h = cc
+unopened_late (opening.SourceShrank place kept found) moment h = cc
+unopened_late opening.NumbersSpent moment h = cc
+unopened_late opening.NoMemory moment h = cc
+
+pub unopened_fault : (e : OpenError) (place : ℕ) → unopened_by e ≡ run.SourceFault place → e ≡ opening.SourceFault place
+unopened_fault (opening.MomentTooLarge moment) place h = cc
+unopened_fault (opening.SourceFault other) place h = cc
+unopened_fault (opening.SourceShrank other kept found) place h = cc
+unopened_fault opening.NumbersSpent place h = cc
+unopened_fault opening.NoMemory place h = cc
+
+pub one_moment : (a b : ℕ) → run.MomentTooLarge a ≡ run.MomentTooLarge b → a ≡ b
+one_moment a b h = cc
+
+-- what was written is told apart by whether the sink failed
+pub by_sink : (e : RunError) (x : Fixed) (kept : List Entry) (written : List ℕ) → (e ≡ run.SinkFault → IsWritten x kept written) → (e ≢ run.SinkFault → IsWritten x kept written) → IsWritten x kept written
+by_sink run.SinkFault x kept written fault other = fault refl
+by_sink run.KeeperFault x kept written fault other = other (λ h. cc)
+by_sink run.KeeperRefused x kept written fault other = other (λ h. cc)
+by_sink (run.MomentTooLarge moment) x kept written fault other = other (λ h. cc)
+by_sink (run.SourceFault place) x kept written fault other = other (λ h. cc)
+by_sink (run.SourceShrank place old found) x kept written fault other = other (λ h. cc)
+by_sink run.NumbersSpent x kept written fault other = other (λ h. cc)
+by_sink run.NoMemory x kept written fault other = other (λ h. cc)

@@ -15,11 +15,12 @@ use Rattle.session_state.specs.Stands.{HasValues}
 use Rattle.session_state.proofs.Dues.{none_due, owed_is}
 use Rattle.replay_rounds.specs.Fixed.{Fixed}
 use Rattle.replay_rounds.specs.Refusals.{numbers_of}
+use Rattle.replay_rounds.specs.Sources.{all_over}
 use Rattle.replay_rounds.specs.Running.{HasMore, HasRun, ReadsAll}
 use Rattle.replay_rounds.specs.Standing.{IsReady}
 use Rattle.replay_rounds.specs.declared.refused.Numbers.{Numbers}
 use Rattle.replay_rounds.specs.declared.running.Ended.{Ended}
-use Rattle.replay_rounds.proofs.Endings.{all_over, all_present, all_whole, one_full}
+use Rattle.replay_rounds.proofs.Endings.{all_present, all_whole, one_full}
 use Rattle.replay_rounds.proofs.Ran.{IsFullTick, IsRunning, all_kept, grows, values}
 
 module _ {S C : Type 0} (left : S → List ℕ) (x : Fixed) (reads : C → ℕ → C → Type 0) (clock now : C) (kept : List Entry) (written : List ℕ) (feeds : List Feeding) (objects : List S) (last : ℕ) (s : Kept) (r : IsRunning left x reads clock now kept written feeds objects last s) (is : IsState s) (ready : IsReady feeds last s) (coverage : Coverage) where

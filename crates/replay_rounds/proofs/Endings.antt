@@ -1,7 +1,6 @@
 -- How a session that ran all its ticks left its sources.
 use Rattle.std.proofs.Common.{◌≡◌, ℕ, suc, ◌≤◌, Bool, true, false, ◌&&◌, List, [], ◌∷◌, ◌++◌, length, refl, sym, ap, ◌∙◌, arith, length-append}
 use Rattle.std.specs.Prelude.{All, Contains}
-use Rattle.std.specs.List.{list_all}
 use Rattle.std.proofs.lemmas.List.Elements.{All-cons, All-nil}
 use Rattle.osq_value.specs.declared.reading.Category.{Category}
 use Rattle.publisher_core.specs.Standing.{is_at_end}
@@ -10,10 +9,7 @@ use Rattle.entry_model.specs.declared.entry.Entry.{Entry}
 use Rattle.entry_model.specs.Values.{taken_from}
 use Rattle.session_model.specs.Given.{Given, Source}
 use Rattle.session_model.specs.Taking.{IsReadWhole}
-use Rattle.replay_rounds.specs.Sources.{AreFed, AreFullOrOver, IsFull}
-
-abbrev pub all_over : List Feeding → Bool
-all_over feeds = list_all (λ (feed : Feeding). is_at_end feed.reader) feeds
+use Rattle.replay_rounds.specs.Sources.{AreFed, AreFullOrOver, IsFull, all_over}
 
 both : (a b : Bool) → (a && b) ≡ true → (a ≡ true) × (b ≡ true)
 both true b h = (refl, h)

@@ -1,5 +1,5 @@
 -- What a state gains in a tick, and how it is behind it.
-use Rattle.std.proofs.Common.{◌≡◌, ◌≤◌, ◌+◌, ℕ, Bool, true, false, List, [], ◌∷◌, ◌++◌, Option, Some, None, refl, sym, ap, ◌∙◌, subst, arith}
+use Rattle.std.proofs.Common.{◌≡◌, ◌≤◌, ℕ, Bool, true, false, List, [], ◌∷◌, ◌++◌, Option, Some, None, refl, sym, ap, ◌∙◌, subst, arith}
 use Rattle.std.specs.Prelude.{filter_map, option_map}
 use Rattle.std.specs.List.{cons_option}
 use Rattle.osq_config.specs.declared.config.Config.{Config}
@@ -7,7 +7,7 @@ use Rattle.pack_rules.specs.declared.host.Host.{Host}
 use Rattle.source_feeds.specs.Feeding.{Feeding}
 use Rattle.entry_model.specs.declared.entry.Batch.{Batch}
 use Rattle.entry_model.specs.declared.entry.Entry.{Entry}
-use Rattle.entry_model.specs.declared.entry.Entry.TheVariants.{Configured, Expired, Ticked}
+use Rattle.entry_model.specs.declared.entry.Entry.TheVariants.{Expired, Ticked}
 use Rattle.entry_model.specs.declared.restored.Taken.{Taken}
 use Rattle.session_state.specs.Kept.{Counts, Kept}
 use Rattle.session_state.specs.Ticks.{owed_at}

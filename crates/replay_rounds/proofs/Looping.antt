@@ -1,6 +1,6 @@
 -- The turns of the loop over ticks.
 use Rattle.std.proofs.Common.{◌≡◌, ℕ, ◌+◌, List, [], ◌∷◌, ◌++◌, length, refl, sym, ap, ◌∙◌, subst, arith, append_assoc, length-append, inl, inr}
-use Rattle.std.specs.Prelude.{max, take}
+use Rattle.std.specs.Prelude.{bytes_eq, max, take}
 use Rattle.std.proofs.lemmas.List.{append-nil}
 use Rattle.osq_config.specs.declared.config.Config.{Config}
 use Rattle.config_files.specs.Configurations.{IsConfigOf}
@@ -8,19 +8,27 @@ use Rattle.source_feeds.specs.Feeding.{Feeding}
 use Rattle.pack_rules.specs.declared.schedule.Form.TheVariants as form
 use Rattle.entry_model.specs.declared.entry.Entry.{Entry}
 use Rattle.entry_model.specs.declared.entry.Entry.TheVariants.{Opened}
+use Rattle.entry_model.specs.declared.restored.Restored.{Restored}
+use Rattle.entry_model.specs.Fits.{IsDistinct}
+use Rattle.entry_model.specs.Summary.{summary}
 use Rattle.session_state.specs.Kept.{Kept}
+use Rattle.daemon_rounds.specs.Keeping.{GoesOn}
 use Rattle.daemon_rounds.specs.Moments.{IsRead}
+use Rattle.daemon_rounds.specs.Opening.{opening_entries}
 use Rattle.daemon_rounds.specs.Rounding.{AreGoing}
+use Rattle.daemon_rounds.specs.Session.{IsOpen}
+use Rattle.daemon_rounds.specs.Starting.{source_names}
 use Rattle.daemon_rounds.specs.Telling.{AreTold}
 use Rattle.daemon_rounds.specs.Ticking.{asks_again, configured_last}
 use Rattle.daemon_rounds.specs.declared.setup.Setup.{Setup}
-use Rattle.daemon_rounds.proofs.Laters.{AreLater, later_then, round_later}
+use Rattle.daemon_rounds.proofs.Laters.{AreLater, later_then, round_later, start_later}
+use Rattle.daemon_rounds.proofs.Opened.{opened_goes_on}
 use Rattle.daemon_rounds.specs.declared.turning.Which.TheVariants as which
 use Rattle.replay_rounds.specs.Fixed.{Fixed, fixed_of}
 use Rattle.replay_rounds.specs.Running.{IsKept, IsWritten, ReadsAll}
 use Rattle.replay_rounds.specs.Standing.{IsReady, Standing}
 use Rattle.replay_rounds.specs.Ticked.{IsPartlyTold, IsTick, IsWholeTick, TakesTick, TickDone}
-use Rattle.replay_rounds.proofs.OpenedSession.{OpensSession}
+use Rattle.replay_rounds.proofs.OpenedSession.{OpensSession, opened_session}
 use Rattle.replay_rounds.proofs.Ran.{tail_own, IsAdded, IsRunning, IsToldAll, added_on, all_is_kept, all_kept, all_written, first_added, first_ran, from_opened, none_kept, none_written, partly_written, ran_on, still_kept, told_on}
 use Rattle.replay_rounds.proofs.Ticked.{takes_tick}
 
@@ -89,6 +97,11 @@ module _ {S C : Type 0} (keeper_tells sink_tells tells : Type 0) (left : S → L
         let t = first_takes (last_in opened_at opened_at) p.settled p.done refl in
         partly_written x next (opening ++ t.own) written [] p.lines p.count (λ tells. p.kept tells ∙ ap (λ (list : List Entry). list ++ p.settled.tail) (kept_is tells) ∙ ap (λ (es : List Entry). start ++ es) (own_tail (last_in opened_at opened_at) p.settled t)) (first_told (last_in opened_at opened_at) p.settled t p.lines p.told) (p.written ∙ ap (λ (text : List ℕ). text ++ take p.count p.lines) (sym (append-nil before)))
 
+  -- what was written behind the last tick
+  pub still_written : (now : C) (rounds : ℕ) (kept : List Entry) (written : List ℕ) (feeds : List Feeding) (objects : List S) (last : ℕ) (s : Kept) → IsLooping now rounds kept written feeds objects last s → sink_tells → IsWritten x kept written
+  still_written now rounds kept written feeds objects last s l told =
+      all_written x kept l.running.added.entries written (λ tells. ([], all_kept left x l.running.added.entries kept feeds objects last s l.running.added.standing l.running.added.empty tells ∙ ap (λ (es : List Entry). start ++ es) (sym (append-nil l.running.added.entries)))) (l.running.told told)
+
   -- a further tick
   module _ (between now : C) (rounds : ℕ) (kept next : List Entry) (between_written : List ℕ) (feeds nexts : List Feeding) (objects rests : List S) (configured_at moment : ℕ) (old : Kept) (l : IsLooping between rounds kept between_written feeds objects configured_at old) (going : AreGoing old.counts.taken feeds) (read : IsRead reads between now old.counts.moment moment) where
     abbrev r : IsAdded left x reads clock between kept feeds objects configured_at old
@@ -137,3 +150,24 @@ module _ {S C : Type 0} (keeper_tells sink_tells tells : Type 0) (left : S → L
         let t = next_takes last p.settled p.done refl in
         let (lines, was, all) = told_on left x reads clock between now kept next feeds nexts objects rests configured_at last moment read.reading old p.settled p.settled r t between_written p.lines (l.running.told told) p.told in
         partly_written x next (r.entries ++ t.own) written lines p.lines p.count (λ tells. p.kept tells ∙ ap (λ (list : List Entry). list ++ p.settled.tail) (list_is tells) ∙ append_assoc start r.entries p.settled.tail ∙ ap (λ (es : List Entry). start ++ (r.entries ++ es)) (tail_own left x reads clock between now kept next feeds nexts objects rests configured_at last moment read.reading old p.settled p.settled r t)) all (p.written ∙ ap (λ (text : List ℕ). text ++ take p.count p.lines) was)
+
+-- what an opening gives: it opens by the list, and the counts of the sources' faults never fell in it
+pub opens_here : {S C : Type 0} (keeper_tells sink_tells tells : Type 0) (left : S → List ℕ) (faults : S → ℕ) (setup : Setup) (config : Config) (documents : List (List ℕ)) (sources : List S) (start : List Entry) (before : List ℕ) (reads : C → ℕ → C → Type 0) (clock now : C) (restored : Restored) (kept : List Entry) (items feeds : List Feeding) (rests : List S) (moment : ℕ) (state : Kept)
+    → (keeper_tells → restored ≡ summary start) → (keeper_tells → kept ≡ start) → IsDistinct bytes_eq (source_names setup.sources) → IsOpen tells left faults reads setup config documents restored clock now sources rests moment items state → feeds ≡ items
+    → OpensSession left (fixed_of keeper_tells sink_tells tells left setup config documents sources start before) reads clock now kept feeds rests moment state × AreLater faults sources rests
+opens_here keeper_tells sink_tells tells left faults setup config documents sources start before reads clock now restored kept items feeds rests moment state same kept_is distinct is slice = (
+  subst (λ (fs : List Feeding). OpensSession left (fixed_of keeper_tells sink_tells tells left setup config documents sources start before) reads clock now kept fs rests moment state) (sym slice)
+      (opened_session left faults reads (fixed_of keeper_tells sink_tells tells left setup config documents sources start before) setup config documents restored clock now kept items sources rests moment state refl refl refl refl refl same kept_is distinct is),
+  later_then faults sources is.between rests (start_later tells left faults is.starts.opened is.started sources is.between is.starts.starts)
+      (round_later tells left faults which.Tables setup.records is.started items is.between rests is.opens.begun is.opens.filled is.opens.tables),
+)
+
+-- the state goes on from the keeper's list
+pub goes_on_here : {S C : Type 0} (keeper_tells tells : Type 0) (left : S → List ℕ) (faults : S → ℕ) (setup : Setup) (config : Config) (documents : List (List ℕ)) (sources : List S) (start kept : List Entry) (reads : C → ℕ → C → Type 0) (clock now : C) (restored : Restored) (items : List Feeding) (rests : List S) (moment : ℕ) (state : Kept)
+    → (keeper_tells → restored ≡ summary start) → (keeper_tells → kept ≡ start) → IsOpen tells left faults reads setup config documents restored clock now sources rests moment items state → GoesOn keeper_tells kept state
+goes_on_here keeper_tells tells left faults setup config documents sources start kept reads clock now restored items rests moment state same kept_is is =
+    opened_goes_on keeper_tells kept restored (opening_entries restored is.opens.tables.turns documents is.opens.configures.schedule moment) state is.opens.opened (λ told. same told ∙ ap summary (sym (kept_is told)))
+
+-- what is kept is more than what was
+pub grown_of : (x : Fixed) (has_read : List ℕ → Type 0) (kept : List Entry) → IsKept x has_read kept → x.keeper_tells → (more : List Entry) × (kept ≡ x.start ++ more)
+grown_of x has_read kept is tells = (is.entries, is.grows.grown tells)

@@ -1,5 +1,6 @@
 -- The sources of a session between its steps.
-use Rattle.std.specs.Prelude.{◌≡◌, ◌⊎◌, ℕ, ◌≤◌, true, false, List, [], ◌∷◌, length, drop}
+use Rattle.std.specs.Prelude.{◌≡◌, ◌⊎◌, ℕ, ◌≤◌, Bool, true, false, List, [], ◌∷◌, length, drop}
+use Rattle.std.specs.List.{list_all}
 use Rattle.osq_value.specs.declared.reading.Category.{Category}
 use Rattle.publisher_core.specs.declared.record.Piece.{Piece}
 use Rattle.publisher_core.specs.Standing.{is_at_end}
@@ -30,6 +31,10 @@ AreFed tells left paths start now [] [] [] = Unit {0}
 AreFed tells left paths start now (source ∷ sources) (feed ∷ feeds) (object ∷ objects) =
     IsFed tells left paths start now source feed object × AreFed tells left paths start now sources feeds objects
 AreFed tells left paths start now _ _ _ = ⊥
+
+-- each feed is at its source's end
+abbrev pub all_over : List Feeding → Bool
+all_over feeds = list_all (λ (feed : Feeding). is_at_end feed.reader) feeds
 
 -- a step of the source behind this list gave as many records as a step may, or at least 16777216 bytes stood behind the offset at which it began
 abbrev pub IsFull : Given → List Entry → Source → Type 0

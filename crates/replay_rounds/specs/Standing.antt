@@ -1,5 +1,5 @@
 -- Where a session stands between its parts.
-use Rattle.std.specs.Prelude.{◌≡◌, ℕ, ◌≤◌, true, None, List, [], ◌++◌}
+use Rattle.std.specs.Prelude.{◌≡◌, ℕ, ◌≤◌, true, None, List, ◌++◌}
 use Rattle.pack_rules.specs.declared.schedule.Schedule.{Schedule}
 use Rattle.source_feeds.specs.Feeding.{Feeding}
 use Rattle.entry_model.specs.declared.entry.Entry.{Entry}

@@ -4,7 +4,6 @@ use Rattle.osq_config.specs.declared.config.Config.{Config}
 use Rattle.source_feeds.specs.Feeding.{Feeding}
 use Rattle.entry_model.specs.declared.entry.Entry.{Entry}
 use Rattle.entry_model.specs.Legal.{Legal}
-use Rattle.pack_rules.specs.declared.schedule.Form.{Form}
 use Rattle.session_model.specs.Ticking.{Ticks}
 use Rattle.session_state.specs.Kept.{Kept}
 use Rattle.daemon_rounds.specs.Keeping.{Settles}

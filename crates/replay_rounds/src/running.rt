@@ -13,6 +13,7 @@ ghost use Rattle.daemon_rounds.specs.Rounding.{FailsAt};
 ghost use Rattle.daemon_rounds.specs.Starting.{HasShrunk, source_names};
 ghost use Rattle.replay_rounds.specs.Fixed.{fixed_of};
 ghost use Rattle.replay_rounds.specs.Running.{HasRun, IsKept, IsWritten, ReadsAll};
+ghost use Rattle.replay_rounds.specs.Sources.{all_over};
 ghost use Rattle.replay_rounds.specs.declared.refused.Refused.{Refused};
 ghost use Rattle.replay_rounds.specs.declared.refused.RunError.{RunError};
 
@@ -23,9 +24,11 @@ use batch_keeper::Keeper;
 use config_files::Configured;
 use daemon_rounds::setup::Setup;
 use daemon_rounds::{MomentTooLarge, Session, open_session, read_moment};
+use entry_model::laws;
 use entry_model::restored::Restored;
 use osq_outside::{Clock, Sink, Source};
 use session_state::State;
+use source_feeds::Feed;
 use std::alloc::Global;
 
 /// A session that ran all its ticks.
@@ -60,6 +63,13 @@ fn next_moment<C: Clock>(clock: &mut C, state: &State) -> Result<u64, Refused>
     }
 }
 
+/// Every source was read to its end.
+fn are_over(feeds: &[Feed]) -> bool
+    ensures { result ≡ all_over feeds.now }
+{
+    feeds.iter().all(|feed| feed.at_end())
+}
+
 /// Runs a whole session behind the keeper's list: it is loaded, the session opens, and all ticks are run, each of which is sealed by itself and then
 /// told. No two sources have one name.
 pub fn run_session<S: Source, K: Keeper, O: Sink, C: Clock>(
@@ -88,6 +98,7 @@ pub fn run_session<S: Source, K: Keeper, O: Sink, C: Clock>(
     ensures sink_cause { (refused : Refused) → result ≡ Err refused → refused.error ≡ RunError.SinkFault → Rose (O.faults results.old) (O.faults results.new) }
     ensures later { (K.faults keeper.old ≤ K.faults keeper.new) × (O.faults results.old ≤ O.faults results.new) }
 {
+    laws::coverage();
     let restored = match load_values(alloc, keeper) {
         Ok(restored) => restored,
         Err(error) => return Err(unloaded(error)),
@@ -131,7 +142,7 @@ pub fn run_session<S: Source, K: Keeper, O: Sink, C: Clock>(
     }
     state.is_state();
     Ok(Ended {
-        is_end: feeds.iter().all(|feed| feed.at_end()),
+        is_end: are_over(feeds),
         numbers: numbers_of(&state),
     })
 }
