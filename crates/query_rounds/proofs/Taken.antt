@@ -1,0 +1,116 @@
+-- What a session took in rounds behind a kept list.
+use Rattle.std.proofs.Common.{◌≡◌, ℕ, zero, suc, ◌+◌, ◌≤◌, false, List, [], ◌∷◌, ◌++◌, map, refl, sym, ap, ◌∙◌, subst, append_assoc, arith}
+use Rattle.std.specs.Prelude.{bytes_eq}
+use Rattle.std.proofs.lemmas.List.{append-nil}
+use Rattle.source_feeds.specs.Feeding.{Feeding}
+use Rattle.entry_model.specs.declared.entry.Entry.{Entry}
+use Rattle.entry_model.specs.declared.entry.Entry.TheVariants.{Opened}
+use Rattle.entry_model.specs.Fits.{IsDistinct}
+use Rattle.entry_model.specs.Legal.{Legal}
+use Rattle.entry_model.specs.Summary.{summary}
+use Rattle.entry_model.specs.Values.{moment_of, sessions, taken_from}
+use Rattle.entry_model.proofs.Summaries.{taken_is}
+use Rattle.session_model.specs.Given.{Given, Source}
+use Rattle.session_model.specs.Taking.{TakesSteps}
+use Rattle.session_state.specs.Kept.{Counts, Kept}
+use Rattle.session_state.specs.Stands.{Stands}
+use Rattle.daemon_rounds.specs.declared.setup.SourceName.{SourceName}
+use Rattle.daemon_rounds.specs.Rounding.{names_of, round_entries}
+use Rattle.replay_rounds.specs.Sources.{AreFed, AreFullOrOver, sources_of}
+use Rattle.replay_rounds.proofs.Begun.{started_fed}
+use Rattle.replay_rounds.proofs.Ended.{one_full}
+use Rattle.replay_rounds.proofs.Feeds.{fed_names, fed_on}
+use Rattle.replay_rounds.proofs.Nothing.{nothing_behind, opened_nothing}
+use Rattle.replay_rounds.proofs.Stepped.{rounds_taken}
+use Rattle.query_rounds.specs.Asking.{opened_behind}
+use Rattle.query_rounds.specs.Reading.{IsBegun}
+use Rattle.query_rounds.specs.Rounds.{HasMore, TakesRounds}
+use Rattle.query_rounds.specs.Running.{Place, Turns, TurnsOften, are_over}
+use Rattle.query_rounds.proofs.Rounds.{rounds_more}
+
+-- the list with an entry behind it, and others behind that
+behind_opening : (kept entries : List Entry) (entry : Entry) → (kept ++ entry ∷ []) ++ entries ≡ kept ++ (entry ∷ entries)
+behind_opening kept entries entry = append_assoc kept (entry ∷ []) entries
+
+-- Behind the opening the session took these entries in so many rounds: its state stands for them, and its sources are fed.
+pub record HasTaken {S : Type 0} (tells : Type 0) (left : S → List ℕ) (given : Given) (kept : List Entry) (count : ℕ) (entries : List Entry) (at : Place S) : Type 0 where
+  pub takes : TakesRounds given (opened_behind kept) count entries
+  pub stands : Stands (summary kept) (Opened (sessions kept + 1) ∷ entries) at.state
+  pub fed : AreFed tells left given.config.categories kept (opened_behind kept ++ entries) given.sources at.feeds at.sources
+
+-- the last of the rounds, in which each source that isn't at its end gave a full step
+abbrev pub EndsFull : Given → List Entry → ℕ → List Entry → List Feeding → Type 0
+EndsFull given kept zero entries feeds = Unit {0}
+EndsFull given kept (suc earlier) entries feeds =
+    (before last : List Entry) × (entries ≡ before ++ last) × TakesRounds given kept earlier before × TakesSteps given (kept ++ before) given.sources last
+    × AreFullOrOver given (kept ++ before) given.sources feeds
+
+-- before the first round
+pub begun_taken : {S : Type 0} (tells : Type 0) (left : S → List ℕ) (faults : S → ℕ) (given : Given) (kept : List Entry) (names : List SourceName) (objects : List S) (start : Place S) → given.sources ≡ sources_of left names objects → IsBegun tells left faults names given.config.categories (summary kept) objects start → HasTaken tells left given kept 0 [] start
+begun_taken {S} tells left faults given kept names objects start are begun = record {
+  takes = refl;
+  stands = begun.begins.stands;
+  fed = subst (λ (sources : List Source). AreFed tells left given.config.categories kept (opened_behind kept ++ []) sources start.feeds start.sources) (sym are) (fed_on tells left given.config.categories kept kept (opened_behind kept ++ []) (sources_of left names objects) start.feeds start.sources same of_names);
+}
+  where
+    of_names : AreFed tells left given.config.categories kept kept (sources_of left names objects) start.feeds start.sources
+    of_names = started_fed tells left faults given.config.categories kept (summary kept).taken names start.feeds objects start.sources (taken_is kept) begun.starts
+
+    same : (name : List ℕ) → taken_from (opened_behind kept ++ []) name ≡ taken_from kept name
+    same name =
+        ap (λ (list : List Entry). taken_from list name) (append-nil (opened_behind kept)) ∙ nothing_behind kept (Opened (sessions kept + 1) ∷ []) (opened_nothing (sessions kept + 1)) name
+
+module _ {S : Type 0} (tells : Type 0) (left : S → List ℕ) (faults : S → ℕ) (given : Given) (kept : List Entry) (told : tells) (legal : Legal kept) (distinct : IsDistinct bytes_eq (map (λ (source : Source). source.name) given.sources)) where
+  -- a round more
+  module _ (count : ℕ) (entries : List Entry) (from to : Place S) (taken : HasTaken tells left given kept count entries from) (turns : Turns tells left faults given.records from to) where
+    now : List Entry
+    now = opened_behind kept ++ entries
+
+    own : List Entry
+    own = round_entries from.state.counts.moment turns.turns
+
+    at_moment : from.state.counts.moment ≡ moment_of now
+    at_moment =
+        sym (ap (λ (counts : Counts). counts.moment) (taken.stands.values kept legal refl).counts) ∙ ap moment_of (sym (behind_opening kept entries (Opened (sessions kept + 1))))
+
+    feeds_distinct : IsDistinct bytes_eq (names_of from.feeds)
+    feeds_distinct =
+        subst (λ (names : List (List ℕ)). IsDistinct bytes_eq names) (sym (fed_names tells left given.config.categories kept now given.sources from.feeds from.sources taken.fed)) distinct
+
+    of_round : TakesSteps given now given.sources own × AreFed tells left given.config.categories kept (now ++ own) given.sources to.feeds to.sources × AreFullOrOver given now given.sources to.feeds
+    of_round = rounds_taken tells left faults given kept now from.state.counts.moment from.feeds to.feeds from.sources to.sources turns.turns told at_moment taken.fed feeds_distinct turns.whole turns.each
+
+    one_taken : HasTaken tells left given kept (suc count) (entries ++ own) to
+    one_taken = record {
+      takes = rounds_more given (opened_behind kept) count entries own taken.takes of_round.0;
+      stands = turns.brings.stands (summary kept) (Opened (sessions kept + 1) ∷ entries) taken.stands;
+      fed = subst (λ (list : List Entry). AreFed tells left given.config.categories kept list given.sources to.feeds to.sources) (append_assoc (opened_behind kept) entries own) of_round.1;
+    }
+
+    one_full_end : EndsFull given (opened_behind kept) (suc count) (entries ++ own) to.feeds
+    one_full_end = (entries, own, refl, taken.takes, of_round.0, of_round.2)
+
+  -- all of them
+  pub all_taken : (count : ℕ) (from to : Place S) → HasTaken tells left given kept 0 [] from → TurnsOften tells left faults given.records count from to → (entries : List Entry) × HasTaken tells left given kept count entries to × EndsFull given (opened_behind kept) count entries to.feeds
+  all_taken zero from to start same = ([], subst (HasTaken tells left given kept 0 []) (sym same) start, tt)
+  all_taken (suc count) from to start (between, before, last) =
+      let (entries, taken, full) = all_taken count from between start before in
+      (entries ++ own count entries between to taken last, one_taken count entries between to taken last, one_full_end count entries between to taken last)
+
+-- where one source isn't at its end, it gave a full step in the last round
+pub has_more : {S : Type 0} (tells : Type 0) (left : S → List ℕ) (given : Given) (kept : List Entry) (count : ℕ) (entries : List Entry) (at : Place S) → HasTaken tells left given kept count entries at → EndsFull given (opened_behind kept) count entries at.feeds → are_over at.feeds ≡ false → 1 ≤ count → HasMore given (opened_behind kept) count entries
+has_more tells left given kept zero entries at taken full over some = absurd (omega (arith, some))
+has_more tells left given kept (suc earlier) entries at taken (before, last, are, takes, takes_last, full) over some =
+    let (source, among, gave) = one_full tells left given.config.categories kept (opened_behind kept ++ entries) given (opened_behind kept ++ before) given.sources at.feeds at.sources taken.fed full over in
+    record {
+      earlier = earlier;
+      count_is = refl;
+      before = before;
+      last = last;
+      are = are;
+      takes = takes;
+      takes_last = takes_last;
+      source = source;
+      among = among;
+      full = gave;
+    }

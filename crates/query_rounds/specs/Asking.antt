@@ -1,0 +1,47 @@
+-- What a text answers over a kept list and what the sources have behind it.
+use Rattle.std.specs.Prelude.{◌≡◌, ℕ, ◌+◌, ◌≤◌, true, false, All, List, [], ◌∷◌, ◌++◌}
+use Rattle.osq_value.specs.declared.reading.Category.{Category}
+use Rattle.osq_value.specs.declared.value.Value.{Value}
+use Rattle.sql_meaning.specs.Meaning.{meaning}
+use Rattle.entry_model.specs.declared.entry.Entry.{Entry}
+use Rattle.entry_model.specs.declared.entry.Entry.TheVariants.{Opened}
+use Rattle.entry_model.specs.Legal.{Legal}
+use Rattle.entry_model.specs.Summary.{summary}
+use Rattle.entry_model.specs.Values.{sessions}
+use Rattle.entry_model.specs.Views.{view_of}
+use Rattle.session_model.specs.Given.{Given}
+use Rattle.session_model.specs.Taking.{IsReadWhole}
+use Rattle.session_state.specs.Kept.{Kept}
+use Rattle.session_state.specs.Stands.{Stands}
+use Rattle.daemon_rounds.specs.declared.setup.SourceName.{SourceName}
+use Rattle.replay_rounds.specs.Sources.{sources_of}
+use Rattle.query_rounds.specs.Rounds.{HasMore, TakesRounds}
+use Rattle.query_rounds.specs.declared.asking.Asked.{Asked}
+
+-- a session is given these sources with the bytes that their objects have, these paths, and so many records a step
+pub record IsGiven {S : Type 0} (left : S → List ℕ) (names : List SourceName) (objects : List S) (paths : List Category) (records : ℕ) (given : Given) : Type 0 where
+  pub sources_are : given.sources ≡ sources_of left names objects
+  pub paths_are : given.config.categories ≡ paths
+  pub records_are : given.records ≡ records
+
+-- the kept list, and behind it the opening of a session that no one seals
+abbrev pub opened_behind : List Entry → List Entry
+opened_behind kept = kept ++ Opened (sessions kept + 1) ∷ []
+
+-- Rounds of the sources were taken behind the opening, and the rows are those that the text means at this moment over all live events and the
+-- tables of the list with all of that behind it. At the end every source was read to behind its last line feed; else all rounds were run, and in
+-- the last of them some source gave a full step.
+pub record IsAnswer (given : Given) (kept : List Entry) (text : List ℕ) (rounds moment : ℕ) (asked : Asked) : Type 0 where
+  pub count : ℕ
+  pub few : count ≤ rounds
+  pub entries : List Entry
+  pub takes : TakesRounds given (opened_behind kept) count entries
+  pub means : asked.rows ≡ meaning text (view_of (opened_behind kept ++ entries) 0 moment)
+  pub whole : asked.is_end ≡ true → All (IsReadWhole kept (opened_behind kept ++ entries)) given.sources
+  pub more : asked.is_end ≡ false → (count ≡ rounds) × (1 ≤ rounds → HasMore given (opened_behind kept) count entries)
+
+-- where the state stands for entries behind a legal list, the rows are those that the text means over all live events and the tables of that
+-- list with these entries behind it, at this moment
+abbrev pub AnswersBehind : Kept → List ℕ → ℕ → List (List Value) → Type 0
+AnswersBehind state text moment rows =
+    (before added : List Entry) → Legal before → Stands (summary before) added state → rows ≡ meaning text (view_of (before ++ added) 0 moment)

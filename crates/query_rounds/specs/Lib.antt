@@ -1,0 +1,5 @@
+pub mod Asking
+pub mod Reading
+pub mod Refusals
+pub mod Rounds
+pub mod Running
