@@ -1,5 +1,5 @@
-pub mod Asked
+pub mod Answered
 pub mod Refused
-pub mod Rounds
+pub mod Rounded
 pub mod Taken
 pub mod Turned

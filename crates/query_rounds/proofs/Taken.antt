@@ -26,7 +26,7 @@ use Rattle.query_rounds.specs.Asking.{opened_behind}
 use Rattle.query_rounds.specs.Reading.{IsBegun}
 use Rattle.query_rounds.specs.Rounds.{HasMore, TakesRounds}
 use Rattle.query_rounds.specs.Running.{Place, Turns, TurnsOften, are_over}
-use Rattle.query_rounds.proofs.Rounds.{rounds_more}
+use Rattle.query_rounds.proofs.Rounded.{rounds_more}
 
 -- the list with an entry behind it, and others behind that
 behind_opening : (kept entries : List Entry) (entry : Entry) → (kept ++ entry ∷ []) ++ entries ≡ kept ++ (entry ∷ entries)

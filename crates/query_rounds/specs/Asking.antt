@@ -1,5 +1,5 @@
 -- What a text answers over a kept list and what the sources have behind it.
-use Rattle.std.specs.Prelude.{◌≡◌, ℕ, ◌+◌, ◌≤◌, true, false, All, List, [], ◌∷◌, ◌++◌}
+use Rattle.std.specs.Prelude.{◌≡◌, ℕ, ◌+◌, ◌≤◌, true, false, All, List, [], ◌∷◌, ◌++◌, length}
 use Rattle.osq_value.specs.declared.reading.Category.{Category}
 use Rattle.osq_value.specs.declared.value.Value.{Value}
 use Rattle.sql_meaning.specs.Meaning.{meaning}
@@ -7,9 +7,9 @@ use Rattle.entry_model.specs.declared.entry.Entry.{Entry}
 use Rattle.entry_model.specs.declared.entry.Entry.TheVariants.{Opened}
 use Rattle.entry_model.specs.Legal.{Legal}
 use Rattle.entry_model.specs.Summary.{summary}
-use Rattle.entry_model.specs.Values.{sessions}
+use Rattle.entry_model.specs.Values.{sessions, taken_from}
 use Rattle.entry_model.specs.Views.{view_of}
-use Rattle.session_model.specs.Given.{Given}
+use Rattle.session_model.specs.Given.{Given, Source}
 use Rattle.session_model.specs.Taking.{IsReadWhole}
 use Rattle.session_state.specs.Kept.{Kept}
 use Rattle.session_state.specs.Stands.{Stands}
@@ -28,10 +28,11 @@ pub record IsGiven {S : Type 0} (left : S → List ℕ) (names : List SourceName
 abbrev pub opened_behind : List Entry → List Entry
 opened_behind kept = kept ++ Opened (sessions kept + 1) ∷ []
 
--- Rounds of the sources were taken behind the opening, and the rows are those that the text means at this moment over all live events and the
+-- Each source had the bytes that the kept list has of it. Rounds of the sources were taken behind the opening, and the rows are those that the text means at this moment over all live events and the
 -- tables of the list with all of that behind it. At the end every source was read to behind its last line feed; else all rounds were run, and in
 -- the last of them some source gave a full step.
 pub record IsAnswer (given : Given) (kept : List Entry) (text : List ℕ) (rounds moment : ℕ) (asked : Asked) : Type 0 where
+  pub present : All (λ (source : Source). taken_from kept source.name ≤ length source.bytes) given.sources
   pub count : ℕ
   pub few : count ≤ rounds
   pub entries : List Entry

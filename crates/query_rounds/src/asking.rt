@@ -1,11 +1,13 @@
 //! A question over a kept list and what its sources have behind it.
 
-ghost use Rattle.std.specs.Prelude.{◌≡◌, ◌<◌, ◌≤◌, ℕ, true, length, bytes_eq, Err, IfOk};
+ghost use Rattle.std.specs.Prelude.{◌≡◌, ◌<◌, ◌≤◌, ℕ, true, List, length, bytes_eq, Err, IfOk};
 ghost use Rattle.osq_outside.specs.Causes.{Rose};
 ghost use Rattle.sql_meaning.specs.Meaning.{is_accepted};
 ghost use Rattle.entry_model.specs.Fits.{Fits, IsDistinct};
 ghost use Rattle.entry_model.specs.Legal.{Legal};
 ghost use Rattle.entry_model.specs.Summary.{summary};
+ghost use Rattle.entry_model.specs.declared.restored.Restored.{Restored};
+ghost use Rattle.entry_model.specs.declared.restored.Taken.{Taken};
 ghost use Rattle.session_model.specs.Given.{Given};
 ghost use Rattle.daemon_rounds.specs.Rounding.{FailsAt};
 ghost use Rattle.daemon_rounds.specs.Starting.{HasShrunk, source_names};
@@ -57,8 +59,8 @@ pub fn ask_kept<S: Source, K: Keeper, C: Clock>(
     ensures illegal { K.tells → result ≡ Err AskError.KeeperRefused → ¬ Legal (K.kept keeper.old) }
     ensures moment { (moment : ℕ) → result ≡ Err (AskError.MomentTooLarge moment) → C.reads clock.old moment clock.new × (253402300799 < moment) }
     ensures fault { (place : ℕ) → result ≡ Err (AskError.SourceFault place) → FailsAt S.faults place sources.old sources.new }
-    ensures shrank { K.tells → (place kept found : ℕ) → result ≡ Err (AskError.SourceShrank place kept found) → HasShrunk S.tells S.left (summary (K.kept keeper.old)).taken names.now place kept found sources.old }
-    ensures over { K.tells → result ≡ Err AskError.NumbersSpent → IsOverfull S.tells S.left S.faults names.now paths.now records rounds (summary (K.kept keeper.old)) sources.old sources.new }
+    ensures shrank { (place kept found : ℕ) → result ≡ Err (AskError.SourceShrank place kept found) → (taken : List Taken) × (K.tells → taken ≡ (summary (K.kept keeper.old)).taken) × HasShrunk S.tells S.left taken names.now place kept found sources.old }
+    ensures over { result ≡ Err AskError.NumbersSpent → (restored : Restored) × (K.tells → restored ≡ summary (K.kept keeper.old)) × IsOverfull S.tells S.left S.faults names.now paths.now records rounds restored sources.old sources.new }
     ensures later { K.faults keeper.old ≤ K.faults keeper.new }
 {
     let restored = match load_values(alloc, keeper) {

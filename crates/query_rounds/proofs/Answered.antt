@@ -23,7 +23,7 @@ use Rattle.daemon_rounds.specs.Rounding.{names_of}
 use Rattle.daemon_rounds.specs.Starting.{source_names}
 use Rattle.daemon_rounds.proofs.Started.{all_going}
 use Rattle.replay_rounds.specs.Sources.{sources_of}
-use Rattle.replay_rounds.proofs.Ended.{all_whole}
+use Rattle.replay_rounds.proofs.Ended.{all_present, all_whole}
 use Rattle.replay_rounds.proofs.Feeds.{fed_names}
 use Rattle.query_rounds.specs.Asking.{AnswersBehind, IsAnswer, IsGiven, opened_behind}
 use Rattle.query_rounds.specs.Reading.{HasRead, IsBegun}
@@ -69,6 +69,7 @@ module _ {S : Type 0} (tells : Type 0) (left : S → List ℕ) (faults : S → �
 
     pub answer_of : (text : List ℕ) (moment : ℕ) (rows : List (List Value)) → AnswersBehind state text moment rows → IsAnswer given kept text rounds moment (record { rows = rows; is_end = is_end })
     answer_of text moment rows answers = record {
+      present = all_present tells left given.config.categories kept (opened_behind kept ++ entries) given.sources read.feeds rests told taken.fed;
       count = read.runs.count;
       few = read.runs.few;
       entries = entries;
