@@ -23,7 +23,7 @@ use Rattle.daemon_rounds.specs.Rounding.{names_of}
 use Rattle.daemon_rounds.specs.Starting.{source_names}
 use Rattle.daemon_rounds.proofs.Started.{all_going}
 use Rattle.replay_rounds.specs.Sources.{sources_of}
-use Rattle.replay_rounds.proofs.Ended.{all_present, all_whole}
+use Rattle.replay_rounds.proofs.Endings.{all_present, all_whole}
 use Rattle.replay_rounds.proofs.Feeds.{fed_names}
 use Rattle.query_rounds.specs.Asking.{AnswersBehind, IsAnswer, IsGiven, opened_behind}
 use Rattle.query_rounds.specs.Reading.{HasRead, IsBegun}
@@ -40,7 +40,7 @@ text_means text query state moment rows is means before added legal stands =
 module _ {S : Type 0} (tells : Type 0) (left : S → List ℕ) (faults : S → ℕ) (names : List SourceName) (objects rests : List S) (rounds : ℕ) (given : Given) (kept : List Entry) (state : Kept) (is_end : Bool) (told : tells) (legal : Legal kept) (distinct : IsDistinct bytes_eq (source_names names)) where
   -- over what the session is given
   module _ (are : given.sources ≡ sources_of left names objects) (read : HasRead tells left faults names given.config.categories given.records rounds (summary kept) objects rests state is_end) where
-    end : Place S
+    abbrev end : Place S
     end = place_of read.feeds rests state
 
     start_taken : HasTaken tells left given kept 0 [] read.start
@@ -53,7 +53,7 @@ module _ {S : Type 0} (tells : Type 0) (left : S → List ℕ) (faults : S → �
     all_read : (entries : List Entry) × HasTaken tells left given kept read.runs.count entries end × EndsFull given (opened_behind kept) read.runs.count entries end.feeds
     all_read = all_taken tells left faults given kept told legal sources_distinct read.runs.count read.start end start_taken read.runs.turns
 
-    entries : List Entry
+    abbrev entries : List Entry
     entries = all_read.0
 
     taken : HasTaken tells left given kept read.runs.count entries end

@@ -18,7 +18,7 @@ use Rattle.daemon_rounds.specs.declared.setup.SourceName.{SourceName}
 use Rattle.daemon_rounds.specs.Rounding.{names_of, round_entries}
 use Rattle.replay_rounds.specs.Sources.{AreFed, AreFullOrOver, sources_of}
 use Rattle.replay_rounds.proofs.Begun.{started_fed}
-use Rattle.replay_rounds.proofs.Ended.{one_full}
+use Rattle.replay_rounds.proofs.Endings.{one_full}
 use Rattle.replay_rounds.proofs.Feeds.{fed_names, fed_on}
 use Rattle.replay_rounds.proofs.Nothing.{nothing_behind, opened_nothing}
 use Rattle.replay_rounds.proofs.Stepped.{rounds_taken}
@@ -63,10 +63,10 @@ begun_taken {S} tells left faults given kept names objects start are begun = rec
 module _ {S : Type 0} (tells : Type 0) (left : S → List ℕ) (faults : S → ℕ) (given : Given) (kept : List Entry) (told : tells) (legal : Legal kept) (distinct : IsDistinct bytes_eq (map (λ (source : Source). source.name) given.sources)) where
   -- a round more
   module _ (count : ℕ) (entries : List Entry) (from to : Place S) (taken : HasTaken tells left given kept count entries from) (turns : Turns tells left faults given.records from to) where
-    now : List Entry
+    abbrev now : List Entry
     now = opened_behind kept ++ entries
 
-    own : List Entry
+    abbrev own : List Entry
     own = round_entries from.state.counts.moment turns.turns
 
     at_moment : from.state.counts.moment ≡ moment_of now

@@ -71,11 +71,12 @@ pub fn ask_kept<S: Source, K: Keeper, C: Clock>(
         Ok(moment) => moment,
         Err(MomentTooLarge { moment }) => return Err(AskError::MomentTooLarge { moment }),
     };
-    let Behind { state, is_end } =
-        match read_behind(alloc, restored, names, paths, records, rounds, sources) {
-            Ok(behind) => behind,
-            Err(error) => return Err(error),
-        };
+    let Behind { state, is_end } = match read_behind(
+        alloc, restored, names, paths, records, rounds, sources,
+    ) {
+        Ok(behind) => behind,
+        Err(error) => return Err(error),
+    };
     let Ok(rows) = answer_behind(alloc, text, &state, moment) else {
         return Err(AskError::NoMemory);
     };

@@ -23,7 +23,8 @@ const TIME: &str = "SELECT unix_time FROM time";
 const TABLE: &str = "{\"table\":\"groups\",\"rows\":[{\"gid\":\"0\",\"groupname\":\"root\"}]}\n";
 
 /// Three lines of 46 bytes.
-const CHANGES: &str = "{\"path\":\"/etc/a\",\"action\":\"CREATED\",\"time\":1}\n{\"path\":\"/etc/b\",\"action\":\"CREATED\",\"time\":2}\n{\"path\":\"/etc/c\",\"action\":\"CREATED\",\"time\":3}\n";
+const CHANGES: &str =
+    "{\"path\":\"/etc/a\",\"action\":\"CREATED\",\"time\":1}\n{\"path\":\"/etc/b\",\"action\":\"CREATED\",\"time\":2}\n{\"path\":\"/etc/c\",\"action\":\"CREATED\",\"time\":3}\n";
 
 /// What is asked, and of what: the kind of the one source, its text, how many records a step takes, and how many rounds are run at most.
 #[derive(Clone, Copy)]

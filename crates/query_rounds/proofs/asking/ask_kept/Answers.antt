@@ -1,0 +1,22 @@
+use Rattle.std.proofs.Common.{◌≡◌, ◌≤◌, ℕ, max, sym, ◌∙◌, subst, arith}
+use Rattle.entry_model.specs.declared.restored.Restored.{Restored}
+use Rattle.query_rounds.specs.Reading.{HasRead}
+use Rattle.query_rounds.proofs.Answered.{answered}
+use Rattle.query_rounds.proofs.asking.ask_kept.Goals as goal
+
+none_later : (reading : ℕ) → max reading 0 ≡ reading
+none_later reading = omega arith
+
+pub returns-clause-answer : goal.returns-clause-answer
+returns-clause-answer g c =
+    let read = c.in-Ok-read_moment.ensures.read in
+    let behind = c.in-Ok-read_behind.behind in
+    let same : read.reading ≡ c.in-Ok-read_moment.moment = sym (read.is ∙ none_later read.reading) in (
+      c.in-Ok-read_moment.moment,
+      subst (λ (moment : ℕ). g.C.Clock.reads c.args.clock.now moment c.read_moment.new.clock) same read.reads_it,
+      subst (λ (moment : ℕ). moment ≤ 253402300799) same read.calendar,
+      λ told sources_told legal given is.
+          answered g.S.Source.tells g.S.Source.left g.S.Source.faults c.args.names.now c.args.sources.now c.read_behind.new.sources c.args.rounds given (g.K.Keeper.kept c.args.keeper.now) behind.state behind.is_end sources_told legal c.requires.distinct c.args.paths.now c.args.records is
+          (subst (λ (restored : Restored). HasRead g.S.Source.tells g.S.Source.left g.S.Source.faults c.args.names.now c.args.paths.now c.args.records c.args.rounds restored c.args.sources.now c.read_behind.new.sources behind.state behind.is_end) (c.in-Ok.ensures.value told) c.in-Ok-read_behind.ensures.read)
+          c.args.text.now c.in-Ok-read_moment.moment c.in-Ok-answer_behind.rows c.in-Ok-answer_behind.ensures,
+    )
