@@ -1,12 +1,11 @@
 -- The answer to a question.
-use Rattle.std.proofs.Common.{◌≡◌, ℕ, ◌+◌, ◌≤◌, Bool, true, false, List, [], ◌∷◌, ◌++◌, Some, map, refl, sym, ap, ◌∙◌, subst, append_assoc, arith}
-use Rattle.std.specs.Prelude.{All, Option, bytes_eq}
+use Rattle.std.proofs.Common.{◌≡◌, ℕ, ◌+◌, ◌≤◌, Bool, false, List, [], ◌∷◌, ◌++◌, Some, map, sym, ap, ◌∙◌, subst, append_assoc, arith}
+use Rattle.std.specs.Prelude.{Option, bytes_eq}
 use Rattle.osq_value.specs.declared.reading.Category.{Category}
 use Rattle.osq_value.specs.declared.value.Value.{Value}
 use Rattle.sql_names.specs.Resolved.{QueryTree}
 use Rattle.sql_names.specs.Texts.{query_in}
 use Rattle.sql_meaning.specs.Meaning.{meaning, meaning_if}
-use Rattle.source_feeds.specs.Feeding.{Feeding}
 use Rattle.entry_model.specs.declared.entry.Entry.{Entry}
 use Rattle.entry_model.specs.declared.entry.Entry.TheVariants.{Opened}
 use Rattle.entry_model.specs.Fits.{IsDistinct}
@@ -15,20 +14,18 @@ use Rattle.entry_model.specs.Summary.{summary}
 use Rattle.entry_model.specs.Values.{sessions}
 use Rattle.entry_model.specs.Views.{view_of}
 use Rattle.session_model.specs.Given.{Given, Source}
-use Rattle.session_model.specs.Taking.{IsReadWhole}
 use Rattle.session_state.specs.Kept.{Kept}
 use Rattle.kept_queries.specs.Asking.{MeansBehind}
 use Rattle.daemon_rounds.specs.declared.setup.SourceName.{SourceName}
-use Rattle.daemon_rounds.specs.Rounding.{names_of}
 use Rattle.daemon_rounds.specs.Starting.{source_names}
 use Rattle.daemon_rounds.proofs.Started.{all_going}
 use Rattle.replay_rounds.specs.Sources.{sources_of}
 use Rattle.replay_rounds.proofs.Endings.{all_present, all_whole}
 use Rattle.replay_rounds.proofs.Feeds.{fed_names}
 use Rattle.query_rounds.specs.Asking.{AnswersBehind, IsAnswer, IsGiven, opened_behind}
-use Rattle.query_rounds.specs.Reading.{HasRead, IsBegun}
+use Rattle.query_rounds.specs.Reading.{HasRead}
 use Rattle.query_rounds.specs.Rounds.{HasMore}
-use Rattle.query_rounds.specs.Running.{Place, RunsOut, place_of}
+use Rattle.query_rounds.specs.Running.{Place, place_of}
 use Rattle.query_rounds.proofs.Taken.{EndsFull, HasTaken, all_taken, begun_taken, has_more}
 
 -- what the text's query means is what the text means

@@ -12,7 +12,7 @@ use Rattle.entry_model.specs.Values.{moment_of, sessions, taken_from}
 use Rattle.entry_model.proofs.Summaries.{taken_is}
 use Rattle.session_model.specs.Given.{Given, Source}
 use Rattle.session_model.specs.Taking.{TakesSteps}
-use Rattle.session_state.specs.Kept.{Counts, Kept}
+use Rattle.session_state.specs.Kept.{Counts}
 use Rattle.session_state.specs.Stands.{Stands}
 use Rattle.daemon_rounds.specs.declared.setup.SourceName.{SourceName}
 use Rattle.daemon_rounds.specs.Rounding.{names_of, round_entries}

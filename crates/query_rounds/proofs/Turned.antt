@@ -1,5 +1,5 @@
 -- Rounds by the state, one after another.
-use Rattle.std.proofs.Common.{◌≡◌, ℕ, zero, suc, ◌+◌, List, refl, sym, subst, arith}
+use Rattle.std.proofs.Common.{◌≡◌, ℕ, zero, suc, ◌+◌, List, sym, subst, arith}
 use Rattle.daemon_rounds.specs.declared.turning.Which.TheVariants as which
 use Rattle.daemon_rounds.proofs.Laters.{AreLater, later_then, none_later, round_later}
 use Rattle.query_rounds.specs.Running.{Place, Turns, TurnsOften}
