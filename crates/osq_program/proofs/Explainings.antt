@@ -6,7 +6,7 @@ use Rattle.sql_names.specs.Texts.{query_in}
 use Rattle.sql_planner.specs.Explained.{explained}
 use Rattle.sql_planner.specs.Plans.{planned}
 use Rattle.osq_program.specs.declared.status.Status.{Status}
-use Rattle.osq_program.specs.declared.status.Status.TheVariants.{Ok as Done, Usage, FilesFault, ConfigRefused, KeeperFault, MomentTooLarge, SourceFault, SinkFault, TicksSpent, QueryRefused, OutOfMemory, NotBuilt}
+use Rattle.osq_program.specs.declared.status.Status.TheVariants.{Ok as Done, Usage, FilesFault, ConfigRefused, KeeperFault, KeeperRefused, MomentTooLarge, SourceFault, SourceShrank, NumbersSpent, SinkFault, TicksSpent, QueryRefused, OutOfMemory, NotBuilt}
 use Rattle.osq_program.specs.Answers.{IsCaused, no_causes}
 use Rattle.osq_program.specs.Commands.{Explain}
 use Rattle.osq_program.specs.Explaining.{IsExplain, Leaves, ShowsPlan, causes_of}
@@ -20,8 +20,11 @@ cause_more w told Usage caused = caused
 cause_more w told FilesFault caused = caused
 cause_more w told (ConfigRefused kind key) caused = caused
 cause_more w told KeeperFault caused = caused
+cause_more w told KeeperRefused caused = caused
 cause_more w told (MomentTooLarge moment) caused = caused
 cause_more w told (SourceFault name) caused = caused
+cause_more w told (SourceShrank name kept found) caused = caused
+cause_more w told NumbersSpent caused = caused
 cause_more w told SinkFault caused = absurd caused
 cause_more w told TicksSpent caused = caused
 cause_more w told (QueryRefused place kind) caused = caused
@@ -34,8 +37,11 @@ nothing_left w told Usage caused same = same
 nothing_left w told FilesFault caused same = same
 nothing_left w told (ConfigRefused kind key) caused same = same
 nothing_left w told KeeperFault caused same = same
+nothing_left w told KeeperRefused caused same = same
 nothing_left w told (MomentTooLarge moment) caused same = same
 nothing_left w told (SourceFault name) caused same = same
+nothing_left w told (SourceShrank name kept found) caused same = same
+nothing_left w told NumbersSpent caused same = same
 nothing_left w told SinkFault caused same = absurd caused
 nothing_left w told TicksSpent caused same = same
 nothing_left w told (QueryRefused place kind) caused same = same

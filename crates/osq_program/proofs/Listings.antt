@@ -4,7 +4,7 @@ use Rattle.std.proofs.lemmas.List.{take_more}
 use Rattle.osq_config.specs.declared.error.ConfigError.{ConfigError}
 use Rattle.pack_rules.specs.declared.schedule.Scheduled.{Scheduled}
 use Rattle.osq_program.specs.declared.status.Status.{Status}
-use Rattle.osq_program.specs.declared.status.Status.TheVariants.{Ok as Done, Usage, FilesFault, ConfigRefused, KeeperFault, MomentTooLarge, SourceFault, SinkFault, TicksSpent, QueryRefused, OutOfMemory, NotBuilt}
+use Rattle.osq_program.specs.declared.status.Status.TheVariants.{Ok as Done, Usage, FilesFault, ConfigRefused, KeeperFault, KeeperRefused, MomentTooLarge, SourceFault, SourceShrank, NumbersSpent, SinkFault, TicksSpent, QueryRefused, OutOfMemory, NotBuilt}
 use Rattle.osq_program.specs.Answers.{Causes, IsCaused, no_causes}
 use Rattle.config_files.specs.Naming.{key_of_error, kind_of_error}
 use Rattle.osq_program.specs.Checking.{HasLines, IsCheck, IsRefusedFor, Leaves, Refuses, causes_of, query_line, schedule_lines}
@@ -31,8 +31,11 @@ by_error failed R error gives Usage refuses = absurd refuses
 by_error failed R error gives FilesFault refuses = absurd refuses
 by_error failed R error gives (ConfigRefused kind key) refuses = gives kind.now key refuses.1 refuses.2
 by_error failed R error gives KeeperFault refuses = absurd refuses
+by_error failed R error gives KeeperRefused refuses = absurd refuses
 by_error failed R error gives (MomentTooLarge moment) refuses = absurd refuses
 by_error failed R error gives (SourceFault name) refuses = absurd refuses
+by_error failed R error gives (SourceShrank name kept found) refuses = absurd refuses
+by_error failed R error gives NumbersSpent refuses = absurd refuses
 by_error failed R error gives SinkFault refuses = absurd refuses
 by_error failed R error gives TicksSpent refuses = absurd refuses
 by_error failed R error gives (QueryRefused place kind) refuses = absurd refuses
@@ -48,14 +51,16 @@ check_cause w told Usage caused = caused
 check_cause w told FilesFault caused = caused
 check_cause w told (ConfigRefused kind key) caused = caused
 check_cause w told KeeperFault caused = caused
+check_cause w told KeeperRefused caused = absurd caused
 check_cause w told (MomentTooLarge moment) caused = caused
 check_cause w told (SourceFault name) caused = caused
+check_cause w told (SourceShrank name kept found) caused = absurd caused
+check_cause w told NumbersSpent caused = absurd caused
 check_cause w told SinkFault caused = absurd caused
 check_cause w told TicksSpent caused = caused
 check_cause w told (QueryRefused place kind) caused = caused
 check_cause w told OutOfMemory caused = caused
-check_cause w told (NotBuilt what) (inl caused) = absurd caused.1
-check_cause w told (NotBuilt what) (inr caused) = absurd caused.1
+check_cause w told (NotBuilt what) caused = absurd caused.1
 
 check_leaves : (w : CheckWords) (told : Told) (s : Status) → IsCaused (config_causes w told) s → (told.sink_tells → told.results_after ≡ told.results_before) → Leaves w told s
 check_leaves w told Done caused same = absurd caused
@@ -63,8 +68,11 @@ check_leaves w told Usage caused same = same
 check_leaves w told FilesFault caused same = same
 check_leaves w told (ConfigRefused kind key) caused same = same
 check_leaves w told KeeperFault caused same = same
+check_leaves w told KeeperRefused caused same = same
 check_leaves w told (MomentTooLarge moment) caused same = same
 check_leaves w told (SourceFault name) caused same = same
+check_leaves w told (SourceShrank name kept found) caused same = same
+check_leaves w told NumbersSpent caused same = same
 check_leaves w told SinkFault caused same = absurd caused
 check_leaves w told TicksSpent caused same = same
 check_leaves w told (QueryRefused place kind) caused same = same

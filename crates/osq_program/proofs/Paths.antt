@@ -1,41 +1,31 @@
 -- What words ask for, and what is done of it.
-use Rattle.std.proofs.Common.{◌≡◌, ℕ, ◌&&◌, not, Bool, true, false, List, [], ◌∷◌, length, Option, Some, None, inl, refl, sym, ap, subst}
+use Rattle.std.proofs.Common.{◌≡◌, ℕ, ◌&&◌, not, Bool, true, false, List, [], ◌∷◌, length, Option, Some, None, refl, sym, ap, subst}
 use Rattle.std.specs.Prelude.{◌==◌, if◌then◌else◌, is_some, unwrap_or}
 use Rattle.std.specs.Option.{option_map, option_map_or}
 use Rattle.program_words.specs.declared.command.CommandWords.{CommandWords}
 use Rattle.program_words.specs.declared.command.CommandWords.TheVariants.{Replay as AsksReplay, Query as AsksQuery, Check as AsksCheck}
 use Rattle.program_words.specs.declared.command.QueryWords.{QueryWords}
 use Rattle.program_words.specs.declared.command.ReplayWords.{ReplayWords}
+use Rattle.program_words.specs.Bounds.{IsBounded, RunBounds}
 use Rattle.program_words.specs.declared.source.SourceKind.{SourceKind}
 use Rattle.program_words.specs.declared.source.SourceKind.TheVariants.{Audit, Changes, Tables}
 use Rattle.program_words.specs.declared.source.SourceName.{SourceName}
 use Rattle.osq_program.specs.declared.status.Status.{Status}
 use Rattle.osq_program.specs.declared.status.Status.TheVariants.{OutOfMemory}
-use Rattle.osq_program.specs.Commands.{Query, Replay, count_of, query_in, replay_in, replay_over, tables_by, tables_over}
-use Rattle.osq_program.specs.Doing.{AnswersBy, Does, DoesQuery, DoesReplay, IsLeft, QueriesBy, ReplaysBy}
+use Rattle.osq_program.specs.Commands.{Query, count_of, query_in, tables_by, tables_over}
+use Rattle.osq_program.specs.Doing.{AnswersBy, Does, DoesQuery, IsLeft, QueriesBy}
 use Rattle.osq_program.specs.Explaining.{IsExplain}
 use Rattle.osq_program.specs.Querying.{IsQuery}
-use Rattle.osq_program.specs.Replaying.{IsReplay}
 use Rattle.osq_program.specs.Told.{Told}
-use Rattle.osq_program.proofs.Ended.{unwritten}
 use Rattle.osq_program.proofs.Listings.{wants_memory}
 use Rattle.osq_program.proofs.Queries.{no_memory}
-use Rattle.osq_program.specs.Run.{IsPartlyWritten}
+use Rattle.osq_program.proofs.Replays.{no_memory as replay_wants}
 
 some_if : {X : Type 0} (b : Bool) (o : Option X) (x : X) → Some x ≡ (if b then o else None) → Some x ≡ o
 some_if true o x is = is
 some_if false o x is = absurd cc
 
--- such a session is over one source
-pub one_source : (words : ReplayWords) (w : Replay) → Some w ≡ replay_in words → length words.sources ≡ 1
-one_source words w is = over words.sources (some_if (words.ticks == 1 && words.records == 10000) (replay_over words words.sources) w is)
-  where
-    over : (sources : List SourceName) → Some w ≡ replay_over words sources → length sources ≡ 1
-    over [] e = absurd cc
-    over (source ∷ []) e = refl
-    over (source ∷ other ∷ rest) e = absurd cc
-
--- and such a question over its source of tables alone
+-- such a question is over its source of tables alone
 pub its_sources : (words : QueryWords) (w : Query) → Some w ≡ query_in words → length words.sources ≡ count_of w.tables
 its_sources words w is =
     over words.sources (some_if (words.ticks == 1000000 && words.records == 10000 && not (is_some words.config)) (asked (tables_over words.sources)) w is)
@@ -56,12 +46,6 @@ its_sources words w is =
     over (source ∷ []) e = by_kind source.kind source.path e
     over (source ∷ other ∷ rest) e = absurd cc
 
-pub does_replay : (words : ReplayWords) (w : Replay) (told : Told) (status : Status) → Some w ≡ replay_in words → IsReplay w told status → DoesReplay words told status
-does_replay words w told status is does = subst (λ (o : Option Replay). ReplaysBy o told status) is does
-
-pub leaves_replay : (words : ReplayWords) (told : Told) (status : Status) → None ≡ replay_in words → IsLeft told status → DoesReplay words told status
-leaves_replay words told status is left = subst (λ (o : Option Replay). ReplaysBy o told status) is left
-
 pub does_explain : (words : QueryWords) (told : Told) (status : Status) → words.explain ≡ true → IsExplain (record { text = words.text }) told status → DoesQuery words told status
 does_explain words told status is does = subst (λ (b : Bool). QueriesBy b words told status) (sym is) does
 
@@ -73,17 +57,7 @@ leaves_query words told status plain is left = subst (λ (b : Bool). QueriesBy b
 
 -- memory is wanting before anything is done
 wants : (command : CommandWords) (told : Told) → (told.keeper_tells → told.kept_after ≡ told.kept_before) → (told.sink_tells → told.results_after ≡ told.results_before) → Does command told OutOfMemory
-wants (AsksReplay words) told kept same = by_path (replay_in words)
-  where
-    by_path : (o : Option Replay) → ReplaysBy o told OutOfMemory
-    by_path None = record { not_built = tt; kept = kept; written = same }
-    by_path (Some w) = record {
-      done = λ done. absurd done;
-      spent = λ spent. absurd spent;
-      cause = λ refusal. tt;
-      kept = λ tells. inl (kept tells);
-      written = λ tells. subst (λ (after : List ℕ). IsPartlyWritten w.host told.keeper_tells told.kept_after told.results_before after) (sym (same tells)) (unwritten w.host told.keeper_tells told.kept_after told.results_before);
-    }
+wants (AsksReplay words) told kept same = replay_wants words told OutOfMemory refl kept same
 wants (AsksQuery words) told kept same = by_flag words.explain
   where
     by_path : (o : Option Query) → AnswersBy o told OutOfMemory
@@ -101,3 +75,8 @@ wants_by command told status is kept same = subst (λ (s : Status). Does command
 -- what is done for the command that was read is done for the one that the words spell
 pub for_read : (read command : CommandWords) (told : Told) (status : Status) → Some read ≡ Some command → Does read told status → Does command told status
 for_read read command told status is does = subst (λ (c : CommandWords). Does c told status) (ap (λ (o : Option CommandWords). unwrap_or o read) is) does
+
+-- the words of a session lie within the bounds of a run
+pub run_bounded : (words : ReplayWords) → IsBounded (AsksReplay words) → RunBounds words.start words.step words.ticks words.records words.sources
+unfolding IsBounded
+run_bounded words bounded = bounded.0

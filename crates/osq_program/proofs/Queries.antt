@@ -1,5 +1,5 @@
 -- From what the parts of a query ensure to what `query` does.
-use Rattle.std.proofs.Common.{◌≡◌, ◌≢◌, inl, inr, ◌<◌, ◌≤◌, ℕ, List, [], ◌++◌, take, refl, sym, ap, ◌∙◌, subst, Some, None}
+use Rattle.std.proofs.Common.{◌≡◌, ◌≢◌, ◌<◌, ◌≤◌, ℕ, List, [], ◌++◌, take, refl, sym, ap, ◌∙◌, subst, Some, None}
 use Rattle.std.specs.Prelude.{Bool, true, false, not, unwrap_or}
 use Rattle.std.proofs.lemmas.Bool.{true≢false}
 use Rattle.osq_value.specs.declared.reading.Reading.{Reading}
@@ -12,10 +12,10 @@ use Rattle.sql_names.specs.Resolved.{QueryTree}
 use Rattle.sql_names.specs.TextFaults.{text_fault}
 use Rattle.sql_names.specs.Texts.{query_in}
 use Rattle.osq_program.specs.declared.status.Status.{Status}
-use Rattle.osq_program.specs.declared.status.Status.TheVariants.{Ok as Done, Usage, FilesFault, ConfigRefused, KeeperFault, MomentTooLarge, SourceFault, SinkFault, TicksSpent, QueryRefused, OutOfMemory, NotBuilt}
+use Rattle.osq_program.specs.declared.status.Status.TheVariants.{Ok as Done, Usage, FilesFault, ConfigRefused, KeeperFault, KeeperRefused, MomentTooLarge, SourceFault, SourceShrank, NumbersSpent, SinkFault, TicksSpent, QueryRefused, OutOfMemory, NotBuilt}
 use Rattle.osq_program.specs.Answers.{Causes, IsCaused, no_causes}
 use Rattle.osq_program.specs.Commands.{Query}
-use Rattle.osq_program.specs.FirstPath.{LAST_MOMENT}
+use Rattle.osq_program.specs.Moments.{LAST_MOMENT}
 use Rattle.osq_program.specs.Querying.{HasBegun, IsAnswer, IsQuery, IsRefusedAt, Leaves, causes_of, row_lines}
 use Rattle.osq_program.specs.Tables.{HasSpentRounds, IsReadWhole, entries_before}
 use Rattle.osq_program.specs.Told.{Told}
@@ -30,7 +30,9 @@ pub record Stops (w : Query) (told : Told) (c : Causes) : Type 0 where
   pub source : (name : List ℕ) → c.source name → HasBegun w told × (w.tables ≡ Some name) × told.source_failed
   pub files : c.files → ⊥
   pub refused : (kind key : List ℕ) → c.refused kind key → ⊥
-  pub config : c.config → ⊥
+  pub unfit : c.unfit → ⊥
+  pub shrank : (name : List ℕ) (kept found : ℕ) → c.shrank name kept found → ⊥
+  pub numbers : c.numbers → ⊥
   pub sink : c.sink → ⊥
 
 stop_cause : (w : Query) (told : Told) (c : Causes) → Stops w told c → (s : Status) → IsCaused c s → IsCaused (causes_of w told) s
@@ -39,14 +41,16 @@ stop_cause w told c stops Usage caused = caused
 stop_cause w told c stops FilesFault caused = stops.files caused
 stop_cause w told c stops (ConfigRefused kind key) caused = stops.refused kind.now key caused
 stop_cause w told c stops KeeperFault caused = stops.keeper caused
+stop_cause w told c stops KeeperRefused caused = stops.unfit caused
 stop_cause w told c stops (MomentTooLarge moment) caused = stops.moment moment caused
 stop_cause w told c stops (SourceFault name) caused = stops.source name caused
+stop_cause w told c stops (SourceShrank name kept found) caused = stops.shrank name kept found caused
+stop_cause w told c stops NumbersSpent caused = stops.numbers caused
 stop_cause w told c stops SinkFault caused = absurd (stops.sink caused)
 stop_cause w told c stops TicksSpent caused = caused
 stop_cause w told c stops (QueryRefused place kind) caused = stops.query place kind.now caused
 stop_cause w told c stops OutOfMemory caused = tt
-stop_cause w told c stops (NotBuilt what) (inl caused) = absurd (stops.config caused.1)
-stop_cause w told c stops (NotBuilt what) (inr caused) = inr (caused.0, stops.kept caused.1)
+stop_cause w told c stops (NotBuilt what) caused = (caused.0, stops.kept caused.1)
 
 stop_leaves : (w : Query) (told : Told) (c : Causes) → Stops w told c → (s : Status) → IsCaused c s → (told.sink_tells → told.results_after ≡ told.results_before) → Leaves w told s
 stop_leaves w told c stops Done caused same = absurd caused
@@ -54,8 +58,11 @@ stop_leaves w told c stops Usage caused same = same
 stop_leaves w told c stops FilesFault caused same = same
 stop_leaves w told c stops (ConfigRefused kind key) caused same = same
 stop_leaves w told c stops KeeperFault caused same = same
+stop_leaves w told c stops KeeperRefused caused same = same
 stop_leaves w told c stops (MomentTooLarge moment) caused same = same
 stop_leaves w told c stops (SourceFault name) caused same = same
+stop_leaves w told c stops (SourceShrank name kept found) caused same = same
+stop_leaves w told c stops NumbersSpent caused same = same
 stop_leaves w told c stops SinkFault caused same = absurd (stops.sink caused)
 stop_leaves w told c stops TicksSpent caused same = same
 stop_leaves w told c stops (QueryRefused place kind) caused same = same
@@ -84,7 +91,9 @@ refused_text w told s r is caused same kept =
       source = λ name x. absurd x;
       files = λ x. x;
       refused = λ kind key x. x;
-      config = λ x. x;
+      unfit = λ x. x;
+      shrank = λ name kept found x. x;
+      numbers = λ x. x;
       sink = λ x. x;
     }) s caused same kept)
 
@@ -101,7 +110,9 @@ refused_kept w told s r is accepted caused same kept =
       source = λ name x. absurd x;
       files = λ x. x;
       refused = λ kind key x. x;
-      config = λ x. x;
+      unfit = λ x. x;
+      shrank = λ name kept found x. x;
+      numbers = λ x. x;
       sink = λ x. x;
     }) s caused same kept)
 
@@ -118,7 +129,9 @@ refused_moment w told s r is accepted empty caused same kept =
       source = λ name x. absurd x;
       files = λ x. x;
       refused = λ kind key x. x;
-      config = λ x. x;
+      unfit = λ x. x;
+      shrank = λ name kept found x. x;
+      numbers = λ x. x;
       sink = λ x. x;
     }) s caused same kept)
 
@@ -135,7 +148,9 @@ refused_source w told s r is begun caused same kept =
       source = λ name x. (begun, x.0, x.1);
       files = λ x. x;
       refused = λ kind key x. x;
-      config = λ x. x;
+      unfit = λ x. x;
+      shrank = λ name kept found x. x;
+      numbers = λ x. x;
       sink = λ x. x;
     }) s caused same kept)
 

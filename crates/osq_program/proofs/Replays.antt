@@ -1,17 +1,38 @@
--- From what the parts of a session ensure to what `replay` does.
-use Rattle.std.proofs.Common.{◌≡◌, ◌≢◌, ◌⊎◌, inl, inr, ℕ, Bool, true, false, List, [], ◌++◌, sym, ap, ◌∙◌, subst, Some, None}
+-- From what the parts of a run ensure to what `replay` does.
+use Rattle.std.proofs.Common.{◌≡◌, ◌⊎◌, inl, inr, ◌<◌, ℕ, Bool, true, false, List, [], ◌++◌, map, length, refl, sym, ap, ◌∙◌, subst, append_assoc, slice_get, Option, Some, None}
+use Rattle.std.specs.Prelude.{option_map}
+use Rattle.std.proofs.lemmas.Option.{same_Some, slice_get-map, slice_get_within}
+use Rattle.config_files.specs.Configurations.{IsConfigured}
+use Rattle.osq_config.specs.declared.config.Config.{Config}
+use Rattle.osq_outside.specs.Causes.{Rose}
 use Rattle.entry_model.specs.declared.entry.Entry.{Entry}
+use Rattle.entry_model.specs.declared.restored.Taken.{Taken}
+use Rattle.entry_model.specs.Next.{offset_at}
+use Rattle.entry_model.specs.Summary.{summary}
+use Rattle.entry_model.specs.Values.{taken_from}
+use Rattle.entry_model.proofs.Summaries.{taken_is}
+use Rattle.program_words.specs.declared.command.ReplayWords.{ReplayWords}
+use Rattle.program_words.specs.declared.source.SourceName.{SourceName}
+use Rattle.session_model.specs.Given.{Given}
+use Rattle.daemon_rounds.specs.declared.setup.Setup.{Setup}
+use Rattle.daemon_rounds.specs.declared.setup.SourceName.{SourceName as SessionSource}
+use Rattle.daemon_rounds.specs.Starting as starting
+use Rattle.replay_rounds.specs.declared.running.Ended.{Ended}
+use Rattle.replay_rounds.specs.declared.running.RunError.{RunError}
+use Rattle.replay_rounds.specs.declared.running.RunError.TheVariants as running
+use Rattle.replay_rounds.specs.Fixed.{given_of}
+use Rattle.replay_rounds.specs.Running.{HasRun, IsKept, IsWritten}
+use Rattle.replay_rounds.specs.Sources.{sources_of}
 use Rattle.osq_program.specs.declared.status.Status.{Status}
-use Rattle.osq_program.specs.declared.status.Status.TheVariants.{Ok as Done, Usage, FilesFault, ConfigRefused, KeeperFault, MomentTooLarge, SourceFault, SinkFault, TicksSpent, QueryRefused, OutOfMemory, NotBuilt}
-use Rattle.osq_program.specs.Answers.{Causes, IsCaused, IsDoneStatus, IsSpentStatus, IsUsageStatus, IsRefusal, IsRead, no_causes, replay_causes}
-use Rattle.osq_program.specs.Commands.{Replay}
-use Rattle.osq_program.specs.FirstPath.{the_document}
-use Rattle.osq_program.specs.Kinds.{kind_of}
-use Rattle.osq_program.specs.Replaying.{Finishes, IsReplay, causes_of}
-use Rattle.osq_program.specs.Report.{final_text, spent_line}
-use Rattle.osq_program.specs.Run.{HasTotals, IsKept, IsPartlyWritten}
+use Rattle.osq_program.specs.declared.status.Status.TheVariants.{Ok as Done, Usage, FilesFault, ConfigRefused, KeeperFault, KeeperRefused, MomentTooLarge, SourceFault, SourceShrank, NumbersSpent, SinkFault, TicksSpent, QueryRefused, OutOfMemory, NotBuilt}
+use Rattle.osq_program.specs.Answers.{Causes, IsCaused, IsDoneStatus, IsSpentStatus, IsUsageStatus, IsRefusal, no_causes}
+use Rattle.osq_program.specs.Checking.{IsRefusedFor}
+use Rattle.osq_program.specs.Ending.{IsAnswerTo, IsNamedAt, NamesSource}
+use Rattle.osq_program.specs.Replaying.{HasFailed, HasShrunk, IsAccepted, IsGiven, IsReplay, IsTooLate, IsUnfit, Ran, causes_of, fixed}
+use Rattle.osq_program.specs.Report.{final_line, spent_line}
+use Rattle.osq_program.specs.Setups.{setup_in, source_in, sources_named}
 use Rattle.osq_program.specs.Told.{Told}
-use Rattle.osq_program.proofs.Ended.{final_is, told_end}
+use Rattle.osq_program.proofs.Setups.{sources_are}
 
 -- a refusal with a cause is no other answer
 pub not_done : (c : Causes) (s : Status) → IsCaused c s → IsDoneStatus s → ⊥
@@ -20,8 +41,11 @@ not_done c Usage caused is = is
 not_done c FilesFault caused is = is
 not_done c (ConfigRefused kind key) caused is = is
 not_done c KeeperFault caused is = is
+not_done c KeeperRefused caused is = is
 not_done c (MomentTooLarge moment) caused is = is
 not_done c (SourceFault name) caused is = is
+not_done c (SourceShrank name kept found) caused is = is
+not_done c NumbersSpent caused is = is
 not_done c SinkFault caused is = is
 not_done c TicksSpent caused is = is
 not_done c (QueryRefused place kind) caused is = is
@@ -34,8 +58,11 @@ not_spent c Usage caused is = is
 not_spent c FilesFault caused is = is
 not_spent c (ConfigRefused kind key) caused is = is
 not_spent c KeeperFault caused is = is
+not_spent c KeeperRefused caused is = is
 not_spent c (MomentTooLarge moment) caused is = is
 not_spent c (SourceFault name) caused is = is
+not_spent c (SourceShrank name kept found) caused is = is
+not_spent c NumbersSpent caused is = is
 not_spent c SinkFault caused is = is
 not_spent c TicksSpent caused is = caused
 not_spent c (QueryRefused place kind) caused is = is
@@ -48,88 +75,181 @@ not_usage c Usage caused is = caused
 not_usage c FilesFault caused is = is
 not_usage c (ConfigRefused kind key) caused is = is
 not_usage c KeeperFault caused is = is
+not_usage c KeeperRefused caused is = is
 not_usage c (MomentTooLarge moment) caused is = is
 not_usage c (SourceFault name) caused is = is
+not_usage c (SourceShrank name kept found) caused is = is
+not_usage c NumbersSpent caused is = is
 not_usage c SinkFault caused is = is
 not_usage c TicksSpent caused is = is
 not_usage c (QueryRefused place kind) caused is = is
 not_usage c OutOfMemory caused is = is
 not_usage c (NotBuilt what) caused is = is
 
--- the source had these bytes to give
-pub for_bytes : (w : Replay) (told : Told) (status : Status) (bytes : List ℕ) → told.bytes ≡ bytes → IsReplay w (record told { bytes = bytes }) status → IsReplay w told status
-for_bytes w told status bytes is does = subst (λ (bs : List ℕ). IsReplay w (record told { bytes = bs }) status) (sym is) does
+-- the configuration is refused
+config_cause : (words : ReplayWords) (told : Told) (s : Status) → IsCaused (record no_causes { files = told.files_failed; refused = IsRefusedFor told.files_tell told.file words.config }) s → IsCaused (causes_of words told) s
+config_cause words told Done caused = caused
+config_cause words told Usage caused = caused
+config_cause words told FilesFault caused = caused
+config_cause words told (ConfigRefused kind key) caused = caused
+config_cause words told KeeperFault caused = absurd caused
+config_cause words told KeeperRefused caused = absurd caused
+config_cause words told (MomentTooLarge moment) caused = absurd caused
+config_cause words told (SourceFault name) caused = absurd caused
+config_cause words told (SourceShrank name kept found) caused = absurd caused
+config_cause words told NumbersSpent caused = absurd caused
+config_cause words told SinkFault caused = absurd caused
+config_cause words told TicksSpent caused = caused
+config_cause words told (QueryRefused place kind) caused = caused
+config_cause words told OutOfMemory caused = tt
+config_cause words told (NotBuilt what) caused = absurd caused.1
 
 -- the last line of a whole session could not be written
-pub line_unwritten : (w : Replay) (told : Told) → (told.files_tell → told.file w.config ≡ Some the_document) → (told.keeper_tells → told.kept_before ≡ []) → IsRead told.reads
-    → (s : Status) → IsRefusal s → IsCaused (record no_causes { sink = told.status_failed }) s → IsCaused (causes_of w told) s
-line_unwritten w told known empty read Done refusal caused = caused
-line_unwritten w told known empty read Usage refusal caused = caused
-line_unwritten w told known empty read FilesFault refusal caused = absurd caused
-line_unwritten w told known empty read (ConfigRefused kind key) refusal caused = absurd caused
-line_unwritten w told known empty read KeeperFault refusal caused = absurd caused
-line_unwritten w told known empty read (MomentTooLarge moment) refusal caused = absurd caused
-line_unwritten w told known empty read (SourceFault name) refusal caused = absurd caused
-line_unwritten w told known empty read SinkFault refusal caused = (known, empty, read, inr caused)
-line_unwritten w told known empty read TicksSpent refusal caused = caused
-line_unwritten w told known empty read (QueryRefused place kind) refusal caused = absurd caused
-line_unwritten w told known empty read OutOfMemory refusal caused = tt
-line_unwritten w told known empty read (NotBuilt what) refusal (inl caused) = absurd caused.1
-line_unwritten w told known empty read (NotBuilt what) refusal (inr caused) = absurd caused.1
+line_cause : (words : ReplayWords) (told : Told) → IsAccepted words told → (s : Status) → IsCaused (record no_causes { sink = told.status_failed }) s → IsCaused (causes_of words told) s
+line_cause words told accepted Done caused = caused
+line_cause words told accepted Usage caused = caused
+line_cause words told accepted FilesFault caused = absurd caused
+line_cause words told accepted (ConfigRefused kind key) caused = absurd caused
+line_cause words told accepted KeeperFault caused = absurd caused
+line_cause words told accepted KeeperRefused caused = absurd caused
+line_cause words told accepted (MomentTooLarge moment) caused = absurd caused
+line_cause words told accepted (SourceFault name) caused = absurd caused
+line_cause words told accepted (SourceShrank name kept found) caused = absurd caused
+line_cause words told accepted NumbersSpent caused = absurd caused
+line_cause words told accepted SinkFault caused = (accepted, inr caused)
+line_cause words told accepted TicksSpent caused = caused
+line_cause words told accepted (QueryRefused place kind) caused = caused
+line_cause words told accepted OutOfMemory caused = tt
+line_cause words told accepted (NotBuilt what) caused = absurd caused.1
 
--- a cause of the source and of the results, among those of the whole run
-pub caused_within : (w : Replay) (told : Told) (source : Type 0) → (source → told.source_failed) → (s : Status)
-    → IsCaused (replay_causes told.files_failed (told.files_tell → told.file w.config ≡ None)
-    (told.files_tell → (text : List ℕ) × (told.file w.config ≡ Some text) × (text ≢ the_document))
-    (told.files_tell → told.file w.config ≡ Some the_document)
-    told.keeper_failed (told.keeper_tells → told.kept_before ≢ []) (told.keeper_tells → told.kept_before ≡ [])
-    told.reads w.source source told.results_failed) s
-    → IsCaused (causes_of w told) s
-caused_within w told source more Done caused = caused
-caused_within w told source more Usage caused = caused
-caused_within w told source more FilesFault caused = caused
-caused_within w told source more (ConfigRefused kind key) caused = caused
-caused_within w told source more KeeperFault caused = caused
-caused_within w told source more (MomentTooLarge moment) caused = caused
-caused_within w told source more (SourceFault name) caused = (caused.0, caused.1, caused.2, caused.3, more caused.4)
-caused_within w told source more SinkFault caused = (caused.0, caused.1, caused.2, inl caused.3)
-caused_within w told source more TicksSpent caused = caused
-caused_within w told source more (QueryRefused place kind) caused = caused
-caused_within w told source more OutOfMemory caused = caused
-caused_within w told source more (NotBuilt what) caused = caused
+-- a run that ended before its session was done
+pub stopped : (words : ReplayWords) (told : Told) (s r : Status) → r ≡ s → IsCaused (causes_of words told) s
+    → (told.keeper_tells → (told.kept_after ≡ told.kept_before) ⊎ ((given : Given) × IsGiven words told given × IsKept (fixed told given) told.has_read told.kept_after))
+    → (told.sink_tells → (told.results_after ≡ told.results_before) ⊎ ((given : Given) × IsGiven words told given × IsWritten (fixed told given) told.kept_after told.results_after))
+    → IsReplay words told r
+stopped words told s r is caused kept written =
+    subst (IsReplay words told) (sym is) (record {
+      done = λ done. absurd (not_done (causes_of words told) s caused done);
+      spent = λ spent. absurd (not_spent (causes_of words told) s caused spent);
+      cause = λ refusal. caused;
+      kept = kept;
+      written = written;
+    })
 
--- a session that did its tick, and what was then told of it
-pub whole_run : (w : Replay) (told : Told) (status : Status) (is_end : Bool) (entries : List Entry) (events : ℕ) → Finishes w told is_end entries → HasTotals entries events 1
-    → (IsDoneStatus status → (is_end ≡ true) × (told.sink_tells → told.status_after ≡ told.status_before ++ final_text 0 events 1 0 0))
-    → (IsSpentStatus status → (is_end ≡ false) × (told.sink_tells → (told.status_after ≡ told.status_before ++ (spent_line ++ final_text 11 events 1 0 0)) ⊎ told.status_failed))
-    → (IsRefusal status → IsCaused (record no_causes { sink = told.status_failed }) status)
-    → (told.keeper_tells → IsKept (kind_of w.is_audit) told.reads told.source_tells told.bytes w.source told.kept_before told.kept_after)
-    → (told.sink_tells → IsPartlyWritten w.host told.keeper_tells told.kept_after told.results_before told.results_after) → IsReplay w told status
-whole_run w told status is_end entries events session totals done spent cause kept written = record {
-  done = λ is.
-      let end = done is in
-      (entries, subst (λ (b : Bool). Finishes w told b entries) end.0 session, λ tells. end.1 tells ∙ ap (λ (t : List ℕ). told.status_before ++ t) (final_is 0 entries events 1 totals));
-  spent = λ is.
-      let end = spent is in
-      (entries, subst (λ (b : Bool). Finishes w told b entries) end.0 session, λ tells. told_end told.status_before told.status_after entries events 1 told.status_failed totals (end.1 tells));
-  cause = λ refusal. line_unwritten w told session.known session.session.empty (session.moment, session.read, session.early) status refusal (cause refusal);
-  kept = kept;
-  written = written;
+-- before its session began
+unbegun : (words : ReplayWords) (told : Told) (s r : Status) → r ≡ s → IsCaused (causes_of words told) s → (told.keeper_tells → told.kept_after ≡ told.kept_before) → (told.sink_tells → told.results_after ≡ told.results_before)
+    → IsReplay words told r
+unbegun words told s r is caused kept same = stopped words told s r is caused (λ tells. inl (kept tells)) (λ tells. inl (same tells))
+
+pub refused_config : (words : ReplayWords) (told : Told) (s r : Status) → r ≡ s → IsCaused (record no_causes { files = told.files_failed; refused = IsRefusedFor told.files_tell told.file words.config }) s
+    → (told.keeper_tells → told.kept_after ≡ told.kept_before) → (told.sink_tells → told.results_after ≡ told.results_before) → IsReplay words told r
+refused_config words told s r is caused kept same = unbegun words told s r is (config_cause words told s caused) kept same
+
+pub no_memory : (words : ReplayWords) (told : Told) (r : Status) → r ≡ OutOfMemory → (told.keeper_tells → told.kept_after ≡ told.kept_before) → (told.sink_tells → told.results_after ≡ told.results_before)
+    → IsReplay words told r
+no_memory words told r is kept same = unbegun words told OutOfMemory r is tt kept same
+
+-- the lines of left out packs could not be written
+pub untold : (words : ReplayWords) (told : Told) (r : Status) → r ≡ SinkFault → IsAccepted words told → told.status_failed → (told.keeper_tells → told.kept_after ≡ told.kept_before)
+    → (told.sink_tells → told.results_after ≡ told.results_before) → IsReplay words told r
+untold words told r is accepted failed kept same = unbegun words told SinkFault r is (accepted, inr failed) kept same
+
+-- what a session is given by its setup
+pub given_is : {S : Type 0} (left : S → List ℕ) (words : ReplayWords) (told : Told) (setup : Setup) (config : Config) (documents : List (List ℕ)) (notes : List ℕ) (objects : List S) → setup ≡ setup_in words
+    → told.all_bytes ≡ map left objects → IsConfigured told.files_tell told.file words.config config documents notes → IsGiven words told (given_of setup config documents left objects)
+given_is left words told setup config documents notes objects is bytes configured = record {
+  notes = notes;
+  configured = configured;
+  host = ap (λ (s : Setup). s.host) is;
+  sources = ap (λ (s : Setup). sources_of left s.sources objects) is ∙ sources_are left words.sources objects ∙ ap (sources_named words.sources) (sym bytes);
+  records = ap (λ (s : Setup). s.records) is;
 }
 
--- a session that ended before that
-pub stopped_run : (w : Replay) (told : Told) (status : Status) (source : Type 0) → (source → told.source_failed)
-    → IsCaused (replay_causes told.files_failed (told.files_tell → told.file w.config ≡ None)
-    (told.files_tell → (text : List ℕ) × (told.file w.config ≡ Some text) × (text ≢ the_document))
-    (told.files_tell → told.file w.config ≡ Some the_document)
-    told.keeper_failed (told.keeper_tells → told.kept_before ≢ []) (told.keeper_tells → told.kept_before ≡ [])
-    told.reads w.source source told.results_failed) status
-    → (told.keeper_tells → IsKept (kind_of w.is_audit) told.reads told.source_tells told.bytes w.source told.kept_before told.kept_after)
-    → (told.sink_tells → IsPartlyWritten w.host told.keeper_tells told.kept_after told.results_before told.results_after) → IsReplay w told status
-stopped_run w told status source more caused kept written = record {
-  done = λ is. absurd (not_done _ status caused is);
-  spent = λ is. absurd (not_spent _ status caused is);
-  cause = λ refusal. caused_within w told source more status caused;
-  kept = kept;
-  written = written;
-}
+-- what was written behind the notes
+behind : (before between after notes text : List ℕ) → between ≡ before ++ notes → after ≡ between ++ text → after ≡ before ++ (notes ++ text)
+behind before between after notes text first second = second ∙ ap (λ (t : List ℕ). t ++ text) first ∙ append_assoc before notes text
+
+-- a session that did all its ticks, and what was then told of it
+module _ (words : ReplayWords) (told : Told) (status : Status) (given : Given) (is : IsGiven words told given) (ended : Ended)
+    (run : HasRun (fixed told given) told.has_read words.ticks told.kept_after told.results_after ended) (between : List ℕ) (noted : told.sink_tells → between ≡ told.status_before ++ is.notes) where
+  abbrev ran_with : (is_end : Bool) → ended.is_end ≡ is_end → Ran words told is_end
+  ran_with is_end end_is = record { given = given; is = is; ended = ended; end_is = end_is; run = run }
+
+  told_spent : (failed : Type 0) → (failed → told.status_failed) → told.sink_tells → (told.status_after ≡ between ++ (spent_line ++ final_line 11 ended.numbers 0)) ⊎ failed
+      → (told.status_after ≡ told.status_before ++ (is.notes ++ (spent_line ++ final_line 11 ended.numbers 0))) ⊎ told.status_failed
+  told_spent failed more tells (inl written) = inl (behind told.status_before between told.status_after is.notes (spent_line ++ final_line 11 ended.numbers 0) (noted tells) written)
+  told_spent failed more tells (inr rose) = inr (more rose)
+
+  pub ran : (failed : Type 0) → (failed → told.status_failed) → (IsDoneStatus status → (ended.is_end ≡ true) × (told.sink_tells → told.status_after ≡ between ++ final_line 0 ended.numbers 0))
+      → (IsSpentStatus status → (ended.is_end ≡ false) × (told.sink_tells → (told.status_after ≡ between ++ (spent_line ++ final_line 11 ended.numbers 0)) ⊎ failed))
+      → (IsRefusal status → IsCaused (record no_causes { sink = failed }) status)
+      → (told.keeper_tells → IsKept (fixed told given) told.has_read told.kept_after) → (told.sink_tells → IsWritten (fixed told given) told.kept_after told.results_after) → IsReplay words told status
+  ran failed more done spent cause kept written = record {
+    done = λ finished.
+        let end = done finished in
+        (ran_with true end.0, λ tells. behind told.status_before between told.status_after is.notes (final_line 0 ended.numbers 0) (noted tells) (end.1 tells));
+    spent = λ finished.
+        let end = spent finished in
+        (ran_with false end.0, λ tells. told_spent failed more tells (end.1 tells));
+    cause = λ refusal. line_cause words told (given, is) status (failed_more status (cause refusal));
+    kept = λ tells. inr (given, is, kept tells);
+    written = λ tells. inr (given, is, written tells);
+  } where
+    failed_more : (s : Status) → IsCaused (record no_causes { sink = failed }) s → IsCaused (record no_causes { sink = told.status_failed }) s
+    failed_more Done caused = caused
+    failed_more Usage caused = caused
+    failed_more FilesFault caused = absurd caused
+    failed_more (ConfigRefused kind key) caused = absurd caused
+    failed_more KeeperFault caused = absurd caused
+    failed_more KeeperRefused caused = absurd caused
+    failed_more (MomentTooLarge moment) caused = absurd caused
+    failed_more (SourceFault name) caused = absurd caused
+    failed_more (SourceShrank name kept found) caused = absurd caused
+    failed_more NumbersSpent caused = absurd caused
+    failed_more SinkFault caused = more caused
+    failed_more TicksSpent caused = caused
+    failed_more (QueryRefused place kind) caused = caused
+    failed_more OutOfMemory caused = tt
+    failed_more (NotBuilt what) caused = absurd caused.1
+
+-- the answer to the end of a session is caused by it
+pub answered : (c : Causes) (sources : List SourceName) (e : RunError) (s : Status) → IsAnswerTo sources e s → (e ≡ running.KeeperFault → c.keeper) → (e ≡ running.KeeperRefused → c.unfit)
+    → ((moment : ℕ) → e ≡ running.MomentTooLarge moment → c.moment moment)
+    → ((place : ℕ) (name : List ℕ) → e ≡ running.SourceFault place → IsNamedAt sources place name → c.source name)
+    → ((place kept found : ℕ) (name : List ℕ) → e ≡ running.SourceShrank place kept found → IsNamedAt sources place name → c.shrank name kept found)
+    → (e ≡ running.NumbersSpent → c.numbers) → (e ≡ running.SinkFault → c.sink) → IsCaused c s
+answered c sources running.KeeperFault s is keeper unfit moment source shrank numbers sink = subst (IsCaused c) (sym is) (keeper refl)
+answered c sources running.KeeperRefused s is keeper unfit moment source shrank numbers sink = subst (IsCaused c) (sym is) (unfit refl)
+answered c sources (running.MomentTooLarge at) s is keeper unfit moment source shrank numbers sink = subst (IsCaused c) (sym is) (moment at refl)
+answered c sources (running.SourceFault place) s (inl is) keeper unfit moment source shrank numbers sink = subst (IsCaused c) (sym is) tt
+answered c sources (running.SourceFault place) s (inr (name, named, is)) keeper unfit moment source shrank numbers sink = subst (IsCaused c) (sym is) (source place name refl named)
+answered c sources (running.SourceShrank place kept found) s (inl is) keeper unfit moment source shrank numbers sink = subst (IsCaused c) (sym is) tt
+answered c sources (running.SourceShrank place kept found) s (inr (name, named, is)) keeper unfit moment source shrank numbers sink = subst (IsCaused c) (sym is) (shrank place kept found name refl named)
+answered c sources running.NumbersSpent s is keeper unfit moment source shrank numbers sink = subst (IsCaused c) (sym is) (numbers refl)
+answered c sources running.SinkFault s is keeper unfit moment source shrank numbers sink = subst (IsCaused c) (sym is) (sink refl)
+answered c sources running.NoMemory s is keeper unfit moment source shrank numbers sink = subst (IsCaused c) (sym is) tt
+
+-- the name at a place of a session's sources is the path that the words name there
+same_name : (sources : List SourceName) (place : ℕ) (name : List ℕ) (source : SessionSource) → IsNamedAt sources place name → slice_get (map source_in sources) place ≡ Some source → source.name ≡ name
+same_name sources place name source named there =
+    let found = sym there ∙ slice_get-map source_in sources place ∙ ap (option_map source_in) named.there in
+    ap (λ (s : SessionSource). s.name) (same_Some source (source_in named.source) found) ∙ sym named.name_is
+
+-- a source that shrank, by the words
+pub shrank_by : {S : Type 0} (left : S → List ℕ) (words : ReplayWords) (told : Told) (setup : Setup) (objects : List S) (taken : List Taken) (place kept found : ℕ) (name : List ℕ) → setup ≡ setup_in words
+    → told.all_bytes ≡ map left objects → (told.keeper_tells → taken ≡ (summary told.kept_before).taken)
+    → starting.HasShrunk told.source_tells left taken setup.sources place kept found objects → IsNamedAt words.sources place name → HasShrunk words told name kept found
+shrank_by left words told setup objects taken place kept found name is bytes taken_there h named =
+    let there = sym (ap (λ (s : Setup). slice_get s.sources place) is) ∙ h.named in
+    let same = same_name words.sources place name h.name named there in
+    record {
+      place = place;
+      named = named;
+      short = h.short;
+      kept_is = λ tells. h.kept_is ∙ ap (λ (t : List Taken). offset_at t h.name.name) (taken_there tells) ∙ taken_is told.kept_before h.name.name ∙ ap (taken_from told.kept_before) same;
+      ended = λ tells. (left h.source, ap (λ (bs : List (List ℕ)). slice_get bs place) bytes ∙ slice_get-map left objects place ∙ ap (option_map left) h.source_there, h.ended tells);
+    }
+
+-- a place that a list has is below its length
+pub is_within : {X Y : Type 0} (xs : List X) (ys : List Y) (place : ℕ) (x : X) → length xs ≡ length ys → slice_get xs place ≡ Some x → place < length ys
+is_within xs ys place x same there = subst (λ (n : ℕ). place < n) same (slice_get_within xs place x there)

@@ -1,5 +1,5 @@
 -- Rounds over a source of table lines, one after another.
-use Rattle.std.proofs.Common.{◌≡◌, ◌⊎◌, inl, inr, ℕ, ◌+◌, ◌<◌, ◌≤◌, Bool, true, false, List, [], ◌∷◌, ◌++◌, length, map, refl, sym, ap, ◌∙◌, subst, arith, append-nil, append_assoc, length-append}
+use Rattle.std.proofs.Common.{◌≡◌, ◌⊎◌, inl, inr, ℕ, ◌+◌, ◌<◌, ◌≤◌, ◌==◌, ◌&&◌, Bool, true, false, List, [], ◌∷◌, ◌++◌, length, map, refl, sym, ap, ◌∙◌, subst, arith, append-nil, append_assoc, length-append}
 use Rattle.std.specs.Prelude.{All, Result, Ok, Err}
 use Rattle.osq_outside.specs.Causes.{FaultHasCause, Rose}
 use Rattle.publisher_core.specs.declared.error.StepError.{StepError}
@@ -20,10 +20,25 @@ use Rattle.publisher_core.specs.Readings.{reading_of, readings_of}
 use Rattle.publisher_core.specs.Records.{HaveNoFeed, LinesGive, TableGives, ended}
 use Rattle.publisher_core.specs.Standing.{Gives, Reader, Stands, Waits, is_at_end}
 use Rattle.publisher_core.specs.Stepping.{IsDry, SameSource, Steps, STEP_BYTES}
-use Rattle.osq_program.specs.Intake.{STEP_RECORDS}
-use Rattle.osq_program.specs.Tables.{AreRising, HasRun, HasSpentRounds, IsFullRound, IsReadWhole, IsTableReading, ROUNDS, Round, RunsRounds, RunsTo, bytes_of, pieces_of, with_readings}
-use Rattle.osq_program.proofs.Intakes.{not_over, over_ended}
+use Rattle.osq_program.specs.Tables.{AreRising, HasRun, HasSpentRounds, IsFullRound, IsReadWhole, IsTableReading, ROUNDS, Round, RunsRounds, RunsTo, STEP_RECORDS, bytes_of, pieces_of, with_readings}
 use Rattle.osq_program.proofs.TableLines.{line_table}
+
+not_over : (reader : Reader) → reader.is_ended ≡ true → reader.ready ≡ [] → is_at_end reader ≡ false → ⊥
+not_over reader over none still =
+    let both : is_at_end reader ≡ true = rw (over, none) refl in
+    true≢false (sym both ∙ still)
+
+both_true : (a b : Bool) → (a && b) ≡ true → a ≡ true
+both_true true b is = refl
+both_true false b is = absurd (true≢false (sym is))
+
+over_ended : (reader : Reader) → is_at_end reader ≡ true → reader.is_ended ≡ true
+over_ended reader over = both_true reader.is_ended (length reader.ready == 0) over
+
+-- no bytes were taken before, so none were dropped
+pub nothing_dropped : (bytes front rest : List ℕ) (count : ℕ) → length front ≡ count → count ≡ 0 → bytes ≡ front ++ rest → bytes ≡ rest
+nothing_dropped bytes [] rest count size none is = is
+nothing_dropped bytes (b ∷ front) rest count size none is = absurd (omega (arith, size, none))
 
 -- setting one table and then others
 pub one_more : (image : Contents) (first : Reading) (rest : List Reading) → with_readings (with_readings image (first ∷ [])) rest ≡ with_readings image (first ∷ rest)

@@ -1,8 +1,7 @@
 -- What a run answers, and why.
-use Rattle.std.specs.Prelude.{◌≡◌, ◌⊎◌, ◌<◌, ◌≤◌, ℕ, List, [], codes}
-use Rattle.osq_program.specs.FirstPath.{LAST_MOMENT}
+use Rattle.std.specs.Prelude.{◌≡◌, ℕ, List, codes}
 use Rattle.osq_program.specs.declared.status.Status.{Status}
-use Rattle.osq_program.specs.declared.status.Status.TheVariants.{Ok as Done, Usage, FilesFault, ConfigRefused, KeeperFault, MomentTooLarge, SourceFault, SinkFault, TicksSpent, QueryRefused, OutOfMemory, NotBuilt}
+use Rattle.osq_program.specs.declared.status.Status.TheVariants.{Ok as Done, Usage, FilesFault, ConfigRefused, KeeperFault, KeeperRefused, MomentTooLarge, SourceFault, SourceShrank, NumbersSpent, SinkFault, TicksSpent, QueryRefused, OutOfMemory, NotBuilt}
 
 -- the number that the process ends with
 abbrev pub status_number : Status → ℕ
@@ -10,9 +9,12 @@ status_number Done = 0
 status_number (ConfigRefused kind key) = 2
 status_number FilesFault = 3
 status_number KeeperFault = 4
+status_number KeeperRefused = 5
+status_number (SourceShrank source kept found) = 6
 status_number (SourceFault source) = 7
 status_number SinkFault = 8
 status_number (MomentTooLarge moment) = 9
+status_number NumbersSpent = 10
 status_number TicksSpent = 11
 status_number (QueryRefused place kind) = 12
 status_number OutOfMemory = 20
@@ -36,11 +38,13 @@ pub record Causes : Type 1 where
   pub query : ℕ → List ℕ → Type 0  -- a text that is no query, by a fault at this place and of this kind
   pub files : Type 0  -- a fault of the files
   pub refused : List ℕ → List ℕ → Type 0  -- a configuration that is refused by a fault of this kind at this key
-  pub config : Type 0  -- another configuration than the known one
   pub keeper : Type 0  -- a fault of the keeper
+  pub unfit : Type 0  -- a kept list from which no session may go on
   pub kept : Type 0  -- a kept list that isn't empty
   pub moment : ℕ → Type 0  -- this moment of the clock
   pub source : List ℕ → Type 0  -- a fault of the source of this name
+  pub shrank : List ℕ → ℕ → ℕ → Type 0  -- that source, of which so many bytes are kept and only so many were found
+  pub numbers : Type 0  -- numbers that have no next one
   pub sink : Type 0  -- a fault of a sink
 
 abbrev pub no_causes : Causes
@@ -48,11 +52,13 @@ no_causes = record {
   query = λ place kind. ⊥;
   files = ⊥;
   refused = λ kind key. ⊥;
-  config = ⊥;
   keeper = ⊥;
+  unfit = ⊥;
   kept = ⊥;
   moment = λ moment. ⊥;
   source = λ name. ⊥;
+  shrank = λ name kept found. ⊥;
+  numbers = ⊥;
   sink = ⊥;
 }
 
@@ -63,13 +69,16 @@ IsCaused c Usage = ⊥
 IsCaused c FilesFault = c.files
 IsCaused c (ConfigRefused kind key) = c.refused kind.now key
 IsCaused c KeeperFault = c.keeper
+IsCaused c KeeperRefused = c.unfit
 IsCaused c (MomentTooLarge moment) = c.moment moment
 IsCaused c (SourceFault name) = c.source name
+IsCaused c (SourceShrank name kept found) = c.shrank name kept found
+IsCaused c NumbersSpent = c.numbers
 IsCaused c SinkFault = c.sink
 IsCaused c TicksSpent = ⊥
 IsCaused c (QueryRefused place kind) = c.query place kind.now
 IsCaused c OutOfMemory = Unit {0}
-IsCaused c (NotBuilt what) = ((what ≡ codes "config") × c.config) ⊎ ((what ≡ codes "kept") × c.kept)
+IsCaused c (NotBuilt what) = (what ≡ codes "kept") × c.kept
 
 -- the run ended before its session was done
 abbrev pub IsRefusal : Status → Type 0
@@ -83,25 +92,3 @@ abbrev pub NotBuiltYet : List ℕ → Status → Type 0
 NotBuiltYet what (NotBuilt told) = told ≡ what
 NotBuiltYet what OutOfMemory = Unit {0}
 NotBuiltYet what status = ⊥
-
--- the clock was read, and gave no moment that is too large
-abbrev pub IsRead : (ℕ → Type 0) → Type 0
-IsRead reads = (moment : ℕ) × reads moment × (moment ≤ LAST_MOMENT)
-
--- there is no configuration
-abbrev pub IsMissing : Type 0 → List ℕ → List ℕ → Type 0
-IsMissing none kind key = (kind ≡ codes "Missing") × (key ≡ []) × none
-
--- the causes of a replay, in the order in which the run meets them: each carries what was passed before it
-abbrev pub replay_causes : (files missing config known keeper kept empty : Type 0) (reads : ℕ → Type 0) (name : List ℕ) (source sink : Type 0) → Causes
-replay_causes files missing config known keeper kept empty reads name source sink =
-    record no_causes {
-      files = files;
-      refused = IsMissing missing;
-      config = config;
-      keeper = known × keeper;
-      kept = known × kept;
-      moment = λ moment. known × empty × reads moment × (LAST_MOMENT < moment);
-      source = λ told. known × empty × IsRead reads × (told ≡ name) × source;
-      sink = known × empty × IsRead reads × sink;
-    }

@@ -3,11 +3,10 @@ use Rattle.std.specs.Prelude.{◌≡◌, Bool, true, false, Option, None, Some, 
 use Rattle.program_words.specs.declared.command.CommandWords.{CommandWords}
 use Rattle.program_words.specs.declared.command.CommandWords.TheVariants.{Replay as AsksReplay, Query as AsksQuery, Check as AsksCheck}
 use Rattle.program_words.specs.declared.command.QueryWords.{QueryWords}
-use Rattle.program_words.specs.declared.command.ReplayWords.{ReplayWords}
 use Rattle.osq_program.specs.declared.status.Status.{Status}
 use Rattle.osq_program.specs.Answers.{NotBuiltYet}
 use Rattle.osq_program.specs.Checking.{IsCheck}
-use Rattle.osq_program.specs.Commands.{Query, Replay, query_in, replay_in}
+use Rattle.osq_program.specs.Commands.{Query, query_in}
 use Rattle.osq_program.specs.Explaining.{IsExplain}
 use Rattle.osq_program.specs.Querying.{IsQuery}
 use Rattle.osq_program.specs.Replaying.{IsReplay}
@@ -18,13 +17,6 @@ pub record IsLeft (told : Told) (status : Status) : Type 0 where
   pub not_built : NotBuiltYet (codes "words") status
   pub kept : told.keeper_tells → told.kept_after ≡ told.kept_before
   pub written : told.sink_tells → told.results_after ≡ told.results_before
-
-abbrev pub ReplaysBy : Option Replay → Told → Status → Type 0
-ReplaysBy None told status = IsLeft told status
-ReplaysBy (Some replay) told status = IsReplay replay told status
-
-abbrev pub DoesReplay : ReplayWords → Told → Status → Type 0
-DoesReplay words told status = ReplaysBy (replay_in words) told status
 
 abbrev pub AnswersBy : Option Query → Told → Status → Type 0
 AnswersBy None told status = IsLeft told status
@@ -38,6 +30,6 @@ abbrev pub DoesQuery : QueryWords → Told → Status → Type 0
 DoesQuery words told status = QueriesBy words.explain words told status
 
 abbrev pub Does : CommandWords → Told → Status → Type 0
-Does (AsksReplay words) told status = DoesReplay words told status
+Does (AsksReplay words) told status = IsReplay words told status
 Does (AsksQuery words) told status = DoesQuery words told status
 Does (AsksCheck words) told status = IsCheck words told status

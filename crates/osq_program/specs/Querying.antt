@@ -10,9 +10,9 @@ use Rattle.sql_names.specs.declared.text.TextError.{TextError}
 use Rattle.sql_names.specs.TextFaults.{text_fault, place_of_fault, name_of_fault}
 use Rattle.osq_program.specs.declared.status.Status.{Status}
 use Rattle.osq_program.specs.declared.status.Status.TheVariants.{Ok as Done, SinkFault}
-use Rattle.osq_program.specs.Answers.{Causes, IsCaused, IsDoneStatus, IsSpentStatus, IsRefusal, IsRead, no_causes}
+use Rattle.osq_program.specs.Answers.{Causes, IsCaused, IsDoneStatus, IsSpentStatus, IsRefusal, no_causes}
 use Rattle.osq_program.specs.Commands.{Query}
-use Rattle.osq_program.specs.FirstPath.{LAST_MOMENT}
+use Rattle.osq_program.specs.Moments.{IsRead, LAST_MOMENT}
 use Rattle.osq_program.specs.Tables.{IsReadWhole, HasSpentRounds, entries_before}
 use Rattle.osq_program.specs.Told.{Told}
 

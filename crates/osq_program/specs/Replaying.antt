@@ -1,37 +1,97 @@
 -- What `replay` does.
-use Rattle.std.specs.Prelude.{◌≡◌, ◌≢◌, ◌⊎◌, ◌≤◌, ℕ, Bool, true, false, List, [], ◌++◌, None, Some}
-use Rattle.entry_model.specs.declared.entry.Entry.{Entry}
+use Rattle.std.specs.Prelude.{◌≡◌, ◌⊎◌, ◌<◌, ℕ, Bool, true, false, List, [], ◌∷◌, ◌++◌, length, Some, slice_get}
+use Rattle.config_files.specs.Configurations.{IsConfigured}
+use Rattle.entry_model.specs.Fits.{Fits}
+use Rattle.entry_model.specs.Legal.{Legal}
+use Rattle.entry_model.specs.Summary.{summary}
+use Rattle.entry_model.specs.Values.{taken_from}
+use Rattle.program_words.specs.declared.command.ReplayWords.{ReplayWords}
+use Rattle.session_model.specs.Given.{Given}
+use Rattle.replay_rounds.specs.declared.running.Ended.{Ended}
+use Rattle.replay_rounds.specs.Fixed.{Fixed}
+use Rattle.replay_rounds.specs.Running.{HasRun, IsKept, IsWritten}
 use Rattle.osq_program.specs.declared.status.Status.{Status}
-use Rattle.osq_program.specs.Answers.{Causes, IsCaused, IsDoneStatus, IsSpentStatus, IsRefusal, replay_causes}
-use Rattle.osq_program.specs.Commands.{Replay}
-use Rattle.osq_program.specs.FirstPath.{the_document, LAST_MOMENT}
-use Rattle.osq_program.specs.Kinds.{kind_of}
+use Rattle.osq_program.specs.Answers.{Causes, IsCaused, IsDoneStatus, IsSpentStatus, IsRefusal, no_causes}
+use Rattle.osq_program.specs.Checking.{IsRefusedFor}
+use Rattle.osq_program.specs.Ending.{IsNamedAt}
+use Rattle.osq_program.specs.Moments.{LAST_MOMENT}
 use Rattle.osq_program.specs.Report.{final_line, spent_line}
-use Rattle.osq_program.specs.Run.{IsSession, IsKept, IsPartlyWritten}
+use Rattle.osq_program.specs.Setups.{host_in, sources_named}
 use Rattle.osq_program.specs.Told.{Told}
 
--- a session with these entries did its tick: to the source's end, or with a full step before
-pub record Finishes (w : Replay) (told : Told) (is_end : Bool) (entries : List Entry) : Type 0 where
-  pub moment : ℕ
-  pub read : told.reads moment
-  pub early : moment ≤ LAST_MOMENT
-  pub known : told.files_tell → told.file w.config ≡ Some the_document
-  pub session : IsSession w.host w.source (kind_of w.is_audit) moment told.source_tells told.bytes told.keeper_tells told.kept_before told.kept_after
-      told.sink_tells told.results_before told.results_after is_end entries
+-- What a session is given: the configuration in the file that the words name, the host that they tell, and of each source all that its object
+-- had to give. A line tells of each pack that is left out.
+pub record IsGiven (words : ReplayWords) (told : Told) (given : Given) : Type 0 where
+  pub notes : List ℕ
+  pub configured : IsConfigured told.files_tell told.file words.config given.config given.documents notes
+  pub host : given.host ≡ host_in words
+  pub sources : given.sources ≡ sources_named words.sources told.all_bytes
+  pub records : given.records ≡ words.records
 
-abbrev pub causes_of : Replay → Told → Causes
-causes_of w told =
-    replay_causes told.files_failed (told.files_tell → told.file w.config ≡ None)
-    (told.files_tell → (text : List ℕ) × (told.file w.config ≡ Some text) × (text ≢ the_document))
-    (told.files_tell → told.file w.config ≡ Some the_document)
-    told.keeper_failed (told.keeper_tells → told.kept_before ≢ []) (told.keeper_tells → told.kept_before ≡ [])
-    told.reads w.source told.source_failed (told.results_failed ⊎ told.status_failed)
+-- the configuration was accepted
+abbrev pub IsAccepted : ReplayWords → Told → Type 0
+IsAccepted words told = (given : Given) × IsGiven words told given
 
-pub record IsReplay (w : Replay) (told : Told) (status : Status) : Type 0 where
-  pub done : IsDoneStatus status → (entries : List Entry) × Finishes w told true entries × (told.sink_tells → told.status_after ≡ told.status_before ++ final_line 0 entries 0)
-  pub spent : IsSpentStatus status → (entries : List Entry) × Finishes w told false entries
-      × (told.sink_tells → (told.status_after ≡ told.status_before ++ (spent_line ++ final_line 11 entries 0)) ⊎ told.status_failed)
-  pub cause : IsRefusal status → IsCaused (causes_of w told) status
+-- what stays the same in the session
+abbrev pub fixed : Told → Given → Fixed
+fixed told given =
+    record {
+      keeper_tells = told.keeper_tells;
+      sink_tells = told.sink_tells;
+      source_tells = told.source_tells;
+      given = given;
+      start = told.kept_before;
+      written = told.results_before;
+    }
+
+-- All its ticks were run: each source is then at its end, or one of them had more.
+pub record Ran (words : ReplayWords) (told : Told) (is_end : Bool) : Type 0 where
+  pub given : Given
+  pub is : IsGiven words told given
+  pub ended : Ended
+  pub end_is : ended.is_end ≡ is_end
+  pub run : HasRun (fixed told given) told.has_read words.ticks told.kept_after told.results_after ended
+
+-- no session may go on from the kept list, which a legal one never is
+abbrev pub IsUnfit : Told → Type 0
+IsUnfit told = told.keeper_tells → (¬ Legal told.kept_before) × (¬ Fits (summary told.kept_before))
+
+-- the clock gave this moment, last of all
+abbrev pub IsTooLate : Told → ℕ → Type 0
+IsTooLate told moment = (LAST_MOMENT < moment) × ((readings : List ℕ) × told.has_read (readings ++ moment ∷ []))
+
+-- the source of this name failed
+abbrev pub HasFailed : ReplayWords → Told → List ℕ → Type 0
+HasFailed words told name = (place : ℕ) × IsNamedAt words.sources place name × told.failed_at place
+
+-- the source of this name ended after `found` bytes, before the `kept` bytes up to which the kept list has it
+pub record HasShrunk (words : ReplayWords) (told : Told) (name : List ℕ) (kept found : ℕ) : Type 0 where
+  pub place : ℕ
+  pub named : IsNamedAt words.sources place name
+  pub short : found < kept
+  pub kept_is : told.keeper_tells → kept ≡ taken_from told.kept_before name
+  pub ended : told.source_tells → (bytes : List ℕ) × (slice_get told.all_bytes place ≡ Some bytes) × (length bytes ≡ found)
+
+-- The causes of a replay. Each behind the configuration carries that it was accepted. What it means that numbers are spent isn't said yet.
+abbrev pub causes_of : ReplayWords → Told → Causes
+causes_of words told =
+    record no_causes {
+      files = told.files_failed;
+      refused = IsRefusedFor told.files_tell told.file words.config;
+      keeper = IsAccepted words told × told.keeper_failed;
+      unfit = IsAccepted words told × IsUnfit told;
+      moment = λ moment. IsAccepted words told × IsTooLate told moment;
+      source = λ name. IsAccepted words told × HasFailed words told name;
+      shrank = λ name kept found. IsAccepted words told × HasShrunk words told name kept found;
+      numbers = IsAccepted words told;
+      sink = IsAccepted words told × (told.results_failed ⊎ told.status_failed);
+    }
+
+pub record IsReplay (words : ReplayWords) (told : Told) (status : Status) : Type 0 where
+  pub done : IsDoneStatus status → (ran : Ran words told true) × (told.sink_tells → told.status_after ≡ told.status_before ++ (ran.is.notes ++ final_line 0 ran.ended.numbers 0))
+  pub spent : IsSpentStatus status → (ran : Ran words told false)
+      × (told.sink_tells → (told.status_after ≡ told.status_before ++ (ran.is.notes ++ (spent_line ++ final_line 11 ran.ended.numbers 0))) ⊎ told.status_failed)
+  pub cause : IsRefusal status → IsCaused (causes_of words told) status
   -- however it ends
-  pub kept : told.keeper_tells → IsKept (kind_of w.is_audit) told.reads told.source_tells told.bytes w.source told.kept_before told.kept_after
-  pub written : told.sink_tells → IsPartlyWritten w.host told.keeper_tells told.kept_after told.results_before told.results_after
+  pub kept : told.keeper_tells → (told.kept_after ≡ told.kept_before) ⊎ ((given : Given) × IsGiven words told given × IsKept (fixed told given) told.has_read told.kept_after)
+  pub written : told.sink_tells → (told.results_after ≡ told.results_before) ⊎ ((given : Given) × IsGiven words told given × IsWritten (fixed told given) told.kept_after told.results_after)

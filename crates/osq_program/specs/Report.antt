@@ -1,8 +1,7 @@
 -- The lines of the status stream that clauses speak of.
-use Rattle.std.specs.Prelude.{ℕ, ◌+◌, nat_lt, if◌then◌else◌, List, ◌++◌, length, codes}
+use Rattle.std.specs.Prelude.{ℕ, ◌+◌, nat_lt, if◌then◌else◌, List, ◌++◌, codes}
 use Rattle.std.specs.Fmt.{decimal}
-use Rattle.entry_model.specs.declared.entry.Entry.{Entry}
-use Rattle.entry_model.specs.Values.{last_number, commits, acked_upto}
+use Rattle.replay_rounds.specs.declared.running.Numbers.{Numbers}
 
 abbrev pub usage_text : List ℕ
 usage_text = codes "usage: osqd COMMAND [OPTIONS]\n"
@@ -11,14 +10,12 @@ usage_text = codes "usage: osqd COMMAND [OPTIONS]\n"
 abbrev pub next_of : ℕ → ℕ → ℕ
 next_of acked batches = if nat_lt acked batches then acked + 1 else 0
 
-abbrev pub final_text : ℕ → ℕ → ℕ → ℕ → ℕ → List ℕ
-final_text number events batches acked faults =
-    codes "osqd: done " ++ decimal number ++ codes " events=" ++ decimal events ++ codes " batches=" ++ decimal batches ++ codes " acknowledged=" ++ decimal acked
-    ++ codes " next=" ++ decimal (next_of acked batches) ++ codes " linkfaults=" ++ decimal faults ++ codes "\n"
-
 -- the last line of a run: its status's number, the numbers of the kept list, and how often the link failed
-abbrev pub final_line : ℕ → List Entry → ℕ → List ℕ
-final_line number entries faults = final_text number (last_number entries) (length (commits entries)) (acked_upto entries) faults
+abbrev pub final_line : ℕ → Numbers → ℕ → List ℕ
+final_line number kept faults =
+    codes "osqd: done " ++ decimal number ++ codes " events=" ++ decimal kept.events ++ codes " batches=" ++ decimal kept.batches
+    ++ codes " acknowledged=" ++ decimal kept.acknowledged ++ codes " next=" ++ decimal (next_of kept.acknowledged kept.batches)
+    ++ codes " linkfaults=" ++ decimal faults ++ codes "\n"
 
 -- where the ticks are spent, this line stands before
 abbrev pub spent_line : List ℕ

@@ -20,7 +20,10 @@ use Rattle.publisher_core.specs.Records.{ended, HaveNoFeed}
 use Rattle.publisher_core.specs.Readings.{reading_of}
 use Rattle.publisher_core.specs.Standing.{Gives, Reader, Stands, is_at_end}
 use Rattle.publisher_core.specs.Stepping.{IsDry, STEP_BYTES}
-use Rattle.osq_program.specs.Intake.{STEP_RECORDS}
+
+-- a round takes at most so many records
+abbrev pub STEP_RECORDS : ℕ
+STEP_RECORDS = 10000
 
 -- a source is read in at most so many rounds
 abbrev pub ROUNDS : ℕ

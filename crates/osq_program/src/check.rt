@@ -3,6 +3,8 @@
 ghost use Rattle.std.specs.Prelude.{◌≡◌, ℕ, ◌∷◌, [], true, map, flat_map, IfOk};
 ghost use Rattle.osq_config.specs.declared.config.Pack.{Pack};
 ghost use Rattle.osq_outside.specs.Causes.{Rose};
+ghost use Rattle.daemon_rounds.specs.Rounding.{FailsAt};
+ghost use Rattle.replay_rounds.specs.Running.{ReadsAll};
 ghost use Rattle.osq_program.specs.Answers.{IsUsageStatus};
 ghost use Rattle.osq_program.specs.Checking.{IsCheck, IsListing};
 
@@ -10,13 +12,14 @@ use crate::configuration::configured;
 use crate::link::Link;
 use crate::outside::Outside;
 use crate::schedule_lines::lines_of;
+use crate::setup::host_of;
 use crate::status::Status;
 use crate::stop::refuse;
 use batch_keeper::Keeper;
 use osq_config::{Config, Pack};
 use osq_outside::{Clock, Files, Sink, Source, write_all};
-use osq_value::{Bytes, Copied, NoMemory};
-use pack_rules::{Host, schedule_of};
+use osq_value::{Bytes, NoMemory};
+use pack_rules::schedule_of;
 use program_words::CheckWords;
 use std::alloc::Global;
 
@@ -31,22 +34,11 @@ fn all_found(alloc: Global, packs: &[Pack]) -> Result<Vec<bool>, NoMemory>
     Ok(found)
 }
 
-/// The host that the words name.
-fn host_of(alloc: Global, words: &CheckWords) -> Result<Host, NoMemory>
-    ensures { IfOk result (λ host. host ≡ record { identifier = words.now.host; platform = words.now.platform; agent = words.now.agent }) }
-{
-    Ok(Host {
-        identifier: words.host.copy(alloc)?,
-        platform: words.platform.copy(alloc)?,
-        agent: words.agent.copy(alloc)?,
-    })
-}
-
 /// The lines of the schedule that a configuration gives the host.
 fn listing(alloc: Global, config: &Config, words: &CheckWords) -> Result<Bytes, NoMemory>
     ensures { IfOk result (IsListing (words.now) config.now) }
 {
-    let host = host_of(alloc, words)?;
+    let host = host_of(alloc, &words.host, &words.platform, &words.agent)?;
     let found = all_found(alloc, config.packs.as_slice())?;
     let schedule = schedule_of(alloc, config, &host, found.as_slice())?;
     lines_of(alloc, schedule.queries.as_slice())
@@ -73,9 +65,12 @@ pub(crate) fn run_check<S: Source, O: Sink, F: Files, C: Clock, K: Keeper, L: Li
       kept_after = K.kept outside.new.keeper;
       keeper_failed = Rose (K.faults outside.old.keeper) (K.faults outside.new.keeper);
       reads = λ moment. C.reads outside.old.clock moment outside.new.clock;
+      has_read = λ readings. ReadsAll C.reads outside.old.clock readings outside.new.clock;
       source_tells = S.tells;
       bytes = flat_map S.left outside.old.sources.items;
       source_failed = (before after : S) × (outside.old.sources.items ≡ before ∷ []) × (outside.new.sources.items ≡ after ∷ []) × Rose (S.faults before) (S.faults after);
+      all_bytes = map S.left outside.old.sources.items;
+      failed_at = λ place. FailsAt S.faults place outside.old.sources.items outside.new.sources.items;
       sink_tells = O.tells;
       results_before = O.written outside.old.results;
       results_after = O.written outside.new.results;

@@ -3,7 +3,7 @@
 ghost use Rattle.std.specs.Prelude.{◌≡◌, ◌≢◌, ◌≤◌, ◌<◌, [], IfOk, IfErr, OnOk};
 ghost use Rattle.osq_outside.specs.Causes.{Rose};
 ghost use Rattle.osq_program.specs.Answers.{no_causes, IsCaused, NotBuiltYet};
-ghost use Rattle.osq_program.specs.FirstPath.{LAST_MOMENT};
+ghost use Rattle.osq_program.specs.Moments.{LAST_MOMENT};
 
 use crate::status::Status;
 use batch_keeper::{Keeper, KeeperError};

@@ -1,13 +1,16 @@
 //! What is done for the words of each command.
 
-ghost use Rattle.std.specs.Prelude.{◌≡◌, ℕ, List, [], ◌∷◌, true, vec_len, flat_map, length, codes};
+ghost use Rattle.std.specs.Prelude.{◌≡◌, ℕ, List, [], ◌∷◌, true, vec_len, map, flat_map, length, codes};
 ghost use Rattle.osq_outside.specs.Causes.{Rose};
+ghost use Rattle.daemon_rounds.specs.Rounding.{FailsAt};
+ghost use Rattle.replay_rounds.specs.Running.{ReadsAll};
+ghost use Rattle.program_words.specs.Bounds.{IsBounded};
 ghost use Rattle.program_words.specs.declared.command.CheckWords.{CheckWords};
 ghost use Rattle.program_words.specs.declared.command.QueryWords.{QueryWords};
 ghost use Rattle.program_words.specs.declared.command.CommandWords.TheVariants.{Check as AsksCheck, Query as AsksQuery};
 ghost use Rattle.program_words.specs.Commands.{sources_in};
 ghost use Rattle.osq_program.specs.Answers.{IsUsageStatus, NotBuiltYet};
-ghost use Rattle.osq_program.specs.Doing.{Does, DoesQuery, DoesReplay};
+ghost use Rattle.osq_program.specs.Doing.{Does, DoesQuery};
 
 use crate::check::run_check;
 use crate::checks::not_built;
@@ -18,10 +21,10 @@ use crate::query::run_query;
 use crate::replay::run_replay;
 use crate::status::Status;
 use crate::stop::refuse;
-use crate::words::{query_path, replay_path};
+use crate::words::query_path;
 use batch_keeper::Keeper;
 use osq_outside::{Clock, Files, Sink, Source};
-use program_words::{CommandWords, QueryWords, ReplayWords};
+use program_words::{CommandWords, QueryWords};
 use std::alloc::Global;
 
 /// Tells that the words ask for what isn't built yet.
@@ -30,44 +33,6 @@ fn leave<O: Sink>(alloc: Global, status: &mut O) -> Status
 {
     let status_of = not_built(alloc, "words");
     refuse(alloc, status, status_of)
-}
-
-/// Does the session that the words ask for, where it can be done today.
-fn do_replay<S: Source, O: Sink, F: Files, C: Clock, K: Keeper, L: Link>(
-    alloc: Global,
-    words: &ReplayWords,
-    outside: &mut Outside<S, O, F, C, K, L>,
-) -> Status
-    requires { vec_len outside.old.sources ≡ length words.now.sources }
-    ensures usage { ¬ IsUsageStatus result }
-    ensures link { outside.new.link ≡ outside.old.link }
-    ensures ledger { outside.new.ledger ≡ outside.old.ledger }
-    ensures sources { vec_len outside.new.sources ≡ vec_len outside.old.sources }
-    ensures does { DoesReplay words.now (record {
-      files_tell = F.tells;
-      file = F.file outside.old.files;
-      files_failed = Rose (F.faults outside.old.files) (F.faults outside.new.files);
-      keeper_tells = K.tells;
-      kept_before = K.kept outside.old.keeper;
-      kept_after = K.kept outside.new.keeper;
-      keeper_failed = Rose (K.faults outside.old.keeper) (K.faults outside.new.keeper);
-      reads = λ moment. C.reads outside.old.clock moment outside.new.clock;
-      source_tells = S.tells;
-      bytes = flat_map S.left outside.old.sources.items;
-      source_failed = (before after : S) × (outside.old.sources.items ≡ before ∷ []) × (outside.new.sources.items ≡ after ∷ []) × Rose (S.faults before) (S.faults after);
-      sink_tells = O.tells;
-      results_before = O.written outside.old.results;
-      results_after = O.written outside.new.results;
-      results_failed = Rose (O.faults outside.old.results) (O.faults outside.new.results);
-      status_before = O.written outside.old.status;
-      status_after = O.written outside.new.status;
-      status_failed = Rose (O.faults outside.old.status) (O.faults outside.new.status);
-    }) result }
-{
-    match replay_path(words) {
-        Some(path) => run_replay(alloc, &path, outside),
-        None => leave(alloc, &mut outside.status),
-    }
 }
 
 /// Answers the question of the words, where it can be answered today.
@@ -92,9 +57,12 @@ fn do_query<S: Source, O: Sink, F: Files, C: Clock, K: Keeper, L: Link>(
       kept_after = K.kept outside.new.keeper;
       keeper_failed = Rose (K.faults outside.old.keeper) (K.faults outside.new.keeper);
       reads = λ moment. C.reads outside.old.clock moment outside.new.clock;
+      has_read = λ readings. ReadsAll C.reads outside.old.clock readings outside.new.clock;
       source_tells = S.tells;
       bytes = flat_map S.left outside.old.sources.items;
       source_failed = (before after : S) × (outside.old.sources.items ≡ before ∷ []) × (outside.new.sources.items ≡ after ∷ []) × Rose (S.faults before) (S.faults after);
+      all_bytes = map S.left outside.old.sources.items;
+      failed_at = λ place. FailsAt S.faults place outside.old.sources.items outside.new.sources.items;
       sink_tells = O.tells;
       results_before = O.written outside.old.results;
       results_after = O.written outside.new.results;
@@ -119,7 +87,8 @@ pub(crate) fn run_command<S: Source, O: Sink, F: Files, C: Clock, K: Keeper, L: 
     words: &CommandWords,
     outside: &mut Outside<S, O, F, C, K, L>,
 ) -> Status
-    requires { vec_len outside.old.sources ≡ sources_in words.now }
+    requires sources { vec_len outside.old.sources ≡ sources_in words.now }
+    requires bounded { IsBounded words.now }
     ensures usage { ¬ IsUsageStatus result }
     ensures link { outside.new.link ≡ outside.old.link }
     ensures ledger { outside.new.ledger ≡ outside.old.ledger }
@@ -138,9 +107,12 @@ pub(crate) fn run_command<S: Source, O: Sink, F: Files, C: Clock, K: Keeper, L: 
       kept_after = K.kept outside.new.keeper;
       keeper_failed = Rose (K.faults outside.old.keeper) (K.faults outside.new.keeper);
       reads = λ moment. C.reads outside.old.clock moment outside.new.clock;
+      has_read = λ readings. ReadsAll C.reads outside.old.clock readings outside.new.clock;
       source_tells = S.tells;
       bytes = flat_map S.left outside.old.sources.items;
       source_failed = (before after : S) × (outside.old.sources.items ≡ before ∷ []) × (outside.new.sources.items ≡ after ∷ []) × Rose (S.faults before) (S.faults after);
+      all_bytes = map S.left outside.old.sources.items;
+      failed_at = λ place. FailsAt S.faults place outside.old.sources.items outside.new.sources.items;
       sink_tells = O.tells;
       results_before = O.written outside.old.results;
       results_after = O.written outside.new.results;
@@ -151,7 +123,7 @@ pub(crate) fn run_command<S: Source, O: Sink, F: Files, C: Clock, K: Keeper, L: 
     }) result }
 {
     match words {
-        CommandWords::Replay(words) => do_replay(alloc, words, outside),
+        CommandWords::Replay(words) => run_replay(alloc, words, outside),
         CommandWords::Query(words) => do_query(alloc, words, outside),
         CommandWords::Check(words) => run_check(alloc, words, outside),
     }

@@ -2,12 +2,14 @@
 
 ghost use Rattle.std.specs.Prelude.{IfOk, IfErr};
 ghost use Rattle.osq_outside.specs.Causes.{Rose};
+ghost use Rattle.osq_config.specs.Bounds.{IsBounded};
 ghost use Rattle.config_files.specs.Configurations.{IsConfigured};
 ghost use Rattle.osq_program.specs.Answers.{no_causes, IsCaused};
 ghost use Rattle.osq_program.specs.Checking.{IsRefusedFor, Refuses};
 
 use crate::status::Status;
-use config_files::{Configured, ConfiguredError, kind_of, read_configured};
+use config_files::{Configured, ConfiguredError, kind_of};
+use daemon_rounds::read_configuration;
 use osq_config::ConfigError;
 use osq_outside::Files;
 use osq_value::Str;
@@ -40,12 +42,13 @@ pub(crate) fn configured<F: Files>(
     path: &Str,
 ) -> Result<Configured, Status>
     ensures config { IfOk result (λ made. IsConfigured F.tells (F.file files.old) path.now made.config made.documents made.notes) }
+    ensures bounded { IfOk result (λ made. IsBounded made.config) }
     ensures cause { IfErr result (IsCaused (record no_causes {
       files = Rose (F.faults files.old) (F.faults files.new);
       refused = IsRefusedFor F.tells (F.file files.old) path.now;
     })) }
 {
-    match read_configured(alloc, files, path.as_str()) {
+    match read_configuration(alloc, files, path.as_str()) {
         Ok(made) => Ok(made),
         Err(ConfiguredError::Fault) => Err(Status::FilesFault),
         Err(ConfiguredError::Missing) => Err(Status::ConfigRefused {

@@ -1,13 +1,15 @@
 //! The command `query`: the answer to one text over the tables that a source sets.
 
-ghost use Rattle.std.specs.Prelude.{◌≡◌, ◌≤◌, ℕ, List, [], ◌∷◌, ◌++◌, true, false, vec_len, flat_map, set, None, Some, unwrap_or, IfOk, IfErr, OnOk};
+ghost use Rattle.std.specs.Prelude.{◌≡◌, ◌≤◌, ℕ, List, [], ◌∷◌, ◌++◌, true, false, vec_len, map, flat_map, set, None, Some, unwrap_or, IfOk, IfErr, OnOk};
 ghost use Rattle.event_store.specs.Contents.{cut_above, rows_in};
 ghost use Rattle.osq_outside.specs.Causes.{Rose};
+ghost use Rattle.daemon_rounds.specs.Rounding.{FailsAt};
+ghost use Rattle.replay_rounds.specs.Running.{ReadsAll};
 ghost use Rattle.osq_value.specs.declared.reading.Reading.{Reading};
 ghost use Rattle.osq_program.specs.Answers.{no_causes, IsCaused, IsUsageStatus};
 ghost use Rattle.osq_program.specs.Asked.{query_asked};
 ghost use Rattle.osq_program.specs.Commands.{count_of};
-ghost use Rattle.osq_program.specs.FirstPath.{LAST_MOMENT};
+ghost use Rattle.osq_program.specs.Moments.{LAST_MOMENT};
 ghost use Rattle.osq_program.specs.Querying.{IsQuery, IsRefusedAt, labelled_lines, row_lines};
 ghost use Rattle.osq_program.specs.Tables.{IsReadWhole, HasSpentRounds, HasTables, time_rows, count_rows};
 ghost use Rattle.sql_meaning.specs.Meaning.{meaning_of};
@@ -141,9 +143,12 @@ pub(crate) fn run_query<S: Source, O: Sink, F: Files, C: Clock, K: Keeper, L: Li
       kept_after = K.kept outside.new.keeper;
       keeper_failed = Rose (K.faults outside.old.keeper) (K.faults outside.new.keeper);
       reads = λ moment. C.reads outside.old.clock moment outside.new.clock;
+      has_read = λ readings. ReadsAll C.reads outside.old.clock readings outside.new.clock;
       source_tells = S.tells;
       bytes = flat_map S.left outside.old.sources.items;
       source_failed = (before after : S) × (outside.old.sources.items ≡ before ∷ []) × (outside.new.sources.items ≡ after ∷ []) × Rose (S.faults before) (S.faults after);
+      all_bytes = map S.left outside.old.sources.items;
+      failed_at = λ place. FailsAt S.faults place outside.old.sources.items outside.new.sources.items;
       sink_tells = O.tells;
       results_before = O.written outside.old.results;
       results_after = O.written outside.new.results;

@@ -2,10 +2,11 @@
 
 ghost use Rattle.std.specs.Prelude.{◌≡◌, ◌++◌, IfOk, OnOk};
 ghost use Rattle.std.specs.Fmt.{decimal};
-ghost use Rattle.osq_program.specs.Report.{final_text, next_of};
+ghost use Rattle.osq_program.specs.Report.{final_line, next_of};
 
 use crate::status::Status;
 use osq_value::{Bytes, NoMemory};
+use replay_rounds::Numbers;
 use std::alloc::Global;
 
 /// What is written where the words are refused.
@@ -13,13 +14,6 @@ pub const USAGE: &str = "usage: osqd COMMAND [OPTIONS]\n";
 
 /// What is written before the final line where the ticks are spent.
 pub const SPENT: &str = "osqd: status 11 TicksSpent\n";
-
-/// The last event number and the count of batches of a kept list of which no batch is acknowledged.
-#[derive(Clone, Copy)]
-pub struct Totals {
-    pub events: u64,
-    pub batches: u64,
-}
 
 /// Adds a label and a number.
 fn push_field(alloc: Global, line: &mut Bytes, label: &str, number: u64) -> Result<(), NoMemory>
@@ -31,23 +25,28 @@ fn push_field(alloc: Global, line: &mut Bytes, label: &str, number: u64) -> Resu
     Ok(())
 }
 
-/// The first of so many batches, or 0 where there is none.
-fn next_batch(batches: u64) -> u64
-    ensures { result ≡ next_of 0 batches }
+/// Of so many batches the first that the collector has not acknowledged, or 0 where it has them all.
+fn next_batch(acknowledged: u64, batches: u64) -> u64
+    ensures { result ≡ next_of acknowledged batches }
 {
-    if batches > 0 { 1 } else { 0 }
+    if acknowledged < batches {
+        acknowledged + 1
+    } else {
+        0
+    }
 }
 
-/// The final line of a run with this status's number, over a kept list of these totals, without a fault of the link.
-pub fn final_line(alloc: Global, number: u8, totals: Totals) -> Result<Bytes, NoMemory>
-    ensures { IfOk result (λ line. line ≡ final_text number totals.events totals.batches 0 0) }
+/// The final line of a run with this status's number, over a kept list of these numbers, without a fault of the link.
+pub fn final_line(alloc: Global, number: u8, kept: Numbers) -> Result<Bytes, NoMemory>
+    ensures { IfOk result (λ line. line ≡ final_line number kept 0) }
 {
+    let next = next_batch(kept.acknowledged, kept.batches);
     let mut line = Bytes::new(alloc);
     push_field(alloc, &mut line, "osqd: done ", u64::from(number))?;
-    push_field(alloc, &mut line, " events=", totals.events)?;
-    push_field(alloc, &mut line, " batches=", totals.batches)?;
-    push_field(alloc, &mut line, " acknowledged=", 0)?;
-    push_field(alloc, &mut line, " next=", next_batch(totals.batches))?;
+    push_field(alloc, &mut line, " events=", kept.events)?;
+    push_field(alloc, &mut line, " batches=", kept.batches)?;
+    push_field(alloc, &mut line, " acknowledged=", kept.acknowledged)?;
+    push_field(alloc, &mut line, " next=", next)?;
     push_field(alloc, &mut line, " linkfaults=", 0)?;
     line.extend(b"\n")?;
     Ok(line)
@@ -61,8 +60,15 @@ fn name_of(status: &Status) -> &'static str {
         Status::FilesFault => "FilesFault",
         Status::ConfigRefused { kind: _, key: _ } => "ConfigRefused",
         Status::KeeperFault => "KeeperFault",
+        Status::KeeperRefused => "KeeperRefused",
         Status::MomentTooLarge { moment: _ } => "MomentTooLarge",
         Status::SourceFault { source: _ } => "SourceFault",
+        Status::SourceShrank {
+            source: _,
+            kept: _,
+            found: _,
+        } => "SourceShrank",
+        Status::NumbersSpent => "NumbersSpent",
         Status::SinkFault => "SinkFault",
         Status::TicksSpent => "TicksSpent",
         Status::QueryRefused { place: _, kind: _ } => "QueryRefused",
@@ -89,6 +95,16 @@ fn push_fields(alloc: Global, line: &mut Bytes, status: &Status) -> Result<(), N
         Status::SourceFault { source } => {
             line.extend(b" source=")?;
             line.extend(source.as_str().as_bytes())
+        }
+        Status::SourceShrank {
+            source,
+            kept,
+            found,
+        } => {
+            line.extend(b" source=")?;
+            line.extend(source.as_str().as_bytes())?;
+            push_field(alloc, line, " kept=", *kept)?;
+            push_field(alloc, line, " found=", *found)
         }
         _ => Ok(()),
     }

@@ -8,10 +8,9 @@ ghost use Rattle.event_store.specs.Laws.{StandsFor};
 ghost use Rattle.publisher_core.specs.declared.error.StepError.{StepError};
 ghost use Rattle.publisher_core.specs.declared.record.SourceKind.TheVariants.{Tables};
 ghost use Rattle.publisher_core.specs.Standing.{Stands};
-ghost use Rattle.osq_program.specs.FirstPath.{LAST_MOMENT};
+ghost use Rattle.osq_program.specs.Moments.{LAST_MOMENT};
 ghost use Rattle.osq_program.specs.Tables.{IsTableReading, IsReadWhole, HasSpentRounds, HasTables, RunsTo, with_readings, time_rows, no_events, count_rows};
 
-use crate::intake::STEP_RECORDS;
 use entry_model::laws;
 use entry_summary::summary::summary_of;
 use event_store::{CutView, Image, laws as image_laws};
@@ -23,6 +22,9 @@ use publisher_core::record::SourceKind;
 use publisher_core::subscription::{Recorded, Subscription};
 use std::alloc::Global;
 use std::collections::VecDeque;
+
+/// A round takes at most so many records.
+const STEP_RECORDS: u64 = 10_000;
 
 /// A source is read in at most so many rounds.
 pub const ROUNDS: u64 = 1_000_000;

@@ -1,112 +1,34 @@
 use crate::Memory;
-use batch_keeper::{Keeper, MemoryKeeper};
+use batch_keeper::MemoryKeeper;
 use entry_model::entry::{Entry, EntryList};
 use osq_outside::{
-    Fail, FailList, MemoryFiles, MemorySink, MemorySource, NamedFile, NamedFileList, StepClock,
+    Fail, FailList, Failures, MemoryFiles, MemorySink, MemorySource, NamedFile, NamedFileList,
+    StepClock,
 };
 use osq_program::run::run_plain;
-use osq_program::session::DOCUMENT;
 use osq_program::{Link, LinkError, MemoryLink, Outside};
 use osq_value::{Bytes, EventList, NoMemory, Row, RowList, Sequence, Str, Value};
+use pack_rules::schedule::Schedule;
 use std::alloc::Global;
 use std::test::Fail as Failed;
 
-const WORDS: [&str; 11] = [
-    "replay",
-    "--config",
-    "c",
-    "--host",
-    "h1",
-    "--start",
-    "1000",
-    "--ticks",
-    "1",
-    "--changes",
-    "s",
-];
-
-const AUDIT_WORDS: [&str; 11] = [
-    "replay", "--config", "c", "--host", "h1", "--start", "1000", "--ticks", "1", "--audit", "s",
-];
-
-const BOTH_WORDS: [&str; 13] = [
-    "replay",
-    "--config",
-    "c",
-    "--host",
-    "h1",
-    "--start",
-    "1000",
-    "--ticks",
-    "1",
-    "--audit",
-    "s",
-    "--changes",
-    "t",
-];
-
-const OTHER_WORDS: [&str; 11] = [
-    "replay", "--config", "c", "--host", "h1", "--start", "1000", "--ticks", "1", "--tables", "s",
-];
-
-/// The same session in another order and spelling, with what stands where nothing is said.
-const TURNED_WORDS: [&str; 9] = [
-    "replay",
-    "--changes=s",
-    "--ticks",
-    "1",
-    "--records=10000",
-    "--host",
-    "h1",
-    "--start=1000",
-    "--config=c",
-];
-
-const LINE: &str = "{\"path\":\"/etc/a\",\"action\":\"CREATED\",\"time\":1}\n";
-
-const RESULT: &str = concat!(
-    "{\"name\":\"all\",\"hostIdentifier\":\"h1\",\"calendarTime\":\"Thu Jan 01 00:16:40 1970 UTC\",\"unixTime\":1000,\"batch\":1,",
-    "\"action\":\"added\",\"columns\":{\"target_path\":\"/etc/a\",\"category\":\"etc\",\"action\":\"CREATED\",",
-    "\"inode\":\"\",\"uid\":\"\",\"gid\":\"\",\"mode\":\"\",\"size\":\"\",\"mtime\":\"\",\"time\":\"1\"}}\n"
-);
-
-/// The lines of one program that was started.
-const STARTED: &str = concat!(
-    "type=SYSCALL msg=audit(1700000000.123:456): arch=c000003e syscall=59 success=yes exit=0 a0=55d0 a1=55e0 a2=55f0 a3=8 items=2 ",
-    "ppid=1200 pid=1234 auid=1000 uid=1000 gid=1000 euid=1000 suid=1000 fsuid=1000 egid=1000 sgid=1000 fsgid=1000 tty=pts0 ses=3 ",
-    "comm=\"ls\" exe=\"/usr/bin/ls\" key=(null)\n",
-    "type=EXECVE msg=audit(1700000000.123:456): argc=2 a0=\"ls\" a1=\"-l\"\n",
-    "type=CWD msg=audit(1700000000.123:456): cwd=\"/home/ann\"\n",
-    "type=PATH msg=audit(1700000000.123:456): item=0 name=\"/usr/bin/ls\" inode=100 dev=08:01 mode=0100755 ouid=0 ogid=0 ",
-    "rdev=00:00 nametype=NORMAL\n",
-    "type=PROCTITLE msg=audit(1700000000.123:456): proctitle=6C73002D6C\n"
-);
-
-/// The lines of one connection, with two lines of no form within and one in front.
-const CONNECTED: &str = concat!(
-    "noise\n",
-    "type=SYSCALL msg=audit(1700000002.000:457): arch=c000003e syscall=42 success=yes a0=3 pid=77 auid=1000 exe=\"/usr/bin/curl\"\n",
-    "still noise\n",
-    "\n",
-    "type=SOCKADDR msg=audit(1700000002.000:457): saddr=02000050C0A800010000000000000000\n"
-);
-
-/// What a run is over. The numbers are those of the calls that are to fail, 0 for none.
+/// One run: its words, the text of its configuration, of each source the text and the call on it that is to fail, and the clock. The other
+/// numbers are those of the calls that are to fail. Calls are counted from 1 in each run; 0 is for none.
 #[derive(Clone, Copy)]
-struct Case<'a> {
-    path: &'a str,
+struct Run<'a> {
+    words: &'a [&'a str],
     config: &'a str,
-    text: &'a str,
+    sources: &'a [(&'a str, u64)],
     start: u64,
+    step: u64,
     files: u64,
-    source: u64,
     keeper: u64,
     is_whole: bool,
     results: u64,
     status: u64,
 }
 
-/// What it leaves: its number, the entries that are kept, as `shown` shows them, and what was written.
+/// What it leaves: its number, the entries that the kept list has gained, as `shown` shows them, and what was written.
 #[derive(Clone, Copy)]
 struct Left<'a> {
     number: u8,
@@ -115,23 +37,11 @@ struct Left<'a> {
     status: &'a str,
 }
 
-const PLAIN: Case<'static> = Case {
-    path: "c",
-    config: DOCUMENT,
-    text: LINE,
-    start: 1000,
-    files: 0,
-    source: 0,
-    keeper: 0,
-    is_whole: false,
-    results: 0,
-    status: 0,
-};
+/// Runs over one kept list, one after another, which is empty before the first.
+type Story<'a> = &'a [(Run<'a>, Left<'a>)];
 
 fn bytes_of(alloc: Global, text: &str) -> Result<Bytes, NoMemory> {
-    let mut bytes = Bytes::new(alloc);
-    bytes.extend(text.as_bytes())?;
-    Ok(bytes)
+    Bytes::of(alloc, text.as_bytes())
 }
 
 fn failing(alloc: Global, call: u64) -> Result<FailList, NoMemory> {
@@ -142,31 +52,42 @@ fn failing(alloc: Global, call: u64) -> Result<FailList, NoMemory> {
     Ok(fails)
 }
 
-fn outside(alloc: Global, case: &Case<'_>) -> Result<Memory, NoMemory> {
+/// An outside whose kept list is empty.
+fn outside(alloc: Global) -> Memory {
+    Outside {
+        sources: Vec::new(alloc),
+        results: MemorySink::new(alloc, FailList::new(alloc)),
+        status: MemorySink::new(alloc, FailList::new(alloc)),
+        ledger: MemorySink::new(alloc, FailList::new(alloc)),
+        files: MemoryFiles::new(NamedFileList::new(alloc), FailList::new(alloc)),
+        clock: StepClock { next: 0, step: 0 },
+        keeper: MemoryKeeper::new(EntryList::new(alloc), FailList::new(alloc), false),
+        link: MemoryLink::new(alloc, Sequence::new(alloc), FailList::new(alloc)),
+    }
+}
+
+/// Gives all but the kept list what the run is over.
+fn prepare(alloc: Global, outside: &mut Memory, run: &Run<'_>) -> Result<(), NoMemory> {
     let mut files = NamedFileList::new(alloc);
     files.push(NamedFile {
-        path: Str::of(alloc, case.path)?,
-        text: bytes_of(alloc, case.config)?,
+        path: Str::of(alloc, "c")?,
+        text: bytes_of(alloc, run.config)?,
     })?;
     let mut sources = Vec::new(alloc);
-    sources.push(MemorySource::new(bytes_of(alloc, case.text)?, failing(alloc, case.source)?))?;
-    Ok(Outside {
-        sources,
-        results: MemorySink::new(alloc, failing(alloc, case.results)?),
-        status: MemorySink::new(alloc, failing(alloc, case.status)?),
-        ledger: MemorySink::new(alloc, FailList::new(alloc)),
-        files: MemoryFiles::new(files, failing(alloc, case.files)?),
-        clock: StepClock {
-            next: case.start,
-            step: 60,
-        },
-        keeper: MemoryKeeper::new(
-            EntryList::new(alloc),
-            failing(alloc, case.keeper)?,
-            case.is_whole,
-        ),
-        link: MemoryLink::new(alloc, Sequence::new(alloc), FailList::new(alloc)),
-    })
+    for (text, call) in run.sources {
+        sources.push(MemorySource::new(bytes_of(alloc, text)?, failing(alloc, *call)?))?;
+    }
+    outside.sources = sources;
+    outside.results = MemorySink::new(alloc, failing(alloc, run.results)?);
+    outside.status = MemorySink::new(alloc, failing(alloc, run.status)?);
+    outside.files = MemoryFiles::new(files, failing(alloc, run.files)?);
+    outside.clock = StepClock {
+        next: run.start,
+        step: run.step,
+    };
+    outside.keeper.failures = Failures::new(failing(alloc, run.keeper)?);
+    outside.keeper.is_whole = run.is_whole;
+    Ok(())
 }
 
 /// Adds a row in brackets: a dash for Null, a number, or a text in quotes.
@@ -202,6 +123,15 @@ fn push_rows(alloc: Global, text: &mut String, rows: &RowList) -> Result<(), NoM
     Ok(())
 }
 
+/// Adds the queries, each as its name and its seconds.
+fn push_queries(alloc: Global, text: &mut String, schedule: &Schedule) -> Result<(), NoMemory> {
+    for query in schedule.queries.as_slice() {
+        let (name, interval) = (query.key.name.as_str(), query.interval);
+        text.push_str(format!(in alloc; " {name}/{interval}")?.as_str())?;
+    }
+    Ok(())
+}
+
 /// An entry as a line of text.
 fn shown(alloc: Global, entry: &Entry) -> Result<String, NoMemory> {
     match entry {
@@ -211,8 +141,9 @@ fn shown(alloc: Global, entry: &Entry) -> Result<String, NoMemory> {
             schedule,
             moment,
         } => {
-            let queries = schedule.queries.len();
-            Ok(format!(in alloc; "configured {queries} at {moment}")?)
+            let mut text = format!(in alloc; "configured at {moment}:")?;
+            push_queries(alloc, &mut text, schedule)?;
+            Ok(text)
         }
         Entry::Ticked { moment } => Ok(format!(in alloc; "ticked at {moment}")?),
         Entry::Appended {
@@ -229,6 +160,25 @@ fn shown(alloc: Global, entry: &Entry) -> Result<String, NoMemory> {
             push_events(alloc, &mut text, events)?;
             Ok(text)
         }
+        Entry::TableSet {
+            source,
+            table,
+            rows,
+            taken,
+        } => {
+            let (source, table) = (source.as_str(), table.0);
+            let mut text = format!(in alloc; "set {table} by {taken} of {source}:")?;
+            push_rows(alloc, &mut text, rows)?;
+            Ok(text)
+        }
+        Entry::Expired {
+            table,
+            floor,
+            moment,
+        } => {
+            let table = table.0;
+            Ok(format!(in alloc; "expired {table} up to {floor}, at {moment}")?)
+        }
         Entry::Committed { batch } => {
             let (number, lo, hi, cut, moment) = (
                 batch.number,
@@ -237,251 +187,1318 @@ fn shown(alloc: Global, entry: &Entry) -> Result<String, NoMemory> {
                 batch.cut,
                 batch.moment,
             );
+            let name = batch.query.name.as_str();
             let mut text = format!(in alloc;
-                "committed {number}, slice ({lo},{hi}], cut {cut}, at {moment}:"
+                "committed {number} of {name}, slice ({lo},{hi}], cut {cut}, at {moment}:"
             )?;
             push_rows(alloc, &mut text, &batch.rows)?;
             Ok(text)
         }
-        _ => Ok(String::from_str(alloc, "another entry")?),
+        Entry::Acked { upto } => Ok(format!(in alloc; "acked {upto}")?),
     }
 }
 
-/// Whether these entries are shown so.
-fn are_shown(alloc: Global, entries: &EntryList, texts: &[&str]) -> Result<bool, NoMemory> {
-    for (entry, text) in entries.as_slice().iter().zip(texts.iter()) {
+/// Whether behind so many entries exactly these are shown.
+fn are_shown(
+    alloc: Global,
+    entries: &EntryList,
+    before: usize,
+    texts: &[&str],
+) -> Result<bool, NoMemory> {
+    for (entry, text) in entries.as_slice().iter().skip(before).zip(texts.iter()) {
         if shown(alloc, entry)?.as_str() != *text {
             return Ok(false);
         }
     }
-    Ok(entries.len() == texts.len())
+    Ok(entries.len().checked_sub(before) == Some(texts.len()))
 }
 
-/// Whether a run of the words leaves this.
-fn ends(alloc: Global, words: &[&str], case: &Case<'_>, left: &Left<'_>) -> Result<bool, NoMemory> {
-    let mut outside = outside(alloc, case)?;
-    let status = run_plain(alloc, words, &mut outside);
+/// Whether the run leaves this behind the kept list that there is.
+fn leaves(
+    alloc: Global,
+    outside: &mut Memory,
+    run: &Run<'_>,
+    left: &Left<'_>,
+) -> Result<bool, NoMemory> {
+    let before = outside.keeper.entries().len();
+    prepare(alloc, outside, run)?;
+    let status = run_plain(alloc, run.words, outside);
     let is_same = status.number() == left.number;
-    let has_kept = are_shown(alloc, outside.keeper.entries(), left.kept)?;
+    let has_kept = are_shown(alloc, outside.keeper.entries(), before, left.kept)?;
     let has_lines = outside.results.written().as_slice() == left.results.as_bytes();
     let has_status = outside.status.written().as_slice() == left.status.as_bytes();
     Ok(is_same & has_kept & has_lines & has_status)
 }
 
-const OPENED: &str = "opened 1";
+/// The place of the first run of a story that leaves something else.
+fn first_wrong(alloc: Global, story: Story<'_>) -> Result<Option<usize>, NoMemory> {
+    let mut outside = outside(alloc);
+    for (at, (run, left)) in story.iter().enumerate() {
+        if !leaves(alloc, &mut outside, run, left)? {
+            return Ok(Some(at));
+        }
+    }
+    Ok(None)
+}
 
-const CONFIGURED: &str = "configured 1 at 1000";
+/// Asks for the changes of files.
+const CHANGED: &str =
+    "{\"schedule\":{\"fe\":{\"query\":\"SELECT target_path, action FROM file_events\",\"interval\":60}},\"file_paths\":{\"etc\":[\"/etc/%%\"]}}";
 
-const TICKED: &str = "ticked at 1000";
+const LINE_A: &str = "{\"path\":\"/etc/a\",\"action\":\"CREATED\",\"time\":1}\n";
 
-/// What is kept of one change line.
-const KEPT: [&str; 5] = [
-    OPENED,
-    CONFIGURED,
-    TICKED,
-    "appended 46 of s, skipped 0, at 1000: 2[ '/etc/a' 'etc' 'CREATED' - - - - - - 1 ]",
-    "committed 1, slice (0,1], cut 4, at 1000: [ '/etc/a' 'etc' 'CREATED' - - - - - - 1 ]",
+const LINE_B: &str = "{\"path\":\"/etc/b\",\"action\":\"CREATED\",\"time\":1}\n";
+
+const LINE_C: &str = "{\"path\":\"/etc/c\",\"action\":\"CREATED\",\"time\":1}\n";
+
+const LINES_AB: &str =
+    "{\"path\":\"/etc/a\",\"action\":\"CREATED\",\"time\":1}\n{\"path\":\"/etc/b\",\"action\":\"CREATED\",\"time\":1}\n";
+
+const LINES_ABC: &str =
+    "{\"path\":\"/etc/a\",\"action\":\"CREATED\",\"time\":1}\n{\"path\":\"/etc/b\",\"action\":\"CREATED\",\"time\":1}\n{\"path\":\"/etc/c\",\"action\":\"CREATED\",\"time\":1}\n";
+
+/// One tick over one source of changes.
+const PLAIN: Run<'static> = Run {
+    words: &[
+        "replay",
+        "--config",
+        "c",
+        "--host",
+        "h1",
+        "--start",
+        "1000",
+        "--ticks",
+        "1",
+        "--changes",
+        "s",
+    ],
+    config: CHANGED,
+    sources: &[(LINE_A, 0)],
+    start: 1000,
+    step: 60,
+    files: 0,
+    keeper: 0,
+    is_whole: false,
+    results: 0,
+    status: 0,
+};
+
+const TWICE: &[&str] = &[
+    "replay",
+    "--config",
+    "c",
+    "--host",
+    "h1",
+    "--start",
+    "1000",
+    "--ticks",
+    "2",
+    "--changes",
+    "s",
 ];
 
-const DONE: Left<'static> = Left {
-    number: 0,
-    kept: &KEPT,
-    results: RESULT,
-    status: "osqd: done 0 events=1 batches=1 acknowledged=0 next=1 linkfaults=0\n",
-};
+const THRICE: &[&str] = &[
+    "replay",
+    "--config",
+    "c",
+    "--host",
+    "h1",
+    "--start",
+    "1000",
+    "--ticks",
+    "3",
+    "--records",
+    "1",
+    "--changes",
+    "s",
+];
 
-/// A session in which nothing was found.
-const NOTHING: Left<'static> = Left {
-    number: 0,
-    kept: &[
-        OPENED,
-        CONFIGURED,
-        TICKED,
-        "committed 1, slice (0,0], cut 3, at 1000:",
-    ],
-    results: "",
-    status: "osqd: done 0 events=0 batches=1 acknowledged=0 next=1 linkfaults=0\n",
-};
-
-/// A session over a change line, one in no form, one whose path no category takes, and one of every key.
-const MIXED: &str = concat!(
-    "{\"path\":\"/etc/a\",\"action\":\"CREATED\",\"time\":1}\n",
-    "hello\n",
-    "{\"path\":\"/tmp/x\",\"action\":\"CREATED\",\"time\":2}\n",
-    "{\"path\":\"/etc/b\",\"action\":\"Updated\",\"uid\":\"7\",\"mode\":\"0644\",\"size\":3}\n"
+/// The lines of one program that was started.
+const STARTED: &str = concat!(
+    "type=SYSCALL msg=audit(1700000000.123:456): arch=c000003e syscall=59 success=yes exit=0 a0=55d0 a1=55e0 a2=55f0 a3=8 items=2 ppid=1200 pid=1234 auid=1000 uid=1000 gid=1000 euid=1000 suid=1000 fsuid=1000 egid=1000 sgid=1000 fsgid=1000 tty=pts0 ses=3 comm=\"ls\" exe=\"/usr/bin/ls\" key=(null)\n",
+    "type=EXECVE msg=audit(1700000000.123:456): argc=2 a0=\"ls\" a1=\"-l\"\n",
+    "type=CWD msg=audit(1700000000.123:456): cwd=\"/home/ann\"\n",
+    "type=PATH msg=audit(1700000000.123:456): item=0 name=\"/usr/bin/ls\" inode=100 dev=08:01 mode=0100755 ouid=0 ogid=0 rdev=00:00 nametype=NORMAL\n",
+    "type=PROCTITLE msg=audit(1700000000.123:456): proctitle=6C73002D6C\n"
 );
 
-const OF_MIXED: Left<'static> = Left {
-    number: 0,
-    kept: &[
-        OPENED,
-        CONFIGURED,
-        TICKED,
-        concat!(
-            "appended 168 of s, skipped 1, at 1000: 2[ '/etc/a' 'etc' 'CREATED' - - - - - - 1 ]",
-            " 2[ '/etc/b' 'etc' 'Updated' - 7 - '0644' 3 - - ]"
-        ),
-        concat!(
-            "committed 1, slice (0,2], cut 4, at 1000: [ '/etc/a' 'etc' 'CREATED' - - - - - - 1 ]",
-            " [ '/etc/b' 'etc' 'Updated' - 7 - '0644' 3 - - ]"
-        ),
-    ],
-    results: concat!(
-        "{\"name\":\"all\",\"hostIdentifier\":\"h1\",\"calendarTime\":\"Thu Jan 01 00:16:40 1970 UTC\",\"unixTime\":1000,\"batch\":1,",
-        "\"action\":\"added\",\"columns\":{\"target_path\":\"/etc/a\",\"category\":\"etc\",\"action\":\"CREATED\",",
-        "\"inode\":\"\",\"uid\":\"\",\"gid\":\"\",\"mode\":\"\",\"size\":\"\",\"mtime\":\"\",\"time\":\"1\"}}\n",
-        "{\"name\":\"all\",\"hostIdentifier\":\"h1\",\"calendarTime\":\"Thu Jan 01 00:16:40 1970 UTC\",\"unixTime\":1000,\"batch\":1,",
-        "\"action\":\"added\",\"columns\":{\"target_path\":\"/etc/b\",\"category\":\"etc\",\"action\":\"Updated\",",
-        "\"inode\":\"\",\"uid\":\"7\",\"gid\":\"\",\"mode\":\"0644\",\"size\":\"3\",\"mtime\":\"\",\"time\":\"\"}}\n"
-    ),
-    status: "osqd: done 0 events=2 batches=1 acknowledged=0 next=1 linkfaults=0\n",
-};
+const PROCESSES: &str =
+    "{\"options\":{\"logger_path\":\"/var/log/osquery\"},\"schedule\":{\"pe\":{\"query\":\"SELECT * FROM process_events;\",\"interval\":\"60\"}}}";
 
-#[test]
-fn sources_of_changes(rt: HostRuntime) -> Result<(), Failed> {
-    let rows = [
-        (LINE, DONE),
-        // What stands behind the last line feed is left.
-        (
-            "{\"path\":\"/etc/a\",\"action\":\"CREATED\",\"time\":1}\n{\"path\":\"/etc/b\"",
-            DONE,
-        ),
-        // An empty source, and one without a whole line, give no Appended and a batch without rows.
-        ("", NOTHING),
-        ("hello", NOTHING),
-        // A line in another form is skipped and counted.
-        (
-            "hello\n",
-            Left {
-                kept: &[
-                    OPENED,
-                    CONFIGURED,
-                    TICKED,
-                    "appended 6 of s, skipped 1, at 1000:",
-                    "committed 1, slice (0,0], cut 4, at 1000:",
-                ],
-                ..NOTHING
-            },
-        ),
-        // A path that no category takes gives no event, and isn't skipped.
-        (
-            "{\"path\":\"/tmp/x\",\"action\":\"CREATED\",\"time\":2}\n",
-            Left {
-                kept: &[
-                    OPENED,
-                    CONFIGURED,
-                    TICKED,
-                    "appended 46 of s, skipped 0, at 1000:",
-                    "committed 1, slice (0,0], cut 4, at 1000:",
-                ],
-                ..NOTHING
-            },
-        ),
-        // An audit log in the place of changes: all of its lines are skipped.
-        (
-            STARTED,
-            Left {
-                kept: &[
-                    OPENED,
-                    CONFIGURED,
-                    TICKED,
-                    "appended 618 of s, skipped 5, at 1000:",
-                    "committed 1, slice (0,0], cut 4, at 1000:",
-                ],
-                ..NOTHING
-            },
-        ),
-        (MIXED, OF_MIXED),
-    ];
-    for (text, left) in rows.into_iter() {
-        let case = Case { text, ..PLAIN };
-        assert!(rt; ends(rt.alloc(), &WORDS, &case, &left)?, "over {text}");
-    }
-    Ok(())
-}
+const USERS: &str =
+    "{\"schedule\":{\"u\":{\"query\":\"SELECT username FROM users\",\"interval\":60}}}";
 
-/// What is kept of it: one event of the table of processes. The known query sees changes of files alone, so its batch has no rows.
-const OF_STARTED: Left<'static> = Left {
-    kept: &[
-        OPENED,
-        CONFIGURED,
-        TICKED,
-        concat!(
-            "appended 618 of s, skipped 0, at 1000:",
-            " 0[ 1234 '/usr/bin/ls' '0100755' 'ls -l' '/home/ann' 1000 1000 1000 1000 1000 1200 1700000000 ]"
-        ),
-        "committed 1, slice (0,1], cut 4, at 1000:",
-    ],
-    status: "osqd: done 0 events=1 batches=1 acknowledged=0 next=1 linkfaults=0\n",
-    ..NOTHING
-};
+const ROOT: &str =
+    "{\"table\":\"users\",\"rows\":[{\"uid\":\"0\",\"gid\":\"0\",\"username\":\"root\"}]}\n";
 
-/// What is kept of one connection: an event of the table of sockets.
-const OF_CONNECTED: Left<'static> = Left {
-    kept: &[
-        OPENED,
-        CONFIGURED,
-        TICKED,
-        concat!(
-            "appended 226 of s, skipped 3, at 1000:",
-            " 1[ 'connect' 77 '/usr/bin/curl' '3' 1000 'succeeded' 2 '' '192.168.0.1' 0 80 '' 1700000002 ]"
-        ),
-        "committed 1, slice (0,1], cut 4, at 1000:",
-    ],
-    ..OF_STARTED
-};
+/// A pack for hosts that ann uses.
+const FOR_ANN: &str =
+    "{\"packs\":{\"p\":{\"discovery\":[\"SELECT 1 FROM users WHERE username = 'ann'\"],\"queries\":{\"u\":{\"query\":\"SELECT username FROM users\",\"interval\":60}}}}}";
 
-const OF_BOTH: Left<'static> = Left {
-    kept: &[
-        OPENED,
-        CONFIGURED,
-        TICKED,
-        concat!(
-            "appended 844 of s, skipped 3, at 1000:",
-            " 0[ 1234 '/usr/bin/ls' '0100755' 'ls -l' '/home/ann' 1000 1000 1000 1000 1000 1200 1700000000 ]",
-            " 1[ 'connect' 77 '/usr/bin/curl' '3' 1000 'succeeded' 2 '' '192.168.0.1' 0 80 '' 1700000002 ]"
-        ),
-        "committed 1, slice (0,2], cut 4, at 1000:",
-    ],
-    status: "osqd: done 0 events=2 batches=1 acknowledged=0 next=1 linkfaults=0\n",
-    ..NOTHING
-};
+const TEN_LINES: &str = concat!(
+    "{\"path\":\"/etc/a\",\"action\":\"CREATED\",\"time\":1}\n",
+    "{\"path\":\"/etc/a\",\"action\":\"CREATED\",\"time\":1}\n",
+    "{\"path\":\"/etc/a\",\"action\":\"CREATED\",\"time\":1}\n",
+    "{\"path\":\"/etc/a\",\"action\":\"CREATED\",\"time\":1}\n",
+    "{\"path\":\"/etc/a\",\"action\":\"CREATED\",\"time\":1}\n",
+    "{\"path\":\"/etc/a\",\"action\":\"CREATED\",\"time\":1}\n",
+    "{\"path\":\"/etc/a\",\"action\":\"CREATED\",\"time\":1}\n",
+    "{\"path\":\"/etc/a\",\"action\":\"CREATED\",\"time\":1}\n",
+    "{\"path\":\"/etc/a\",\"action\":\"CREATED\",\"time\":1}\n",
+    "{\"path\":\"/etc/a\",\"action\":\"CREATED\",\"time\":1}\n"
+);
 
-#[test]
-fn audit_logs(rt: HostRuntime) -> Result<(), Failed> {
-    let alloc = rt.alloc();
-    let rows = [
-        (STARTED, OF_STARTED),
-        (CONNECTED, OF_CONNECTED),
-        ("", NOTHING),
-        // A change line is no line of an audit log.
-        (
-            LINE,
-            Left {
-                kept: &[
-                    OPENED,
-                    CONFIGURED,
-                    TICKED,
-                    "appended 46 of s, skipped 1, at 1000:",
-                    "committed 1, slice (0,0], cut 4, at 1000:",
-                ],
-                ..NOTHING
-            },
-        ),
-    ];
-    for (text, left) in rows.into_iter() {
-        let case = Case { text, ..PLAIN };
-        assert!(rt; ends(alloc, &AUDIT_WORDS, &case, &left)?, "over {text}");
-    }
-    // Two groups, and a rest without a line feed, which is left.
-    let both = format!(in alloc; "{STARTED}{CONNECTED}type=CWD msg=aud")?;
-    let case = Case {
-        text: both.as_str(),
+/// Those of another one.
+const STARTED_LATER: &str = concat!(
+    "type=SYSCALL msg=audit(1700000000.123:457): arch=c000003e syscall=59 success=yes exit=0 a0=55d0 a1=55e0 a2=55f0 a3=8 items=2 ppid=1200 pid=77 auid=1000 uid=1000 gid=1000 euid=1000 suid=1000 fsuid=1000 egid=1000 sgid=1000 fsgid=1000 tty=pts0 ses=3 comm=\"ls\" exe=\"/usr/bin/ls\" key=(null)\n",
+    "type=EXECVE msg=audit(1700000000.123:457): argc=2 a0=\"ls\" a1=\"-l\"\n",
+    "type=CWD msg=audit(1700000000.123:457): cwd=\"/home/ann\"\n",
+    "type=PATH msg=audit(1700000000.123:457): item=0 name=\"/usr/bin/ls\" inode=100 dev=08:01 mode=0100755 ouid=0 ogid=0 rdev=00:00 nametype=NORMAL\n",
+    "type=PROCTITLE msg=audit(1700000000.123:457): proctitle=6C73002D6C\n"
+);
+
+/// A configuration without queries over an empty source.
+const NOTHING_ASKED: Story<'static> = &[(
+    Run {
+        config: "{}",
+        sources: &[("", 0)],
         ..PLAIN
-    };
-    assert!(rt; ends(alloc, &AUDIT_WORDS, &case, &OF_BOTH)?);
+    },
+    Left {
+        number: 0,
+        kept: &["opened 1", "configured at 1000:", "ticked at 1000"],
+        results: "",
+        status: "osqd: done 0 events=0 batches=0 acknowledged=0 next=0 linkfaults=0\n",
+    },
+)];
+
+/// What stands behind the last line feed is left, and taken by the next run, when its line has ended.
+const GROWN_SOURCE: Story<'static> = &[
+    (
+        Run {
+            sources: &[(
+                "{\"path\":\"/etc/a\",\"action\":\"CREATED\",\"time\":1}\n{\"path\":\"/etc/b\"",
+                0,
+            )],
+            ..PLAIN
+        },
+        Left {
+            number: 0,
+            kept: &[
+                "opened 1",
+                "configured at 1000: fe/60",
+                "ticked at 1000",
+                "appended 46 of s, skipped 0, at 1000: 2[ '/etc/a' 'etc' 'CREATED' - - - - - - 1 ]",
+                "committed 1 of fe, slice (0,1], cut 4, at 1000: [ '/etc/a' 'CREATED' ]",
+            ],
+            results: "{\"name\":\"fe\",\"hostIdentifier\":\"h1\",\"calendarTime\":\"Thu Jan 01 00:16:40 1970 UTC\",\"unixTime\":1000,\"batch\":1,\"action\":\"added\",\"columns\":{\"target_path\":\"/etc/a\",\"action\":\"CREATED\"}}\n",
+            status: "osqd: done 0 events=1 batches=1 acknowledged=0 next=1 linkfaults=0\n",
+        },
+    ),
+    (
+        Run {
+            sources: &[(LINES_AB, 0)],
+            start: 1060,
+            ..PLAIN
+        },
+        Left {
+            number: 0,
+            kept: &[
+                "opened 2",
+                "configured at 1060: fe/60",
+                "ticked at 1060",
+                "appended 92 of s, skipped 0, at 1060: 2[ '/etc/b' 'etc' 'CREATED' - - - - - - 1 ]",
+                "committed 2 of fe, slice (1,2], cut 9, at 1060: [ '/etc/b' 'CREATED' ]",
+            ],
+            results: "{\"name\":\"fe\",\"hostIdentifier\":\"h1\",\"calendarTime\":\"Thu Jan 01 00:17:40 1970 UTC\",\"unixTime\":1060,\"batch\":2,\"action\":\"added\",\"columns\":{\"target_path\":\"/etc/b\",\"action\":\"CREATED\"}}\n",
+            status: "osqd: done 0 events=2 batches=2 acknowledged=0 next=1 linkfaults=0\n",
+        },
+    ),
+];
+
+/// Two ticks, of which the second finds nothing; and a run whose source is shorter than what was taken of it.
+const SHRUNK_SOURCE: Story<'static> = &[
+    (
+        Run {
+            words: TWICE,
+            sources: &[(LINES_AB, 0)],
+            ..PLAIN
+        },
+        Left {
+            number: 0,
+            kept: &[
+                "opened 1",
+                "configured at 1000: fe/60",
+                "ticked at 1000",
+                "appended 92 of s, skipped 0, at 1000: 2[ '/etc/a' 'etc' 'CREATED' - - - - - - 1 ] 2[ '/etc/b' 'etc' 'CREATED' - - - - - - 1 ]",
+                "committed 1 of fe, slice (0,2], cut 4, at 1000: [ '/etc/a' 'CREATED' ] [ '/etc/b' 'CREATED' ]",
+                "ticked at 1060",
+                "committed 2 of fe, slice (2,2], cut 6, at 1060:",
+            ],
+            results: "{\"name\":\"fe\",\"hostIdentifier\":\"h1\",\"calendarTime\":\"Thu Jan 01 00:16:40 1970 UTC\",\"unixTime\":1000,\"batch\":1,\"action\":\"added\",\"columns\":{\"target_path\":\"/etc/a\",\"action\":\"CREATED\"}}\n{\"name\":\"fe\",\"hostIdentifier\":\"h1\",\"calendarTime\":\"Thu Jan 01 00:16:40 1970 UTC\",\"unixTime\":1000,\"batch\":1,\"action\":\"added\",\"columns\":{\"target_path\":\"/etc/b\",\"action\":\"CREATED\"}}\n",
+            status: "osqd: done 0 events=2 batches=2 acknowledged=0 next=1 linkfaults=0\n",
+        },
+    ),
+    (
+        Run {
+            start: 2000,
+            ..PLAIN
+        },
+        Left {
+            number: 6,
+            kept: &[],
+            results: "",
+            status: "osqd: status 6 SourceShrank source=s kept=92 found=46\nosqd: done 6 events=2 batches=2 acknowledged=0 next=1 linkfaults=0\n",
+        },
+    ),
+];
+
+/// Only so many events stay: a query that comes later answers over the whole slice, and has the rows of those that stayed.
+const MOST_EVENTS: Story<'static> = &[
+    (
+        Run {
+            config: "{\"schedule\":{},\"options\":{\"events_max\":3},\"file_paths\":{\"etc\":[\"/etc/%%\"]}}",
+            sources: &[(
+                concat!(
+                    "{\"path\":\"/etc/a\",\"action\":\"CREATED\",\"time\":1}\n",
+                    "{\"path\":\"/etc/a\",\"action\":\"CREATED\",\"time\":1}\n",
+                    "{\"path\":\"/etc/a\",\"action\":\"CREATED\",\"time\":1}\n",
+                    "{\"path\":\"/etc/a\",\"action\":\"CREATED\",\"time\":1}\n",
+                    "{\"path\":\"/etc/a\",\"action\":\"CREATED\",\"time\":1}\n"
+                ),
+                0,
+            )],
+            ..PLAIN
+        },
+        Left {
+            number: 0,
+            kept: &[
+                "opened 1",
+                "configured at 1000:",
+                "ticked at 1000",
+                "appended 230 of s, skipped 0, at 1000: 2[ '/etc/a' 'etc' 'CREATED' - - - - - - 1 ] 2[ '/etc/a' 'etc' 'CREATED' - - - - - - 1 ] 2[ '/etc/a' 'etc' 'CREATED' - - - - - - 1 ] 2[ '/etc/a' 'etc' 'CREATED' - - - - - - 1 ] 2[ '/etc/a' 'etc' 'CREATED' - - - - - - 1 ]",
+                "expired 2 up to 2, at 1000",
+            ],
+            results: "",
+            status: "osqd: done 0 events=5 batches=0 acknowledged=0 next=0 linkfaults=0\n",
+        },
+    ),
+    (
+        Run {
+            config: "{\"schedule\":{\"fe\":{\"query\":\"SELECT target_path, action FROM file_events\",\"interval\":60}},\"options\":{\"events_max\":3},\"file_paths\":{\"etc\":[\"/etc/%%\"]}}",
+            sources: &[(
+                concat!(
+                    "{\"path\":\"/etc/a\",\"action\":\"CREATED\",\"time\":1}\n",
+                    "{\"path\":\"/etc/a\",\"action\":\"CREATED\",\"time\":1}\n",
+                    "{\"path\":\"/etc/a\",\"action\":\"CREATED\",\"time\":1}\n",
+                    "{\"path\":\"/etc/a\",\"action\":\"CREATED\",\"time\":1}\n",
+                    "{\"path\":\"/etc/a\",\"action\":\"CREATED\",\"time\":1}\n"
+                ),
+                0,
+            )],
+            start: 1060,
+            ..PLAIN
+        },
+        Left {
+            number: 0,
+            kept: &[
+                "opened 2",
+                "configured at 1060: fe/60",
+                "ticked at 1060",
+                "committed 1 of fe, slice (0,5], cut 8, at 1060: [ '/etc/a' 'CREATED' ] [ '/etc/a' 'CREATED' ] [ '/etc/a' 'CREATED' ]",
+            ],
+            results: "{\"name\":\"fe\",\"hostIdentifier\":\"h1\",\"calendarTime\":\"Thu Jan 01 00:17:40 1970 UTC\",\"unixTime\":1060,\"batch\":1,\"action\":\"added\",\"columns\":{\"target_path\":\"/etc/a\",\"action\":\"CREATED\"}}\n{\"name\":\"fe\",\"hostIdentifier\":\"h1\",\"calendarTime\":\"Thu Jan 01 00:17:40 1970 UTC\",\"unixTime\":1060,\"batch\":1,\"action\":\"added\",\"columns\":{\"target_path\":\"/etc/a\",\"action\":\"CREATED\"}}\n{\"name\":\"fe\",\"hostIdentifier\":\"h1\",\"calendarTime\":\"Thu Jan 01 00:17:40 1970 UTC\",\"unixTime\":1060,\"batch\":1,\"action\":\"added\",\"columns\":{\"target_path\":\"/etc/a\",\"action\":\"CREATED\"}}\n",
+            status: "osqd: done 0 events=5 batches=1 acknowledged=0 next=1 linkfaults=0\n",
+        },
+    ),
+];
+
+const YOUNG_EVENT: Story<'static> = &[(
+    Run {
+        words: TWICE,
+        config: "{\"schedule\":{},\"options\":{\"events_expiry\":31},\"file_paths\":{\"etc\":[\"/etc/%%\"]}}",
+        step: 30,
+        ..PLAIN
+    },
+    Left {
+        number: 0,
+        kept: &[
+            "opened 1",
+            "configured at 1000:",
+            "ticked at 1000",
+            "appended 46 of s, skipped 0, at 1000: 2[ '/etc/a' 'etc' 'CREATED' - - - - - - 1 ]",
+            "ticked at 1030",
+        ],
+        results: "",
+        status: "osqd: done 0 events=1 batches=0 acknowledged=0 next=0 linkfaults=0\n",
+    },
+)];
+
+const OLD_EVENT: Story<'static> = &[(
+    Run {
+        words: TWICE,
+        config: "{\"schedule\":{},\"options\":{\"events_expiry\":30},\"file_paths\":{\"etc\":[\"/etc/%%\"]}}",
+        step: 30,
+        ..PLAIN
+    },
+    Left {
+        number: 0,
+        kept: &[
+            "opened 1",
+            "configured at 1000:",
+            "ticked at 1000",
+            "appended 46 of s, skipped 0, at 1000: 2[ '/etc/a' 'etc' 'CREATED' - - - - - - 1 ]",
+            "ticked at 1030",
+            "expired 2 up to 1, at 1030",
+        ],
+        results: "",
+        status: "osqd: done 0 events=1 batches=0 acknowledged=0 next=0 linkfaults=0\n",
+    },
+)];
+
+const OLDER_EVENT: Story<'static> = &[(
+    Run {
+        words: TWICE,
+        config: "{\"schedule\":{},\"options\":{\"events_expiry\":29},\"file_paths\":{\"etc\":[\"/etc/%%\"]}}",
+        step: 30,
+        ..PLAIN
+    },
+    Left {
+        number: 0,
+        kept: &[
+            "opened 1",
+            "configured at 1000:",
+            "ticked at 1000",
+            "appended 46 of s, skipped 0, at 1000: 2[ '/etc/a' 'etc' 'CREATED' - - - - - - 1 ]",
+            "ticked at 1030",
+            "expired 2 up to 1, at 1030",
+        ],
+        results: "",
+        status: "osqd: done 0 events=1 batches=0 acknowledged=0 next=0 linkfaults=0\n",
+    },
+)];
+
+const SEALED_NOT_AT_ALL: Story<'static> = &[
+    (
+        Run {
+            sources: &[(LINES_AB, 0)],
+            keeper: 2,
+            ..PLAIN
+        },
+        Left {
+            number: 4,
+            kept: &[],
+            results: "",
+            status: "osqd: status 4 KeeperFault\nosqd: done 4 events=0 batches=0 acknowledged=0 next=0 linkfaults=0\n",
+        },
+    ),
+    (
+        Run {
+            sources: &[(LINES_AB, 0)],
+            start: 1060,
+            ..PLAIN
+        },
+        Left {
+            number: 0,
+            kept: &[
+                "opened 1",
+                "configured at 1060: fe/60",
+                "ticked at 1060",
+                "appended 92 of s, skipped 0, at 1060: 2[ '/etc/a' 'etc' 'CREATED' - - - - - - 1 ] 2[ '/etc/b' 'etc' 'CREATED' - - - - - - 1 ]",
+                "committed 1 of fe, slice (0,2], cut 4, at 1060: [ '/etc/a' 'CREATED' ] [ '/etc/b' 'CREATED' ]",
+            ],
+            results: "{\"name\":\"fe\",\"hostIdentifier\":\"h1\",\"calendarTime\":\"Thu Jan 01 00:17:40 1970 UTC\",\"unixTime\":1060,\"batch\":1,\"action\":\"added\",\"columns\":{\"target_path\":\"/etc/a\",\"action\":\"CREATED\"}}\n{\"name\":\"fe\",\"hostIdentifier\":\"h1\",\"calendarTime\":\"Thu Jan 01 00:17:40 1970 UTC\",\"unixTime\":1060,\"batch\":1,\"action\":\"added\",\"columns\":{\"target_path\":\"/etc/b\",\"action\":\"CREATED\"}}\n",
+            status: "osqd: done 0 events=2 batches=1 acknowledged=0 next=1 linkfaults=0\n",
+        },
+    ),
+];
+
+const SEALED_WHOLE: Story<'static> = &[
+    (
+        Run {
+            sources: &[(LINES_AB, 0)],
+            keeper: 2,
+            is_whole: true,
+            ..PLAIN
+        },
+        Left {
+            number: 4,
+            kept: &[
+                "opened 1",
+                "configured at 1000: fe/60",
+                "ticked at 1000",
+                "appended 92 of s, skipped 0, at 1000: 2[ '/etc/a' 'etc' 'CREATED' - - - - - - 1 ] 2[ '/etc/b' 'etc' 'CREATED' - - - - - - 1 ]",
+                "committed 1 of fe, slice (0,2], cut 4, at 1000: [ '/etc/a' 'CREATED' ] [ '/etc/b' 'CREATED' ]",
+            ],
+            results: "",
+            status: "osqd: status 4 KeeperFault\nosqd: done 4 events=0 batches=0 acknowledged=0 next=0 linkfaults=0\n",
+        },
+    ),
+    (
+        Run {
+            sources: &[(LINES_AB, 0)],
+            start: 1060,
+            ..PLAIN
+        },
+        Left {
+            number: 0,
+            kept: &[
+                "opened 2",
+                "configured at 1060: fe/60",
+                "ticked at 1060",
+                "committed 2 of fe, slice (2,2], cut 8, at 1060:",
+            ],
+            results: "",
+            status: "osqd: done 0 events=2 batches=2 acknowledged=0 next=1 linkfaults=0\n",
+        },
+    ),
+];
+
+const FIRST_SEAL_LOST: Story<'static> = &[
+    (
+        Run {
+            words: THRICE,
+            sources: &[(LINES_ABC, 0)],
+            keeper: 2,
+            ..PLAIN
+        },
+        Left {
+            number: 4,
+            kept: &[],
+            results: "",
+            status: "osqd: status 4 KeeperFault\nosqd: done 4 events=0 batches=0 acknowledged=0 next=0 linkfaults=0\n",
+        },
+    ),
+    (
+        Run {
+            words: THRICE,
+            sources: &[(LINES_ABC, 0)],
+            start: 1180,
+            ..PLAIN
+        },
+        Left {
+            number: 11,
+            kept: &[
+                "opened 1",
+                "configured at 1180: fe/60",
+                "ticked at 1180",
+                "appended 46 of s, skipped 0, at 1180: 2[ '/etc/a' 'etc' 'CREATED' - - - - - - 1 ]",
+                "committed 1 of fe, slice (0,1], cut 4, at 1180: [ '/etc/a' 'CREATED' ]",
+                "ticked at 1240",
+                "appended 92 of s, skipped 0, at 1240: 2[ '/etc/b' 'etc' 'CREATED' - - - - - - 1 ]",
+                "committed 2 of fe, slice (1,2], cut 7, at 1240: [ '/etc/b' 'CREATED' ]",
+                "ticked at 1300",
+                "appended 138 of s, skipped 0, at 1300: 2[ '/etc/c' 'etc' 'CREATED' - - - - - - 1 ]",
+                "committed 3 of fe, slice (2,3], cut 10, at 1300: [ '/etc/c' 'CREATED' ]",
+            ],
+            results: "{\"name\":\"fe\",\"hostIdentifier\":\"h1\",\"calendarTime\":\"Thu Jan 01 00:19:40 1970 UTC\",\"unixTime\":1180,\"batch\":1,\"action\":\"added\",\"columns\":{\"target_path\":\"/etc/a\",\"action\":\"CREATED\"}}\n{\"name\":\"fe\",\"hostIdentifier\":\"h1\",\"calendarTime\":\"Thu Jan 01 00:20:40 1970 UTC\",\"unixTime\":1240,\"batch\":2,\"action\":\"added\",\"columns\":{\"target_path\":\"/etc/b\",\"action\":\"CREATED\"}}\n{\"name\":\"fe\",\"hostIdentifier\":\"h1\",\"calendarTime\":\"Thu Jan 01 00:21:40 1970 UTC\",\"unixTime\":1300,\"batch\":3,\"action\":\"added\",\"columns\":{\"target_path\":\"/etc/c\",\"action\":\"CREATED\"}}\n",
+            status: "osqd: status 11 TicksSpent\nosqd: done 11 events=3 batches=3 acknowledged=0 next=1 linkfaults=0\n",
+        },
+    ),
+];
+
+const FIRST_SEAL_WHOLE: Story<'static> = &[
+    (
+        Run {
+            words: THRICE,
+            sources: &[(LINES_ABC, 0)],
+            keeper: 2,
+            is_whole: true,
+            ..PLAIN
+        },
+        Left {
+            number: 4,
+            kept: &[
+                "opened 1",
+                "configured at 1000: fe/60",
+                "ticked at 1000",
+                "appended 46 of s, skipped 0, at 1000: 2[ '/etc/a' 'etc' 'CREATED' - - - - - - 1 ]",
+                "committed 1 of fe, slice (0,1], cut 4, at 1000: [ '/etc/a' 'CREATED' ]",
+            ],
+            results: "",
+            status: "osqd: status 4 KeeperFault\nosqd: done 4 events=0 batches=0 acknowledged=0 next=0 linkfaults=0\n",
+        },
+    ),
+    (
+        Run {
+            words: THRICE,
+            sources: &[(LINES_ABC, 0)],
+            start: 1180,
+            ..PLAIN
+        },
+        Left {
+            number: 0,
+            kept: &[
+                "opened 2",
+                "configured at 1180: fe/60",
+                "ticked at 1180",
+                "appended 92 of s, skipped 0, at 1180: 2[ '/etc/b' 'etc' 'CREATED' - - - - - - 1 ]",
+                "committed 2 of fe, slice (1,2], cut 9, at 1180: [ '/etc/b' 'CREATED' ]",
+                "ticked at 1240",
+                "appended 138 of s, skipped 0, at 1240: 2[ '/etc/c' 'etc' 'CREATED' - - - - - - 1 ]",
+                "committed 3 of fe, slice (2,3], cut 12, at 1240: [ '/etc/c' 'CREATED' ]",
+                "ticked at 1300",
+                "committed 4 of fe, slice (3,3], cut 14, at 1300:",
+            ],
+            results: "{\"name\":\"fe\",\"hostIdentifier\":\"h1\",\"calendarTime\":\"Thu Jan 01 00:19:40 1970 UTC\",\"unixTime\":1180,\"batch\":2,\"action\":\"added\",\"columns\":{\"target_path\":\"/etc/b\",\"action\":\"CREATED\"}}\n{\"name\":\"fe\",\"hostIdentifier\":\"h1\",\"calendarTime\":\"Thu Jan 01 00:20:40 1970 UTC\",\"unixTime\":1240,\"batch\":3,\"action\":\"added\",\"columns\":{\"target_path\":\"/etc/c\",\"action\":\"CREATED\"}}\n",
+            status: "osqd: done 0 events=3 batches=4 acknowledged=0 next=1 linkfaults=0\n",
+        },
+    ),
+];
+
+const SECOND_SEAL_LOST: Story<'static> = &[
+    (
+        Run {
+            words: THRICE,
+            sources: &[(LINES_ABC, 0)],
+            keeper: 3,
+            ..PLAIN
+        },
+        Left {
+            number: 4,
+            kept: &[
+                "opened 1",
+                "configured at 1000: fe/60",
+                "ticked at 1000",
+                "appended 46 of s, skipped 0, at 1000: 2[ '/etc/a' 'etc' 'CREATED' - - - - - - 1 ]",
+                "committed 1 of fe, slice (0,1], cut 4, at 1000: [ '/etc/a' 'CREATED' ]",
+            ],
+            results: "{\"name\":\"fe\",\"hostIdentifier\":\"h1\",\"calendarTime\":\"Thu Jan 01 00:16:40 1970 UTC\",\"unixTime\":1000,\"batch\":1,\"action\":\"added\",\"columns\":{\"target_path\":\"/etc/a\",\"action\":\"CREATED\"}}\n",
+            status: "osqd: status 4 KeeperFault\nosqd: done 4 events=1 batches=1 acknowledged=0 next=1 linkfaults=0\n",
+        },
+    ),
+    (
+        Run {
+            words: THRICE,
+            sources: &[(LINES_ABC, 0)],
+            start: 1180,
+            ..PLAIN
+        },
+        Left {
+            number: 0,
+            kept: &[
+                "opened 2",
+                "configured at 1180: fe/60",
+                "ticked at 1180",
+                "appended 92 of s, skipped 0, at 1180: 2[ '/etc/b' 'etc' 'CREATED' - - - - - - 1 ]",
+                "committed 2 of fe, slice (1,2], cut 9, at 1180: [ '/etc/b' 'CREATED' ]",
+                "ticked at 1240",
+                "appended 138 of s, skipped 0, at 1240: 2[ '/etc/c' 'etc' 'CREATED' - - - - - - 1 ]",
+                "committed 3 of fe, slice (2,3], cut 12, at 1240: [ '/etc/c' 'CREATED' ]",
+                "ticked at 1300",
+                "committed 4 of fe, slice (3,3], cut 14, at 1300:",
+            ],
+            results: "{\"name\":\"fe\",\"hostIdentifier\":\"h1\",\"calendarTime\":\"Thu Jan 01 00:19:40 1970 UTC\",\"unixTime\":1180,\"batch\":2,\"action\":\"added\",\"columns\":{\"target_path\":\"/etc/b\",\"action\":\"CREATED\"}}\n{\"name\":\"fe\",\"hostIdentifier\":\"h1\",\"calendarTime\":\"Thu Jan 01 00:20:40 1970 UTC\",\"unixTime\":1240,\"batch\":3,\"action\":\"added\",\"columns\":{\"target_path\":\"/etc/c\",\"action\":\"CREATED\"}}\n",
+            status: "osqd: done 0 events=3 batches=4 acknowledged=0 next=1 linkfaults=0\n",
+        },
+    ),
+];
+
+const SECOND_SEAL_WHOLE: Story<'static> = &[
+    (
+        Run {
+            words: THRICE,
+            sources: &[(LINES_ABC, 0)],
+            keeper: 3,
+            is_whole: true,
+            ..PLAIN
+        },
+        Left {
+            number: 4,
+            kept: &[
+                "opened 1",
+                "configured at 1000: fe/60",
+                "ticked at 1000",
+                "appended 46 of s, skipped 0, at 1000: 2[ '/etc/a' 'etc' 'CREATED' - - - - - - 1 ]",
+                "committed 1 of fe, slice (0,1], cut 4, at 1000: [ '/etc/a' 'CREATED' ]",
+                "ticked at 1060",
+                "appended 92 of s, skipped 0, at 1060: 2[ '/etc/b' 'etc' 'CREATED' - - - - - - 1 ]",
+                "committed 2 of fe, slice (1,2], cut 7, at 1060: [ '/etc/b' 'CREATED' ]",
+            ],
+            results: "{\"name\":\"fe\",\"hostIdentifier\":\"h1\",\"calendarTime\":\"Thu Jan 01 00:16:40 1970 UTC\",\"unixTime\":1000,\"batch\":1,\"action\":\"added\",\"columns\":{\"target_path\":\"/etc/a\",\"action\":\"CREATED\"}}\n",
+            status: "osqd: status 4 KeeperFault\nosqd: done 4 events=1 batches=1 acknowledged=0 next=1 linkfaults=0\n",
+        },
+    ),
+    (
+        Run {
+            words: THRICE,
+            sources: &[(LINES_ABC, 0)],
+            start: 1180,
+            ..PLAIN
+        },
+        Left {
+            number: 0,
+            kept: &[
+                "opened 2",
+                "configured at 1180: fe/60",
+                "ticked at 1180",
+                "appended 138 of s, skipped 0, at 1180: 2[ '/etc/c' 'etc' 'CREATED' - - - - - - 1 ]",
+                "committed 3 of fe, slice (2,3], cut 12, at 1180: [ '/etc/c' 'CREATED' ]",
+                "ticked at 1240",
+                "committed 4 of fe, slice (3,3], cut 14, at 1240:",
+                "ticked at 1300",
+                "committed 5 of fe, slice (3,3], cut 16, at 1300:",
+            ],
+            results: "{\"name\":\"fe\",\"hostIdentifier\":\"h1\",\"calendarTime\":\"Thu Jan 01 00:19:40 1970 UTC\",\"unixTime\":1180,\"batch\":3,\"action\":\"added\",\"columns\":{\"target_path\":\"/etc/c\",\"action\":\"CREATED\"}}\n",
+            status: "osqd: done 0 events=3 batches=5 acknowledged=0 next=1 linkfaults=0\n",
+        },
+    ),
+];
+
+const THIRD_SEAL_LOST: Story<'static> = &[
+    (
+        Run {
+            words: THRICE,
+            sources: &[(LINES_ABC, 0)],
+            keeper: 4,
+            ..PLAIN
+        },
+        Left {
+            number: 4,
+            kept: &[
+                "opened 1",
+                "configured at 1000: fe/60",
+                "ticked at 1000",
+                "appended 46 of s, skipped 0, at 1000: 2[ '/etc/a' 'etc' 'CREATED' - - - - - - 1 ]",
+                "committed 1 of fe, slice (0,1], cut 4, at 1000: [ '/etc/a' 'CREATED' ]",
+                "ticked at 1060",
+                "appended 92 of s, skipped 0, at 1060: 2[ '/etc/b' 'etc' 'CREATED' - - - - - - 1 ]",
+                "committed 2 of fe, slice (1,2], cut 7, at 1060: [ '/etc/b' 'CREATED' ]",
+            ],
+            results: "{\"name\":\"fe\",\"hostIdentifier\":\"h1\",\"calendarTime\":\"Thu Jan 01 00:16:40 1970 UTC\",\"unixTime\":1000,\"batch\":1,\"action\":\"added\",\"columns\":{\"target_path\":\"/etc/a\",\"action\":\"CREATED\"}}\n{\"name\":\"fe\",\"hostIdentifier\":\"h1\",\"calendarTime\":\"Thu Jan 01 00:17:40 1970 UTC\",\"unixTime\":1060,\"batch\":2,\"action\":\"added\",\"columns\":{\"target_path\":\"/etc/b\",\"action\":\"CREATED\"}}\n",
+            status: "osqd: status 4 KeeperFault\nosqd: done 4 events=2 batches=2 acknowledged=0 next=1 linkfaults=0\n",
+        },
+    ),
+    (
+        Run {
+            words: THRICE,
+            sources: &[(LINES_ABC, 0)],
+            start: 1180,
+            ..PLAIN
+        },
+        Left {
+            number: 0,
+            kept: &[
+                "opened 2",
+                "configured at 1180: fe/60",
+                "ticked at 1180",
+                "appended 138 of s, skipped 0, at 1180: 2[ '/etc/c' 'etc' 'CREATED' - - - - - - 1 ]",
+                "committed 3 of fe, slice (2,3], cut 12, at 1180: [ '/etc/c' 'CREATED' ]",
+                "ticked at 1240",
+                "committed 4 of fe, slice (3,3], cut 14, at 1240:",
+                "ticked at 1300",
+                "committed 5 of fe, slice (3,3], cut 16, at 1300:",
+            ],
+            results: "{\"name\":\"fe\",\"hostIdentifier\":\"h1\",\"calendarTime\":\"Thu Jan 01 00:19:40 1970 UTC\",\"unixTime\":1180,\"batch\":3,\"action\":\"added\",\"columns\":{\"target_path\":\"/etc/c\",\"action\":\"CREATED\"}}\n",
+            status: "osqd: done 0 events=3 batches=5 acknowledged=0 next=1 linkfaults=0\n",
+        },
+    ),
+];
+
+const THIRD_SEAL_WHOLE: Story<'static> = &[
+    (
+        Run {
+            words: THRICE,
+            sources: &[(LINES_ABC, 0)],
+            keeper: 4,
+            is_whole: true,
+            ..PLAIN
+        },
+        Left {
+            number: 4,
+            kept: &[
+                "opened 1",
+                "configured at 1000: fe/60",
+                "ticked at 1000",
+                "appended 46 of s, skipped 0, at 1000: 2[ '/etc/a' 'etc' 'CREATED' - - - - - - 1 ]",
+                "committed 1 of fe, slice (0,1], cut 4, at 1000: [ '/etc/a' 'CREATED' ]",
+                "ticked at 1060",
+                "appended 92 of s, skipped 0, at 1060: 2[ '/etc/b' 'etc' 'CREATED' - - - - - - 1 ]",
+                "committed 2 of fe, slice (1,2], cut 7, at 1060: [ '/etc/b' 'CREATED' ]",
+                "ticked at 1120",
+                "appended 138 of s, skipped 0, at 1120: 2[ '/etc/c' 'etc' 'CREATED' - - - - - - 1 ]",
+                "committed 3 of fe, slice (2,3], cut 10, at 1120: [ '/etc/c' 'CREATED' ]",
+            ],
+            results: "{\"name\":\"fe\",\"hostIdentifier\":\"h1\",\"calendarTime\":\"Thu Jan 01 00:16:40 1970 UTC\",\"unixTime\":1000,\"batch\":1,\"action\":\"added\",\"columns\":{\"target_path\":\"/etc/a\",\"action\":\"CREATED\"}}\n{\"name\":\"fe\",\"hostIdentifier\":\"h1\",\"calendarTime\":\"Thu Jan 01 00:17:40 1970 UTC\",\"unixTime\":1060,\"batch\":2,\"action\":\"added\",\"columns\":{\"target_path\":\"/etc/b\",\"action\":\"CREATED\"}}\n",
+            status: "osqd: status 4 KeeperFault\nosqd: done 4 events=2 batches=2 acknowledged=0 next=1 linkfaults=0\n",
+        },
+    ),
+    (
+        Run {
+            words: THRICE,
+            sources: &[(LINES_ABC, 0)],
+            start: 1180,
+            ..PLAIN
+        },
+        Left {
+            number: 0,
+            kept: &[
+                "opened 2",
+                "configured at 1180: fe/60",
+                "ticked at 1180",
+                "committed 4 of fe, slice (3,3], cut 14, at 1180:",
+                "ticked at 1240",
+                "committed 5 of fe, slice (3,3], cut 16, at 1240:",
+                "ticked at 1300",
+                "committed 6 of fe, slice (3,3], cut 18, at 1300:",
+            ],
+            results: "",
+            status: "osqd: done 0 events=3 batches=6 acknowledged=0 next=1 linkfaults=0\n",
+        },
+    ),
+];
+
+/// A query of another text begins anew.
+const OTHER_TEXT: Story<'static> = &[
+    (
+        PLAIN,
+        Left {
+            number: 0,
+            kept: &[
+                "opened 1",
+                "configured at 1000: fe/60",
+                "ticked at 1000",
+                "appended 46 of s, skipped 0, at 1000: 2[ '/etc/a' 'etc' 'CREATED' - - - - - - 1 ]",
+                "committed 1 of fe, slice (0,1], cut 4, at 1000: [ '/etc/a' 'CREATED' ]",
+            ],
+            results: "{\"name\":\"fe\",\"hostIdentifier\":\"h1\",\"calendarTime\":\"Thu Jan 01 00:16:40 1970 UTC\",\"unixTime\":1000,\"batch\":1,\"action\":\"added\",\"columns\":{\"target_path\":\"/etc/a\",\"action\":\"CREATED\"}}\n",
+            status: "osqd: done 0 events=1 batches=1 acknowledged=0 next=1 linkfaults=0\n",
+        },
+    ),
+    (
+        Run {
+            config: "{\"schedule\":{\"fe\":{\"query\":\"SELECT action, target_path FROM file_events\",\"interval\":60}},\"file_paths\":{\"etc\":[\"/etc/%%\"]}}",
+            start: 1060,
+            ..PLAIN
+        },
+        Left {
+            number: 0,
+            kept: &[
+                "opened 2",
+                "configured at 1060: fe/60",
+                "ticked at 1060",
+                "committed 2 of fe, slice (0,1], cut 8, at 1060: [ 'CREATED' '/etc/a' ]",
+            ],
+            results: "{\"name\":\"fe\",\"hostIdentifier\":\"h1\",\"calendarTime\":\"Thu Jan 01 00:17:40 1970 UTC\",\"unixTime\":1060,\"batch\":2,\"action\":\"added\",\"columns\":{\"action\":\"CREATED\",\"target_path\":\"/etc/a\"}}\n",
+            status: "osqd: done 0 events=1 batches=2 acknowledged=0 next=1 linkfaults=0\n",
+        },
+    ),
+];
+
+/// A query that comes back goes on where it stood.
+const QUERY_COMES_BACK: Story<'static> = &[
+    (
+        PLAIN,
+        Left {
+            number: 0,
+            kept: &[
+                "opened 1",
+                "configured at 1000: fe/60",
+                "ticked at 1000",
+                "appended 46 of s, skipped 0, at 1000: 2[ '/etc/a' 'etc' 'CREATED' - - - - - - 1 ]",
+                "committed 1 of fe, slice (0,1], cut 4, at 1000: [ '/etc/a' 'CREATED' ]",
+            ],
+            results: "{\"name\":\"fe\",\"hostIdentifier\":\"h1\",\"calendarTime\":\"Thu Jan 01 00:16:40 1970 UTC\",\"unixTime\":1000,\"batch\":1,\"action\":\"added\",\"columns\":{\"target_path\":\"/etc/a\",\"action\":\"CREATED\"}}\n",
+            status: "osqd: done 0 events=1 batches=1 acknowledged=0 next=1 linkfaults=0\n",
+        },
+    ),
+    (
+        Run {
+            config: "{\"schedule\":{},\"file_paths\":{\"etc\":[\"/etc/%%\"]}}",
+            sources: &[(LINES_AB, 0)],
+            start: 1060,
+            ..PLAIN
+        },
+        Left {
+            number: 0,
+            kept: &[
+                "opened 2",
+                "configured at 1060:",
+                "ticked at 1060",
+                "appended 92 of s, skipped 0, at 1060: 2[ '/etc/b' 'etc' 'CREATED' - - - - - - 1 ]",
+            ],
+            results: "",
+            status: "osqd: done 0 events=2 batches=1 acknowledged=0 next=1 linkfaults=0\n",
+        },
+    ),
+    (
+        Run {
+            sources: &[(LINES_AB, 0)],
+            start: 1120,
+            ..PLAIN
+        },
+        Left {
+            number: 0,
+            kept: &[
+                "opened 3",
+                "configured at 1120: fe/60",
+                "ticked at 1120",
+                "committed 2 of fe, slice (1,2], cut 12, at 1120: [ '/etc/b' 'CREATED' ]",
+            ],
+            results: "{\"name\":\"fe\",\"hostIdentifier\":\"h1\",\"calendarTime\":\"Thu Jan 01 00:18:40 1970 UTC\",\"unixTime\":1120,\"batch\":2,\"action\":\"added\",\"columns\":{\"target_path\":\"/etc/b\",\"action\":\"CREATED\"}}\n",
+            status: "osqd: done 0 events=2 batches=2 acknowledged=0 next=1 linkfaults=0\n",
+        },
+    ),
+];
+
+/// An audit log.
+const PROGRAM_STARTED: Story<'static> = &[(
+    Run {
+        words: &[
+            "replay",
+            "--config",
+            "c",
+            "--host",
+            "h1",
+            "--start",
+            "1700000100",
+            "--ticks",
+            "1",
+            "--audit",
+            "s",
+        ],
+        config: PROCESSES,
+        sources: &[(STARTED, 0)],
+        start: 1700000100,
+        ..PLAIN
+    },
+    Left {
+        number: 0,
+        kept: &[
+            "opened 1",
+            "configured at 1700000100: pe/60",
+            "ticked at 1700000100",
+            "appended 618 of s, skipped 0, at 1700000100: 0[ 1234 '/usr/bin/ls' '0100755' 'ls -l' '/home/ann' 1000 1000 1000 1000 1000 1200 1700000000 ]",
+            "committed 1 of pe, slice (0,1], cut 4, at 1700000100: [ 1234 '/usr/bin/ls' '0100755' 'ls -l' '/home/ann' 1000 1000 1000 1000 1000 1200 1700000000 ]",
+        ],
+        results: "{\"name\":\"pe\",\"hostIdentifier\":\"h1\",\"calendarTime\":\"Tue Nov 14 22:15:00 2023 UTC\",\"unixTime\":1700000100,\"batch\":1,\"action\":\"added\",\"columns\":{\"pid\":\"1234\",\"path\":\"/usr/bin/ls\",\"mode\":\"0100755\",\"cmdline\":\"ls -l\",\"cwd\":\"/home/ann\",\"auid\":\"1000\",\"uid\":\"1000\",\"euid\":\"1000\",\"gid\":\"1000\",\"egid\":\"1000\",\"parent\":\"1200\",\"time\":\"1700000000\"}}\n",
+        status: "osqd: done 0 events=1 batches=1 acknowledged=0 next=1 linkfaults=0\n",
+    },
+)];
+
+/// A recorded table.
+const SNAPSHOT: Story<'static> = &[(
+    Run {
+        words: &[
+            "replay", "--config", "c", "--host", "h1", "--start", "1000", "--ticks", "1",
+            "--tables", "t",
+        ],
+        config: USERS,
+        sources: &[(ROOT, 0)],
+        ..PLAIN
+    },
+    Left {
+        number: 0,
+        kept: &[
+            "opened 1",
+            "set 3 by 67 of t: [ 0 0 'root' - - - ]",
+            "configured at 1000: u/60",
+            "ticked at 1000",
+            "committed 1 of u, slice (0,0], cut 4, at 1000: [ 'root' ]",
+        ],
+        results: "{\"name\":\"u\",\"hostIdentifier\":\"h1\",\"calendarTime\":\"Thu Jan 01 00:16:40 1970 UTC\",\"unixTime\":1000,\"batch\":1,\"action\":\"snapshot\",\"snapshot\":[{\"username\":\"root\"}]}\n",
+        status: "osqd: done 0 events=0 batches=1 acknowledged=0 next=1 linkfaults=0\n",
+    },
+)];
+
+/// A snapshot shows the tables as they are at its cut. The last step takes a line and reads no further, so the end isn't met.
+const TABLES_AT_THE_CUT: Story<'static> = &[(
+    Run {
+        words: &[
+            "replay",
+            "--config",
+            "c",
+            "--host",
+            "h1",
+            "--start",
+            "1000",
+            "--ticks",
+            "2",
+            "--records",
+            "1",
+            "--tables",
+            "t",
+        ],
+        config: USERS,
+        sources: &[(
+            "{\"table\":\"users\",\"rows\":[{\"uid\":\"0\",\"gid\":\"0\",\"username\":\"root\"}]}\n{\"table\":\"users\",\"rows\":[{\"uid\":\"0\",\"gid\":\"0\",\"username\":\"ann\"}]}\n{\"table\":\"users\",\"rows\":[{\"uid\":\"0\",\"gid\":\"0\",\"username\":\"bob\"}]}\n",
+            0,
+        )],
+        ..PLAIN
+    },
+    Left {
+        number: 0,
+        kept: &[
+            "opened 1",
+            "set 3 by 67 of t: [ 0 0 'root' - - - ]",
+            "configured at 1000: u/60",
+            "ticked at 1000",
+            "set 3 by 133 of t: [ 0 0 'ann' - - - ]",
+            "committed 1 of u, slice (0,0], cut 5, at 1000: [ 'ann' ]",
+            "ticked at 1060",
+            "set 3 by 199 of t: [ 0 0 'bob' - - - ]",
+            "committed 2 of u, slice (0,0], cut 8, at 1060: [ 'bob' ]",
+        ],
+        results: "{\"name\":\"u\",\"hostIdentifier\":\"h1\",\"calendarTime\":\"Thu Jan 01 00:16:40 1970 UTC\",\"unixTime\":1000,\"batch\":1,\"action\":\"snapshot\",\"snapshot\":[{\"username\":\"ann\"}]}\n{\"name\":\"u\",\"hostIdentifier\":\"h1\",\"calendarTime\":\"Thu Jan 01 00:17:40 1970 UTC\",\"unixTime\":1060,\"batch\":2,\"action\":\"snapshot\",\"snapshot\":[{\"username\":\"bob\"}]}\n",
+        status: "osqd: status 11 TicksSpent\nosqd: done 11 events=0 batches=2 acknowledged=0 next=1 linkfaults=0\n",
+    },
+)];
+
+/// A pack whose discovery finds nothing.
+const NOBODY_FOUND: Story<'static> = &[(
+    Run {
+        words: &[
+            "replay", "--config", "c", "--host", "abc", "--start", "1000", "--ticks", "1",
+        ],
+        config: "{\"packs\":{\"p\":{\"platform\":\"posix\",\"version\":\"5.9\",\"discovery\":[\"SELECT 1 FROM users\"],\"queries\":{\"a\":{\"query\":\"SELECT 1\",\"interval\":60,\"shard\":75},\"b\":{\"query\":\"SELECT 1\",\"interval\":60,\"shard\":74},\"w\":{\"query\":\"SELECT 1\",\"interval\":60,\"platform\":\"windows\"}}}}}",
+        sources: &[],
+        ..PLAIN
+    },
+    Left {
+        number: 0,
+        kept: &["opened 1", "configured at 1000:", "ticked at 1000"],
+        results: "",
+        status: "osqd: done 0 events=0 batches=0 acknowledged=0 next=0 linkfaults=0\n",
+    },
+)];
+
+/// Discovery is asked again after an hour, and then finds a user who came in between.
+const ASKED_AFTER_AN_HOUR: Story<'static> = &[(
+    Run {
+        words: &[
+            "replay",
+            "--config",
+            "c",
+            "--host",
+            "h1",
+            "--start",
+            "1000",
+            "--ticks",
+            "2",
+            "--records",
+            "1",
+            "--tables",
+            "t",
+        ],
+        config: FOR_ANN,
+        sources: &[(
+            "{\"table\":\"users\",\"rows\":[{\"uid\":\"0\",\"gid\":\"0\",\"username\":\"root\"}]}\n{\"table\":\"users\",\"rows\":[{\"uid\":\"0\",\"gid\":\"0\",\"username\":\"ann\"}]}\n",
+            0,
+        )],
+        step: 3600,
+        ..PLAIN
+    },
+    Left {
+        number: 0,
+        kept: &[
+            "opened 1",
+            "set 3 by 67 of t: [ 0 0 'root' - - - ]",
+            "configured at 1000:",
+            "ticked at 1000",
+            "set 3 by 133 of t: [ 0 0 'ann' - - - ]",
+            "ticked at 4600",
+            "configured at 4600: pack_p_u/60",
+            "committed 1 of pack_p_u, slice (0,0], cut 7, at 4600: [ 'ann' ]",
+        ],
+        results: "{\"name\":\"pack_p_u\",\"hostIdentifier\":\"h1\",\"calendarTime\":\"Thu Jan 01 01:16:40 1970 UTC\",\"unixTime\":4600,\"batch\":1,\"action\":\"snapshot\",\"snapshot\":[{\"username\":\"ann\"}]}\n",
+        status: "osqd: done 0 events=0 batches=1 acknowledged=0 next=1 linkfaults=0\n",
+    },
+)];
+
+const NOT_ASKED_BEFORE: Story<'static> = &[(
+    Run {
+        words: &[
+            "replay",
+            "--config",
+            "c",
+            "--host",
+            "h1",
+            "--start",
+            "1000",
+            "--ticks",
+            "2",
+            "--records",
+            "1",
+            "--tables",
+            "t",
+        ],
+        config: FOR_ANN,
+        sources: &[(
+            "{\"table\":\"users\",\"rows\":[{\"uid\":\"0\",\"gid\":\"0\",\"username\":\"root\"}]}\n{\"table\":\"users\",\"rows\":[{\"uid\":\"0\",\"gid\":\"0\",\"username\":\"ann\"}]}\n",
+            0,
+        )],
+        step: 3599,
+        ..PLAIN
+    },
+    Left {
+        number: 0,
+        kept: &[
+            "opened 1",
+            "set 3 by 67 of t: [ 0 0 'root' - - - ]",
+            "configured at 1000:",
+            "ticked at 1000",
+            "set 3 by 133 of t: [ 0 0 'ann' - - - ]",
+            "ticked at 4599",
+        ],
+        results: "",
+        status: "osqd: done 0 events=0 batches=0 acknowledged=0 next=0 linkfaults=0\n",
+    },
+)];
+
+/// Steps of four records over ten lines: two ticks aren't enough, and four are.
+const TWO_FULL_STEPS: Story<'static> = &[(
+    Run {
+        words: &[
+            "replay",
+            "--config",
+            "c",
+            "--host",
+            "h1",
+            "--start",
+            "1000",
+            "--ticks",
+            "2",
+            "--records",
+            "4",
+            "--changes",
+            "s",
+        ],
+        sources: &[(TEN_LINES, 0)],
+        ..PLAIN
+    },
+    Left {
+        number: 11,
+        kept: &[
+            "opened 1",
+            "configured at 1000: fe/60",
+            "ticked at 1000",
+            "appended 184 of s, skipped 0, at 1000: 2[ '/etc/a' 'etc' 'CREATED' - - - - - - 1 ] 2[ '/etc/a' 'etc' 'CREATED' - - - - - - 1 ] 2[ '/etc/a' 'etc' 'CREATED' - - - - - - 1 ] 2[ '/etc/a' 'etc' 'CREATED' - - - - - - 1 ]",
+            "committed 1 of fe, slice (0,4], cut 4, at 1000: [ '/etc/a' 'CREATED' ] [ '/etc/a' 'CREATED' ] [ '/etc/a' 'CREATED' ] [ '/etc/a' 'CREATED' ]",
+            "ticked at 1060",
+            "appended 368 of s, skipped 0, at 1060: 2[ '/etc/a' 'etc' 'CREATED' - - - - - - 1 ] 2[ '/etc/a' 'etc' 'CREATED' - - - - - - 1 ] 2[ '/etc/a' 'etc' 'CREATED' - - - - - - 1 ] 2[ '/etc/a' 'etc' 'CREATED' - - - - - - 1 ]",
+            "committed 2 of fe, slice (4,8], cut 7, at 1060: [ '/etc/a' 'CREATED' ] [ '/etc/a' 'CREATED' ] [ '/etc/a' 'CREATED' ] [ '/etc/a' 'CREATED' ]",
+        ],
+        results: "{\"name\":\"fe\",\"hostIdentifier\":\"h1\",\"calendarTime\":\"Thu Jan 01 00:16:40 1970 UTC\",\"unixTime\":1000,\"batch\":1,\"action\":\"added\",\"columns\":{\"target_path\":\"/etc/a\",\"action\":\"CREATED\"}}\n{\"name\":\"fe\",\"hostIdentifier\":\"h1\",\"calendarTime\":\"Thu Jan 01 00:16:40 1970 UTC\",\"unixTime\":1000,\"batch\":1,\"action\":\"added\",\"columns\":{\"target_path\":\"/etc/a\",\"action\":\"CREATED\"}}\n{\"name\":\"fe\",\"hostIdentifier\":\"h1\",\"calendarTime\":\"Thu Jan 01 00:16:40 1970 UTC\",\"unixTime\":1000,\"batch\":1,\"action\":\"added\",\"columns\":{\"target_path\":\"/etc/a\",\"action\":\"CREATED\"}}\n{\"name\":\"fe\",\"hostIdentifier\":\"h1\",\"calendarTime\":\"Thu Jan 01 00:16:40 1970 UTC\",\"unixTime\":1000,\"batch\":1,\"action\":\"added\",\"columns\":{\"target_path\":\"/etc/a\",\"action\":\"CREATED\"}}\n{\"name\":\"fe\",\"hostIdentifier\":\"h1\",\"calendarTime\":\"Thu Jan 01 00:17:40 1970 UTC\",\"unixTime\":1060,\"batch\":2,\"action\":\"added\",\"columns\":{\"target_path\":\"/etc/a\",\"action\":\"CREATED\"}}\n{\"name\":\"fe\",\"hostIdentifier\":\"h1\",\"calendarTime\":\"Thu Jan 01 00:17:40 1970 UTC\",\"unixTime\":1060,\"batch\":2,\"action\":\"added\",\"columns\":{\"target_path\":\"/etc/a\",\"action\":\"CREATED\"}}\n{\"name\":\"fe\",\"hostIdentifier\":\"h1\",\"calendarTime\":\"Thu Jan 01 00:17:40 1970 UTC\",\"unixTime\":1060,\"batch\":2,\"action\":\"added\",\"columns\":{\"target_path\":\"/etc/a\",\"action\":\"CREATED\"}}\n{\"name\":\"fe\",\"hostIdentifier\":\"h1\",\"calendarTime\":\"Thu Jan 01 00:17:40 1970 UTC\",\"unixTime\":1060,\"batch\":2,\"action\":\"added\",\"columns\":{\"target_path\":\"/etc/a\",\"action\":\"CREATED\"}}\n",
+        status: "osqd: status 11 TicksSpent\nosqd: done 11 events=8 batches=2 acknowledged=0 next=1 linkfaults=0\n",
+    },
+)];
+
+const FOUR_STEPS: Story<'static> = &[(
+    Run {
+        words: &[
+            "replay",
+            "--config",
+            "c",
+            "--host",
+            "h1",
+            "--start",
+            "1000",
+            "--ticks",
+            "4",
+            "--records",
+            "4",
+            "--changes",
+            "s",
+        ],
+        sources: &[(TEN_LINES, 0)],
+        ..PLAIN
+    },
+    Left {
+        number: 0,
+        kept: &[
+            "opened 1",
+            "configured at 1000: fe/60",
+            "ticked at 1000",
+            "appended 184 of s, skipped 0, at 1000: 2[ '/etc/a' 'etc' 'CREATED' - - - - - - 1 ] 2[ '/etc/a' 'etc' 'CREATED' - - - - - - 1 ] 2[ '/etc/a' 'etc' 'CREATED' - - - - - - 1 ] 2[ '/etc/a' 'etc' 'CREATED' - - - - - - 1 ]",
+            "committed 1 of fe, slice (0,4], cut 4, at 1000: [ '/etc/a' 'CREATED' ] [ '/etc/a' 'CREATED' ] [ '/etc/a' 'CREATED' ] [ '/etc/a' 'CREATED' ]",
+            "ticked at 1060",
+            "appended 368 of s, skipped 0, at 1060: 2[ '/etc/a' 'etc' 'CREATED' - - - - - - 1 ] 2[ '/etc/a' 'etc' 'CREATED' - - - - - - 1 ] 2[ '/etc/a' 'etc' 'CREATED' - - - - - - 1 ] 2[ '/etc/a' 'etc' 'CREATED' - - - - - - 1 ]",
+            "committed 2 of fe, slice (4,8], cut 7, at 1060: [ '/etc/a' 'CREATED' ] [ '/etc/a' 'CREATED' ] [ '/etc/a' 'CREATED' ] [ '/etc/a' 'CREATED' ]",
+            "ticked at 1120",
+            "appended 460 of s, skipped 0, at 1120: 2[ '/etc/a' 'etc' 'CREATED' - - - - - - 1 ] 2[ '/etc/a' 'etc' 'CREATED' - - - - - - 1 ]",
+            "committed 3 of fe, slice (8,10], cut 10, at 1120: [ '/etc/a' 'CREATED' ] [ '/etc/a' 'CREATED' ]",
+            "ticked at 1180",
+            "committed 4 of fe, slice (10,10], cut 12, at 1180:",
+        ],
+        results: "{\"name\":\"fe\",\"hostIdentifier\":\"h1\",\"calendarTime\":\"Thu Jan 01 00:16:40 1970 UTC\",\"unixTime\":1000,\"batch\":1,\"action\":\"added\",\"columns\":{\"target_path\":\"/etc/a\",\"action\":\"CREATED\"}}\n{\"name\":\"fe\",\"hostIdentifier\":\"h1\",\"calendarTime\":\"Thu Jan 01 00:16:40 1970 UTC\",\"unixTime\":1000,\"batch\":1,\"action\":\"added\",\"columns\":{\"target_path\":\"/etc/a\",\"action\":\"CREATED\"}}\n{\"name\":\"fe\",\"hostIdentifier\":\"h1\",\"calendarTime\":\"Thu Jan 01 00:16:40 1970 UTC\",\"unixTime\":1000,\"batch\":1,\"action\":\"added\",\"columns\":{\"target_path\":\"/etc/a\",\"action\":\"CREATED\"}}\n{\"name\":\"fe\",\"hostIdentifier\":\"h1\",\"calendarTime\":\"Thu Jan 01 00:16:40 1970 UTC\",\"unixTime\":1000,\"batch\":1,\"action\":\"added\",\"columns\":{\"target_path\":\"/etc/a\",\"action\":\"CREATED\"}}\n{\"name\":\"fe\",\"hostIdentifier\":\"h1\",\"calendarTime\":\"Thu Jan 01 00:17:40 1970 UTC\",\"unixTime\":1060,\"batch\":2,\"action\":\"added\",\"columns\":{\"target_path\":\"/etc/a\",\"action\":\"CREATED\"}}\n{\"name\":\"fe\",\"hostIdentifier\":\"h1\",\"calendarTime\":\"Thu Jan 01 00:17:40 1970 UTC\",\"unixTime\":1060,\"batch\":2,\"action\":\"added\",\"columns\":{\"target_path\":\"/etc/a\",\"action\":\"CREATED\"}}\n{\"name\":\"fe\",\"hostIdentifier\":\"h1\",\"calendarTime\":\"Thu Jan 01 00:17:40 1970 UTC\",\"unixTime\":1060,\"batch\":2,\"action\":\"added\",\"columns\":{\"target_path\":\"/etc/a\",\"action\":\"CREATED\"}}\n{\"name\":\"fe\",\"hostIdentifier\":\"h1\",\"calendarTime\":\"Thu Jan 01 00:17:40 1970 UTC\",\"unixTime\":1060,\"batch\":2,\"action\":\"added\",\"columns\":{\"target_path\":\"/etc/a\",\"action\":\"CREATED\"}}\n{\"name\":\"fe\",\"hostIdentifier\":\"h1\",\"calendarTime\":\"Thu Jan 01 00:18:40 1970 UTC\",\"unixTime\":1120,\"batch\":3,\"action\":\"added\",\"columns\":{\"target_path\":\"/etc/a\",\"action\":\"CREATED\"}}\n{\"name\":\"fe\",\"hostIdentifier\":\"h1\",\"calendarTime\":\"Thu Jan 01 00:18:40 1970 UTC\",\"unixTime\":1120,\"batch\":3,\"action\":\"added\",\"columns\":{\"target_path\":\"/etc/a\",\"action\":\"CREATED\"}}\n",
+        status: "osqd: done 0 events=10 batches=4 acknowledged=0 next=1 linkfaults=0\n",
+    },
+)];
+
+/// A line in another form is skipped and counted.
+const NO_CHANGE_LINE: Story<'static> = &[(
+    Run {
+        sources: &[("hello\n", 0)],
+        ..PLAIN
+    },
+    Left {
+        number: 0,
+        kept: &[
+            "opened 1",
+            "configured at 1000: fe/60",
+            "ticked at 1000",
+            "appended 6 of s, skipped 1, at 1000:",
+            "committed 1 of fe, slice (0,0], cut 4, at 1000:",
+        ],
+        results: "",
+        status: "osqd: done 0 events=0 batches=1 acknowledged=0 next=1 linkfaults=0\n",
+    },
+)];
+
+/// Audit logs, then lists of changes, then table lines, each in the order of the words. Queries stand in the order of their names.
+const TWO_OF_EACH_KIND: Story<'static> = &[(
+    Run {
+        words: &[
+            "replay",
+            "--config",
+            "c",
+            "--host",
+            "h1",
+            "--start",
+            "1000",
+            "--ticks",
+            "1",
+            "--tables",
+            "t1",
+            "--changes",
+            "z",
+            "--audit",
+            "l2",
+            "--tables",
+            "t2",
+            "--audit",
+            "l1",
+            "--changes",
+            "b",
+        ],
+        config: "{\"schedule\":{\"fe\":{\"query\":\"SELECT target_path, action FROM file_events\",\"interval\":60},\"pe\":{\"query\":\"SELECT pid FROM process_events\",\"interval\":60},\"u\":{\"query\":\"SELECT username FROM users\",\"interval\":60}},\"file_paths\":{\"etc\":[\"/etc/%%\"]}}",
+        sources: &[
+            (STARTED_LATER, 0),
+            (STARTED, 0),
+            (LINE_B, 0),
+            (LINE_A, 0),
+            (ROOT, 0),
+            (
+                "{\"table\":\"groups\",\"rows\":[{\"gid\":5,\"groupname\":\"g\"}]}\n",
+                0,
+            ),
+        ],
+        ..PLAIN
+    },
+    Left {
+        number: 0,
+        kept: &[
+            "opened 1",
+            "set 3 by 67 of t1: [ 0 0 'root' - - - ]",
+            "set 4 by 54 of t2: [ 5 'g' ]",
+            "configured at 1000: fe/60 pe/60 u/60",
+            "ticked at 1000",
+            "appended 616 of l2, skipped 0, at 1000: 0[ 77 '/usr/bin/ls' '0100755' 'ls -l' '/home/ann' 1000 1000 1000 1000 1000 1200 1700000000 ]",
+            "appended 618 of l1, skipped 0, at 1000: 0[ 1234 '/usr/bin/ls' '0100755' 'ls -l' '/home/ann' 1000 1000 1000 1000 1000 1200 1700000000 ]",
+            "appended 46 of z, skipped 0, at 1000: 2[ '/etc/b' 'etc' 'CREATED' - - - - - - 1 ]",
+            "appended 46 of b, skipped 0, at 1000: 2[ '/etc/a' 'etc' 'CREATED' - - - - - - 1 ]",
+            "committed 1 of fe, slice (0,4], cut 9, at 1000: [ '/etc/b' 'CREATED' ] [ '/etc/a' 'CREATED' ]",
+            "committed 2 of pe, slice (0,4], cut 10, at 1000: [ 77 ] [ 1234 ]",
+            "committed 3 of u, slice (0,4], cut 11, at 1000: [ 'root' ]",
+        ],
+        results: "{\"name\":\"fe\",\"hostIdentifier\":\"h1\",\"calendarTime\":\"Thu Jan 01 00:16:40 1970 UTC\",\"unixTime\":1000,\"batch\":1,\"action\":\"added\",\"columns\":{\"target_path\":\"/etc/b\",\"action\":\"CREATED\"}}\n{\"name\":\"fe\",\"hostIdentifier\":\"h1\",\"calendarTime\":\"Thu Jan 01 00:16:40 1970 UTC\",\"unixTime\":1000,\"batch\":1,\"action\":\"added\",\"columns\":{\"target_path\":\"/etc/a\",\"action\":\"CREATED\"}}\n{\"name\":\"pe\",\"hostIdentifier\":\"h1\",\"calendarTime\":\"Thu Jan 01 00:16:40 1970 UTC\",\"unixTime\":1000,\"batch\":2,\"action\":\"added\",\"columns\":{\"pid\":\"77\"}}\n{\"name\":\"pe\",\"hostIdentifier\":\"h1\",\"calendarTime\":\"Thu Jan 01 00:16:40 1970 UTC\",\"unixTime\":1000,\"batch\":2,\"action\":\"added\",\"columns\":{\"pid\":\"1234\"}}\n{\"name\":\"u\",\"hostIdentifier\":\"h1\",\"calendarTime\":\"Thu Jan 01 00:16:40 1970 UTC\",\"unixTime\":1000,\"batch\":3,\"action\":\"snapshot\",\"snapshot\":[{\"username\":\"root\"}]}\n",
+        status: "osqd: done 0 events=4 batches=3 acknowledged=0 next=1 linkfaults=0\n",
+    },
+)];
+
+const THREE_OF_ONE_KIND: Story<'static> = &[(
+    Run {
+        words: &[
+            "replay",
+            "--config",
+            "c",
+            "--host",
+            "h1",
+            "--start",
+            "1000",
+            "--ticks",
+            "1",
+            "--changes",
+            "c",
+            "--changes",
+            "a",
+            "--changes",
+            "b",
+        ],
+        sources: &[(LINE_C, 0), (LINE_A, 0), (LINE_B, 0)],
+        ..PLAIN
+    },
+    Left {
+        number: 0,
+        kept: &[
+            "opened 1",
+            "configured at 1000: fe/60",
+            "ticked at 1000",
+            "appended 46 of c, skipped 0, at 1000: 2[ '/etc/c' 'etc' 'CREATED' - - - - - - 1 ]",
+            "appended 46 of a, skipped 0, at 1000: 2[ '/etc/a' 'etc' 'CREATED' - - - - - - 1 ]",
+            "appended 46 of b, skipped 0, at 1000: 2[ '/etc/b' 'etc' 'CREATED' - - - - - - 1 ]",
+            "committed 1 of fe, slice (0,3], cut 6, at 1000: [ '/etc/c' 'CREATED' ] [ '/etc/a' 'CREATED' ] [ '/etc/b' 'CREATED' ]",
+        ],
+        results: "{\"name\":\"fe\",\"hostIdentifier\":\"h1\",\"calendarTime\":\"Thu Jan 01 00:16:40 1970 UTC\",\"unixTime\":1000,\"batch\":1,\"action\":\"added\",\"columns\":{\"target_path\":\"/etc/c\",\"action\":\"CREATED\"}}\n{\"name\":\"fe\",\"hostIdentifier\":\"h1\",\"calendarTime\":\"Thu Jan 01 00:16:40 1970 UTC\",\"unixTime\":1000,\"batch\":1,\"action\":\"added\",\"columns\":{\"target_path\":\"/etc/a\",\"action\":\"CREATED\"}}\n{\"name\":\"fe\",\"hostIdentifier\":\"h1\",\"calendarTime\":\"Thu Jan 01 00:16:40 1970 UTC\",\"unixTime\":1000,\"batch\":1,\"action\":\"added\",\"columns\":{\"target_path\":\"/etc/b\",\"action\":\"CREATED\"}}\n",
+        status: "osqd: done 0 events=3 batches=1 acknowledged=0 next=1 linkfaults=0\n",
+    },
+)];
+
+#[test]
+fn sessions(rt: HostRuntime) -> Result<(), Failed> {
+    let rows = [
+        ("nothing_asked", NOTHING_ASKED),
+        ("grown_source", GROWN_SOURCE),
+        ("shrunk_source", SHRUNK_SOURCE),
+        ("most_events", MOST_EVENTS),
+        ("young_event", YOUNG_EVENT),
+        ("old_event", OLD_EVENT),
+        ("older_event", OLDER_EVENT),
+        ("other_text", OTHER_TEXT),
+        ("query_comes_back", QUERY_COMES_BACK),
+        ("program_started", PROGRAM_STARTED),
+        ("snapshot", SNAPSHOT),
+        ("tables_at_the_cut", TABLES_AT_THE_CUT),
+        ("nobody_found", NOBODY_FOUND),
+        ("asked_after_an_hour", ASKED_AFTER_AN_HOUR),
+        ("not_asked_before", NOT_ASKED_BEFORE),
+        ("two_full_steps", TWO_FULL_STEPS),
+        ("four_steps", FOUR_STEPS),
+        ("no_change_line", NO_CHANGE_LINE),
+        ("two_of_each_kind", TWO_OF_EACH_KIND),
+        ("three_of_one_kind", THREE_OF_ONE_KIND),
+    ];
+    for (name, story) in rows.into_iter() {
+        if let Some(at) = first_wrong(rt.alloc(), story)? {
+            panic!(rt; "in {name}, at {at}");
+        }
+    }
     Ok(())
 }
+
+#[test]
+fn sessions_that_are_restarted(rt: HostRuntime) -> Result<(), Failed> {
+    let rows = [
+        ("sealed_not_at_all", SEALED_NOT_AT_ALL),
+        ("sealed_whole", SEALED_WHOLE),
+        ("first_seal_lost", FIRST_SEAL_LOST),
+        ("first_seal_whole", FIRST_SEAL_WHOLE),
+        ("second_seal_lost", SECOND_SEAL_LOST),
+        ("second_seal_whole", SECOND_SEAL_WHOLE),
+        ("third_seal_lost", THIRD_SEAL_LOST),
+        ("third_seal_whole", THIRD_SEAL_WHOLE),
+    ];
+    for (name, story) in rows.into_iter() {
+        if let Some(at) = first_wrong(rt.alloc(), story)? {
+            panic!(rt; "in {name}, at {at}");
+        }
+    }
+    Ok(())
+}
+
+/// The line of one change.
+const RESULT_A: &str =
+    "{\"name\":\"fe\",\"hostIdentifier\":\"h1\",\"calendarTime\":\"Thu Jan 01 00:16:40 1970 UTC\",\"unixTime\":1000,\"batch\":1,\"action\":\"added\",\"columns\":{\"target_path\":\"/etc/a\",\"action\":\"CREATED\"}}\n";
 
 const USAGE: Left<'static> = Left {
     number: 64,
@@ -492,150 +1509,272 @@ const USAGE: Left<'static> = Left {
 
 #[test]
 fn words_that_are_refused(rt: HostRuntime) -> Result<(), Failed> {
+    let alloc = rt.alloc();
     let rows: [&[&str]; 5] = [
         &["replay"],
         &[],
         &["replay", "--host", "h1"],
         &["replay", "--config", "c", "--host", "h1", "--ticks", "0"],
         // There is one source.
-        &BOTH_WORDS,
+        &[
+            "replay",
+            "--config",
+            "c",
+            "--host",
+            "h1",
+            "--audit",
+            "s",
+            "--changes",
+            "t",
+        ],
     ];
     for words in rows.into_iter() {
-        assert!(rt; ends(rt.alloc(), words, &PLAIN, &USAGE)?);
+        let run = Run { words, ..PLAIN };
+        assert!(rt; leaves(alloc, &mut outside(alloc), &run, &USAGE)?);
     }
-    let left = Left {
-        number: 30,
-        status: "osqd: not built: words\n",
-        ..USAGE
-    };
-    assert!(rt; ends(rt.alloc(), &OTHER_WORDS, &PLAIN, &left)?);
     Ok(())
 }
 
-#[test]
-fn words_in_another_order(rt: HostRuntime) -> Result<(), Failed> {
-    assert!(rt; ends(rt.alloc(), &TURNED_WORDS, &PLAIN, &DONE)?);
-    Ok(())
-}
+/// The plain words in another order and spelling, with what stands where nothing is said.
+const TURNED_WORDS: &[&str] = &[
+    "replay",
+    "--changes=s",
+    "--ticks",
+    "1",
+    "--records=10000",
+    "--host",
+    "h1",
+    "--start=1000",
+    "--config=c",
+];
 
+/// A fault of an object, and what it leaves.
 #[test]
-fn refusals_before_the_session(rt: HostRuntime) -> Result<(), Failed> {
+fn refusals(rt: HostRuntime) -> Result<(), Failed> {
+    let alloc = rt.alloc();
     let rows = [
         (
-            Case { files: 1, ..PLAIN },
-            3u8,
-            "osqd: status 3 FilesFault\n",
-        ),
-        (
-            Case { path: "d", ..PLAIN },
-            2,
-            "osqd: status 2 ConfigRefused kind=Missing key=\n",
-        ),
-        (
-            Case {
-                config: "{}",
+            Run {
+                words: TURNED_WORDS,
                 ..PLAIN
             },
-            30,
-            "osqd: not built: config\n",
+            Left {
+                number: 0,
+                kept: &[
+                    "opened 1",
+                    "configured at 1000: fe/60",
+                    "ticked at 1000",
+                    "appended 46 of s, skipped 0, at 1000: 2[ '/etc/a' 'etc' 'CREATED' - - - - - - 1 ]",
+                    "committed 1 of fe, slice (0,1], cut 4, at 1000: [ '/etc/a' 'CREATED' ]",
+                ],
+                results: "{\"name\":\"fe\",\"hostIdentifier\":\"h1\",\"calendarTime\":\"Thu Jan 01 00:16:40 1970 UTC\",\"unixTime\":1000,\"batch\":1,\"action\":\"added\",\"columns\":{\"target_path\":\"/etc/a\",\"action\":\"CREATED\"}}\n",
+                status: "osqd: done 0 events=1 batches=1 acknowledged=0 next=1 linkfaults=0\n",
+            },
         ),
         (
-            Case { keeper: 1, ..PLAIN },
-            4,
-            "osqd: status 4 KeeperFault\n",
+            Run { files: 1, ..PLAIN },
+            Left {
+                number: 3,
+                status: "osqd: status 3 FilesFault\n",
+                ..USAGE
+            },
         ),
-    ];
-    for (case, number, status) in rows.into_iter() {
-        let left = Left {
-            number,
-            status,
-            ..USAGE
-        };
-        assert!(rt; ends(rt.alloc(), &WORDS, &case, &left)?, "at {status}");
-    }
-    Ok(())
-}
-
-#[test]
-fn refusals_of_the_session(rt: HostRuntime) -> Result<(), Failed> {
-    let source = Left {
-        number: 7,
-        status: concat!(
-            "osqd: status 7 SourceFault source=s\n",
-            "osqd: done 7 events=0 batches=0 acknowledged=0 next=0 linkfaults=0\n"
-        ),
-        ..USAGE
-    };
-    let seal = Left {
-        number: 4,
-        status: concat!(
-            "osqd: status 4 KeeperFault\n",
-            "osqd: done 4 events=0 batches=0 acknowledged=0 next=0 linkfaults=0\n"
-        ),
-        ..USAGE
-    };
-    let rows = [
         (
-            Case {
-                start: 253_402_300_800,
+            Run {
+                words: &["replay", "--config", "d", "--host", "h1", "--changes", "s"],
+                ..PLAIN
+            },
+            Left {
+                number: 2,
+                status: "osqd: status 2 ConfigRefused kind=Missing key=\n",
+                ..USAGE
+            },
+        ),
+        (
+            Run {
+                config: "",
+                ..PLAIN
+            },
+            Left {
+                number: 2,
+                status: "osqd: status 2 ConfigRefused kind=NotJson key=\n",
+                ..USAGE
+            },
+        ),
+        (
+            Run { keeper: 1, ..PLAIN },
+            Left {
+                number: 4,
+                status: "osqd: status 4 KeeperFault\n",
+                ..USAGE
+            },
+        ),
+        (
+            Run {
+                start: 253402300800,
                 ..PLAIN
             },
             Left {
                 number: 9,
-                status: concat!(
-                    "osqd: status 9 MomentTooLarge moment=253402300800\n",
-                    "osqd: done 9 events=0 batches=0 acknowledged=0 next=0 linkfaults=0\n"
-                ),
+                status: "osqd: status 9 MomentTooLarge moment=253402300800\nosqd: done 9 events=0 batches=0 acknowledged=0 next=0 linkfaults=0\n",
                 ..USAGE
             },
         ),
-        (Case { source: 1, ..PLAIN }, source),
-        (Case { source: 2, ..PLAIN }, source),
-        (Case { keeper: 2, ..PLAIN }, seal),
         (
-            Case {
-                keeper: 2,
-                is_whole: true,
+            Run {
+                sources: &[(LINE_A, 1)],
                 ..PLAIN
             },
             Left {
-                kept: &KEPT,
-                ..seal
+                number: 7,
+                status: "osqd: status 7 SourceFault source=s\nosqd: done 7 events=0 batches=0 acknowledged=0 next=0 linkfaults=0\n",
+                ..USAGE
+            },
+        ),
+        (
+            Run {
+                sources: &[(LINE_A, 2)],
+                ..PLAIN
+            },
+            Left {
+                number: 7,
+                status: "osqd: status 7 SourceFault source=s\nosqd: done 7 events=0 batches=0 acknowledged=0 next=0 linkfaults=0\n",
+                ..USAGE
+            },
+        ),
+        (
+            Run {
+                words: &[
+                    "replay",
+                    "--config",
+                    "c",
+                    "--host",
+                    "h1",
+                    "--start",
+                    "1000",
+                    "--ticks",
+                    "1",
+                    "--changes",
+                    "s",
+                    "--changes",
+                    "r",
+                ],
+                sources: &[(LINE_A, 0), (LINE_B, 1)],
+                ..PLAIN
+            },
+            Left {
+                number: 7,
+                status: "osqd: status 7 SourceFault source=r\nosqd: done 7 events=0 batches=0 acknowledged=0 next=0 linkfaults=0\n",
+                ..USAGE
+            },
+        ),
+        (
+            Run {
+                words: TWICE,
+                start: 253402300790,
+                ..PLAIN
+            },
+            Left {
+                number: 9,
+                kept: &[
+                    "opened 1",
+                    "configured at 253402300790: fe/60",
+                    "ticked at 253402300790",
+                    "appended 46 of s, skipped 0, at 253402300790: 2[ '/etc/a' 'etc' 'CREATED' - - - - - - 1 ]",
+                    "committed 1 of fe, slice (0,1], cut 4, at 253402300790: [ '/etc/a' 'CREATED' ]",
+                ],
+                results: "{\"name\":\"fe\",\"hostIdentifier\":\"h1\",\"calendarTime\":\"Fri Dec 31 23:59:50 9999 UTC\",\"unixTime\":253402300790,\"batch\":1,\"action\":\"added\",\"columns\":{\"target_path\":\"/etc/a\",\"action\":\"CREATED\"}}\n",
+                status: "osqd: status 9 MomentTooLarge moment=253402300850\nosqd: done 9 events=1 batches=1 acknowledged=0 next=1 linkfaults=0\n",
+            },
+        ),
+        (
+            Run {
+                results: 1,
+                ..PLAIN
+            },
+            Left {
+                number: 8,
+                status: "osqd: status 8 SinkFault\nosqd: done 8 events=1 batches=1 acknowledged=0 next=1 linkfaults=0\n",
+                kept: &[
+                    "opened 1",
+                    "configured at 1000: fe/60",
+                    "ticked at 1000",
+                    "appended 46 of s, skipped 0, at 1000: 2[ '/etc/a' 'etc' 'CREATED' - - - - - - 1 ]",
+                    "committed 1 of fe, slice (0,1], cut 4, at 1000: [ '/etc/a' 'CREATED' ]",
+                ],
+                ..USAGE
+            },
+        ),
+        (
+            Run { status: 1, ..PLAIN },
+            Left {
+                number: 8,
+                status: "",
+                kept: &[
+                    "opened 1",
+                    "configured at 1000: fe/60",
+                    "ticked at 1000",
+                    "appended 46 of s, skipped 0, at 1000: 2[ '/etc/a' 'etc' 'CREATED' - - - - - - 1 ]",
+                    "committed 1 of fe, slice (0,1], cut 4, at 1000: [ '/etc/a' 'CREATED' ]",
+                ],
+                results: RESULT_A,
+                ..USAGE
+            },
+        ),
+        (
+            Run {
+                config: "{\"packs\":{\"m\":\"m.json\"}}",
+                ..PLAIN
+            },
+            Left {
+                number: 0,
+                kept: &[
+                    "opened 1",
+                    "configured at 1000:",
+                    "ticked at 1000",
+                    "appended 46 of s, skipped 0, at 1000:",
+                ],
+                results: "",
+                status: "osqd: pack m left out: NotJson\nosqd: done 0 events=0 batches=0 acknowledged=0 next=0 linkfaults=0\n",
+            },
+        ),
+        (
+            Run {
+                config: "{\"packs\":{\"m\":\"m.json\"}}",
+                status: 1,
+                ..PLAIN
+            },
+            Left {
+                number: 8,
+                status: "",
+                ..USAGE
             },
         ),
     ];
-    for (case, left) in rows.into_iter() {
-        let number = left.number;
-        assert!(rt; ends(rt.alloc(), &WORDS, &case, &left)?, "at {number}");
+    for (run, left) in rows.into_iter() {
+        let status = left.status;
+        assert!(rt;
+            leaves(alloc, &mut outside(alloc), &run, &left)?,
+            "at {status}"
+        );
     }
     Ok(())
 }
 
+/// A kept list that no session leaves.
 #[test]
-fn sinks_that_fail(rt: HostRuntime) -> Result<(), Failed> {
-    let rows = [
-        (
-            Case {
-                results: 1,
-                ..PLAIN
-            },
-            "",
-            concat!(
-                "osqd: status 8 SinkFault\n",
-                "osqd: done 8 events=1 batches=1 acknowledged=0 next=1 linkfaults=0\n"
-            ),
-        ),
-        (Case { status: 1, ..PLAIN }, RESULT, ""),
-    ];
-    for (case, results, status) in rows.into_iter() {
-        let left = Left {
-            number: 8,
-            results,
-            status,
-            ..DONE
-        };
-        assert!(rt; ends(rt.alloc(), &WORDS, &case, &left)?, "at {status}");
-    }
+fn a_list_from_elsewhere(rt: HostRuntime) -> Result<(), Failed> {
+    let alloc = rt.alloc();
+    let mut entries = EntryList::new(alloc);
+    entries.push(Entry::Acked { upto: 5 })?;
+    let mut outside = outside(alloc);
+    outside.keeper = MemoryKeeper::new(entries, FailList::new(alloc), false);
+    let left = Left {
+        number: 5,
+        status: "osqd: status 5 KeeperRefused\n",
+        ..USAGE
+    };
+    assert!(rt; leaves(alloc, &mut outside, &PLAIN, &left)?);
     Ok(())
 }
 
@@ -643,7 +1782,7 @@ fn sinks_that_fail(rt: HostRuntime) -> Result<(), Failed> {
 fn lines(alloc: Global, count: u64) -> Result<String, NoMemory> {
     let mut text = String::new(alloc);
     for _ in 0..count {
-        text.push_str(LINE)?;
+        text.push_str(LINE_A)?;
     }
     Ok(text)
 }
@@ -652,27 +1791,30 @@ fn lines(alloc: Global, count: u64) -> Result<String, NoMemory> {
 fn a_source_longer_than_a_step(rt: HostRuntime) -> Result<(), Failed> {
     let alloc = rt.alloc();
     let text = lines(alloc, 10_001)?;
-    let mut outside = outside(
-        alloc,
-        &Case {
-            text: text.as_str(),
-            ..PLAIN
-        },
-    )?;
-    let status = run_plain(alloc, &WORDS, &mut outside);
-    assert_eq!(rt; status.number(), 11);
-    let restored = match outside.keeper.load(alloc) {
-        Ok(restored) => restored,
-        Err(_) => panic!(rt; "the keeper refused"),
+    let run = Run {
+        sources: &[(text.as_str(), 0)],
+        ..PLAIN
     };
-    assert_eq!(rt;
-        (restored.last, restored.batches, restored.position),
-        (10_000, 1, 5)
-    );
-    assert_eq!(rt; outside.results.written().len(), RESULT.len() * 10_000);
-    // A kept list that isn't empty is refused.
-    let status = run_plain(alloc, &WORDS, &mut outside);
-    assert_eq!(rt; (status.number(), outside.keeper.entries().len()), (30, 5));
+    let mut outside = outside(alloc);
+    prepare(alloc, &mut outside, &run)?;
+    let status = run_plain(alloc, run.words, &mut outside);
+    assert_eq!(rt; (status.number(), outside.keeper.entries().len()), (11, 5));
+    assert_eq!(rt; outside.results.written().len(), RESULT_A.len() * 10_000);
+    // The next session takes the last line.
+    let left = Left {
+        number: 0,
+        kept: &[
+            "opened 2",
+            "configured at 1060: fe/60",
+            "ticked at 1060",
+            "appended 460046 of s, skipped 0, at 1060: 2[ '/etc/a' 'etc' 'CREATED' - - - - - - 1 ]",
+            "committed 2 of fe, slice (10000,10001], cut 9, at 1060: [ '/etc/a' 'CREATED' ]",
+        ],
+        results: "{\"name\":\"fe\",\"hostIdentifier\":\"h1\",\"calendarTime\":\"Thu Jan 01 00:17:40 1970 UTC\",\"unixTime\":1060,\"batch\":2,\"action\":\"added\",\"columns\":{\"target_path\":\"/etc/a\",\"action\":\"CREATED\"}}\n",
+        status: "osqd: done 0 events=10001 batches=2 acknowledged=0 next=1 linkfaults=0\n",
+    };
+    let next = Run { start: 1060, ..run };
+    assert!(rt; leaves(alloc, &mut outside, &next, &left)?);
     Ok(())
 }
 
@@ -693,12 +1835,13 @@ fn long_lines(rt: HostRuntime) -> Result<(), Failed> {
     let rows = [(65_492u64, 1usize, 0u64, 65_537u64), (65_493, 0, 1, 65_538)];
     for (count, wanted_events, wanted_skipped, wanted_taken) in rows.into_iter() {
         let text = long_line(alloc, count)?;
-        let case = Case {
-            text: text.as_str(),
+        let run = Run {
+            sources: &[(text.as_str(), 0)],
             ..PLAIN
         };
-        let mut outside = outside(alloc, &case)?;
-        let status = run_plain(alloc, &WORDS, &mut outside);
+        let mut outside = outside(alloc);
+        prepare(alloc, &mut outside, &run)?;
+        let status = run_plain(alloc, run.words, &mut outside);
         assert_eq!(rt; status.number(), 0);
         match outside.keeper.entries().get(3) {
             Some(

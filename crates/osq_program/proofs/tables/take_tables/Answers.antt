@@ -1,9 +1,8 @@
 use Rattle.std.proofs.Common.{ℕ, List, map, sym, subst}
 use Rattle.publisher_core.specs.Readings.{reading_of}
 use Rattle.osq_program.specs.Tables.{HasSpentRounds, IsReadWhole, pieces_of}
-use Rattle.osq_program.proofs.Intakes.{nothing_dropped}
 use Rattle.osq_program.proofs.QueryViews.{has_tables}
-use Rattle.osq_program.proofs.Rounds.{all_good, read_whole, rounds_spent}
+use Rattle.osq_program.proofs.Rounds.{all_good, nothing_dropped, read_whole, rounds_spent}
 use Rattle.osq_program.proofs.tables.take_tables.Goals as goal
 
 pub returns-in-Ok-run_rounds-clause-tables : goal.returns-in-Ok-run_rounds-clause-tables

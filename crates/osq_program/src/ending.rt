@@ -1,0 +1,108 @@
+//! How a session ends, and what is told of it.
+
+ghost use Rattle.std.specs.Prelude.{◌≡◌, ◌≤◌, ◌<◌, ◌⊎◌, ◌++◌, ℕ, true, false, length, IfOk};
+ghost use Rattle.osq_outside.specs.Causes.{Rose};
+ghost use Rattle.osq_program.specs.Answers.{no_causes, IsCaused, IsDoneStatus, IsSpentStatus, IsUsageStatus, IsRefusal};
+ghost use Rattle.osq_program.specs.Ending.{IsAnswerTo, IsNamedAt};
+ghost use Rattle.osq_program.specs.Report.{final_line, spent_line};
+
+use crate::report::{SPENT, final_line};
+use crate::status::Status;
+use osq_outside::{Sink, write_all};
+use osq_value::{Bytes, Copied, NoMemory, Str};
+use program_words::SourceName;
+use replay_rounds::{Ended, Numbers, RunError};
+use std::alloc::Global;
+
+/// The path of the source at this place.
+fn path_at(alloc: Global, sources: &[SourceName], place: usize) -> Result<Str, NoMemory>
+    requires { place < length sources.now }
+    ensures { IfOk result (IsNamedAt sources.now place) }
+{
+    sources[place].path.copy(alloc)
+}
+
+/// The answer to a session that ended before its last tick was done. A source is named by its path.
+pub(crate) fn answer_to(alloc: Global, sources: &[SourceName], error: RunError) -> Status
+    requires fault { (place : ℕ) → error ≡ RunError.SourceFault place → place < length sources.now }
+    requires shrank { (place kept found : ℕ) → error ≡ RunError.SourceShrank place kept found → place < length sources.now }
+    ensures { IsAnswerTo sources.now error result }
+{
+    match error {
+        RunError::KeeperFault => Status::KeeperFault,
+        RunError::KeeperRefused => Status::KeeperRefused,
+        RunError::MomentTooLarge { moment } => Status::MomentTooLarge { moment },
+        RunError::SourceFault { place } => match path_at(alloc, sources, place) {
+            Ok(source) => Status::SourceFault { source },
+            Err(NoMemory) => Status::OutOfMemory,
+        },
+        RunError::SourceShrank { place, kept, found } => match path_at(alloc, sources, place) {
+            Ok(source) => Status::SourceShrank {
+                source,
+                kept,
+                found,
+            },
+            Err(NoMemory) => Status::OutOfMemory,
+        },
+        RunError::NumbersSpent => Status::NumbersSpent,
+        RunError::SinkFault => Status::SinkFault,
+        RunError::NoMemory => Status::OutOfMemory,
+    }
+}
+
+/// Writes the final line of a session that read its sources to their ends.
+fn finish_whole<O: Sink>(alloc: Global, sink: &mut O, kept: Numbers) -> Status
+    ensures done { IsDoneStatus result → O.tells → O.written sink.new ≡ O.written sink.old ++ final_line 0 kept 0 }
+    ensures spent { ¬ IsSpentStatus result }
+    ensures usage { ¬ IsUsageStatus result }
+    ensures cause { IsRefusal result → IsCaused (record no_causes { sink = Rose (O.faults sink.old) (O.faults sink.new) }) result }
+{
+    let Ok(line) = final_line(alloc, Status::Ok.number(), kept) else {
+        return Status::OutOfMemory;
+    };
+    match write_all(sink, line.as_slice()) {
+        Ok(()) => Status::Ok,
+        Err(_) => Status::SinkFault,
+    }
+}
+
+/// What the status stream has of a session that came not to the ends of its sources.
+fn spent_text(alloc: Global, kept: Numbers) -> Result<Bytes, NoMemory>
+    ensures { IfOk result (λ text. text ≡ spent_line ++ final_line 11 kept 0) }
+{
+    let line = final_line(alloc, Status::TicksSpent.number(), kept)?;
+    let mut text = Bytes::new(alloc);
+    text.extend(SPENT.as_bytes())?;
+    text.append(line)?;
+    Ok(text)
+}
+
+/// Writes the lines of such a session. A fault of the sink there changes nothing in the answer.
+fn finish_spent<O: Sink>(alloc: Global, sink: &mut O, kept: Numbers) -> Status
+    ensures spent { IsSpentStatus result → O.tells → (O.written sink.new ≡ O.written sink.old ++ (spent_line ++ final_line 11 kept 0))
+        ⊎ Rose (O.faults sink.old) (O.faults sink.new) }
+    ensures done { ¬ IsDoneStatus result }
+    ensures usage { ¬ IsUsageStatus result }
+    ensures cause { IsRefusal result → IsCaused no_causes result }
+{
+    let Ok(text) = spent_text(alloc, kept) else {
+        return Status::OutOfMemory;
+    };
+    let _written = write_all(sink, text.as_slice());
+    Status::TicksSpent
+}
+
+/// Writes the last lines of a session that did all its ticks.
+pub(crate) fn finish<O: Sink>(alloc: Global, sink: &mut O, ended: Ended) -> Status
+    ensures done { IsDoneStatus result → (ended.is_end ≡ true) × (O.tells → O.written sink.new ≡ O.written sink.old ++ final_line 0 ended.numbers 0) }
+    ensures spent { IsSpentStatus result → (ended.is_end ≡ false) × (O.tells → (O.written sink.new ≡ O.written sink.old ++ (spent_line ++ final_line 11 ended.numbers 0))
+        ⊎ Rose (O.faults sink.old) (O.faults sink.new)) }
+    ensures usage { ¬ IsUsageStatus result }
+    ensures cause { IsRefusal result → IsCaused (record no_causes { sink = Rose (O.faults sink.old) (O.faults sink.new) }) result }
+{
+    if ended.is_end {
+        finish_whole(alloc, sink, ended.numbers)
+    } else {
+        finish_spent(alloc, sink, ended.numbers)
+    }
+}
