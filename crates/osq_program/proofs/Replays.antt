@@ -16,6 +16,7 @@ use Rattle.program_words.specs.declared.source.SourceName.{SourceName}
 use Rattle.session_model.specs.Given.{Given}
 use Rattle.daemon_rounds.specs.declared.setup.Setup.{Setup}
 use Rattle.daemon_rounds.specs.declared.setup.SourceName.{SourceName as SessionSource}
+use Rattle.daemon_rounds.specs.Rounding.{FailsAt}
 use Rattle.daemon_rounds.specs.Starting as starting
 use Rattle.replay_rounds.specs.declared.running.Ended.{Ended}
 use Rattle.replay_rounds.specs.declared.running.RunError.{RunError}
@@ -155,7 +156,7 @@ pub untold : (words : ReplayWords) (told : Told) (r : Status) → r ≡ SinkFaul
 untold words told r is accepted failed kept same = unbegun words told SinkFault r is (accepted, inr failed) kept same
 
 -- what a session is given by its setup
-pub given_is : {S : Type 0} (left : S → List ℕ) (words : ReplayWords) (told : Told) (setup : Setup) (config : Config) (documents : List (List ℕ)) (notes : List ℕ) (objects : List S) → setup ≡ setup_in words
+abbrev pub given_is : {S : Type 0} (left : S → List ℕ) (words : ReplayWords) (told : Told) (setup : Setup) (config : Config) (documents : List (List ℕ)) (notes : List ℕ) (objects : List S) → setup ≡ setup_in words
     → told.all_bytes ≡ map left objects → IsConfigured told.files_tell told.file words.config config documents notes → IsGiven words told (given_of setup config documents left objects)
 given_is left words told setup config documents notes objects is bytes configured = record {
   notes = notes;
@@ -253,3 +254,6 @@ shrank_by left words told setup objects taken place kept found name is bytes tak
 -- a place that a list has is below its length
 pub is_within : {X Y : Type 0} (xs : List X) (ys : List Y) (place : ℕ) (x : X) → length xs ≡ length ys → slice_get xs place ≡ Some x → place < length ys
 is_within xs ys place x same there = subst (λ (n : ℕ). place < n) same (slice_get_within xs place x there)
+
+pub fails_there : {S : Type 0} (faults : S → ℕ) (place : ℕ) (sources objects rests : List S) → sources ≡ objects → FailsAt faults place sources rests → FailsAt faults place objects rests
+fails_there {S = S} faults place sources objects rests same fails = subst (λ (ss : List S). FailsAt faults place ss rests) same fails

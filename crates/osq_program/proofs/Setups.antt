@@ -54,7 +54,7 @@ distinct_names (source ∷ sources) own = (
 
 -- a setup that is what words ask has as many sources, no two of one name, and as many ticks
 pub setup_paired : (setup : Setup) (words : ReplayWords) (count : ℕ) → setup ≡ setup_in words → count ≡ length words.sources → count ≡ length setup.sources
-setup_paired setup words count is same = same ∙ sym (length-map source_in words.sources) ∙ sym (ap (λ (s : Setup). length s.sources) is)
+setup_paired setup words count is same = same ∙ sym (length-map words.sources source_in) ∙ sym (ap (λ (s : Setup). length s.sources) is)
 
 pub setup_distinct : (setup : Setup) (words : ReplayWords) → setup ≡ setup_in words → AllPairs (λ (a b : SourceName). a.path ≢ b.path) words.sources → IsDistinct bytes_eq (source_names setup.sources)
 setup_distinct setup words is own = subst (λ (s : Setup). IsDistinct bytes_eq (source_names s.sources)) (sym is) (distinct_names words.sources own)

@@ -20,4 +20,8 @@ mod check_tests;
 #[cfg(test)]
 mod query_tests;
 #[cfg(test)]
+mod runs;
+#[cfg(test)]
+mod session_tests;
+#[cfg(test)]
 mod tests;

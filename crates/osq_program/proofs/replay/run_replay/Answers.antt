@@ -1,6 +1,8 @@
-use Rattle.std.proofs.Common.{◌≡◌, refl, ℕ, List, ap, ◌∙◌, ◌++◌}
+use Rattle.std.proofs.Common.{refl, inl, inr, ℕ, List, ap, sym, subst, ◌∙◌, ◌++◌, map, length}
+use Rattle.program_words.specs.declared.source.SourceName.{SourceName}
+use Rattle.osq_program.specs.Ending.{IsAnswerTo}
 use Rattle.osq_program.proofs.Ended.{rose_behind}
-use Rattle.osq_program.proofs.Replays.{answered, given_is, is_within, no_memory, ran, refused_config, shrank_by, stopped, untold}
+use Rattle.osq_program.proofs.Replays.{answered, fails_there, given_is, is_within, no_memory, ran, refused_config, shrank_by, stopped, untold}
 use Rattle.osq_program.proofs.Setups.{for_ticks, setup_distinct, setup_paired, setup_ticks}
 use Rattle.osq_program.proofs.replay.run_replay.Goals as goal
 
@@ -22,7 +24,8 @@ pub run_session-requires-clause-bounded : goal.run_session-requires-clause-bound
 run_session-requires-clause-bounded g c κs within = c.in-Ok.ensures.bounded
 
 pub run_session-requires-clause-paired : goal.run_session-requires-clause-paired
-run_session-requires-clause-paired g c κs within = ?
+run_session-requires-clause-paired g c κs within =
+    setup_paired c.in-Ok-setup_of.setup c.args.words.now _ c.in-Ok-setup_of.ensures (c.as_mut_slice.ensures.len ∙ c.requires.sources)
 
 pub run_session-requires-clause-distinct : goal.run_session-requires-clause-distinct
 run_session-requires-clause-distinct g c κs within = setup_distinct c.in-Ok-setup_of.setup c.args.words.now c.in-Ok-setup_of.ensures c.requires.bounded.sources_in.own_paths
@@ -31,13 +34,45 @@ pub run_session-requires-clause-ticks : goal.run_session-requires-clause-ticks
 run_session-requires-clause-ticks g c κs within = setup_ticks c.in-Ok-setup_of.setup c.args.words.now c.in-Ok-setup_of.ensures c.requires.bounded.some_ticks
 
 pub returns-in-Ok-run_session-clause-does : goal.returns-in-Ok-run_session-clause-does
-returns-in-Ok-run_session-clause-does g c = ?
+returns-in-Ok-run_session-clause-does g c =
+    let s = c.in-Ok-run_session.ensures in
+    let left = g.S.Source.left in
+    let bytes = sym (ap (map left) c.as_mut_slice.ensures.value) in
+    let is = given_is left _ _ c.in-Ok-setup_of.setup c.in-Ok.configured.config c.in-Ok.configured.documents c.in-Ok.configured.notes _ c.in-Ok-setup_of.ensures bytes c.in-Ok.ensures.config in
+    ran _ _ _ _ is c.in-Ok-run_session.ended (for_ticks c.in-Ok-setup_of.setup c.args.words.now _ _ _ _ _ c.in-Ok-setup_of.ensures s.done) _
+    (λ tells. c.in-Ok-write_all.ensures.bytes tells ∙ ap (λ (notes : List ℕ). g.O.Sink.written c.args.outside.now.status ++ notes) c.as_slice.ensures) _
+    (rose_behind _ _ _ c.in-Ok-write_all.ensures.cause.later) c.finish.ensures.done c.finish.ensures.spent c.finish.ensures.cause s.kept s.written
 
 pub answer_to-status-requires-clause-fault : goal.answer_to-status-requires-clause-fault
-answer_to-status-requires-clause-fault g c = ?
+answer_to-status-requires-clause-fault g c = λ place is.
+    let fails = c.in-Err-run_session.ensures.fault c.in-Err-run_session.refused place refl is in
+    is_within c.as_mut_slice.result.now _ place fails.source
+    (c.as_mut_slice.ensures.len ∙ c.requires.sources ∙ sym (ap (λ (sources : List SourceName). length sources) c.as_slice-in-Err-run_session.ensures)) fails.was
 
 pub answer_to-status-requires-clause-shrank : goal.answer_to-status-requires-clause-shrank
-answer_to-status-requires-clause-shrank g c = ?
+answer_to-status-requires-clause-shrank g c = λ place kept found is.
+    let h = c.in-Err-run_session.ensures.shrank c.in-Err-run_session.refused place kept found refl is in
+    is_within c.as_mut_slice.result.now _ place h.2.source
+    (c.as_mut_slice.ensures.len ∙ c.requires.sources ∙ sym (ap (λ (sources : List SourceName). length sources) c.as_slice-in-Err-run_session.ensures)) h.2.source_there
 
 pub returns-clause-does : goal.returns-clause-does
-returns-clause-does g c = ?
+returns-clause-does g c =
+    let s = c.in-Err-run_session.ensures in
+    let r = c.in-Err-run_session.refused in
+    let left = g.S.Source.left in
+    let setup = c.in-Ok-setup_of.setup in
+    let bytes = sym (ap (map left) c.as_mut_slice.ensures.value) in
+    let is = given_is left _ _ setup c.in-Ok.configured.config c.in-Ok.configured.documents c.in-Ok.configured.notes _ c.in-Ok-setup_of.ensures bytes c.in-Ok.ensures.config in
+    let answer = subst (λ (sources : List SourceName). IsAnswerTo sources r.error c.answer_to-status.result) c.as_slice-in-Err-run_session.ensures c.answer_to-status.ensures in
+    stopped _ _ c.answer_to-status.result _ c.stop.ensures
+    (answered _ c.args.words.now.sources r.error _ answer
+    (λ e. ((_, is), s.keeper_cause r refl e))
+    (λ e. ((_, is), λ tells. (s.illegal tells r refl e, s.refused tells r refl e)))
+    (λ moment e. ((_, is), s.moment r moment refl e))
+    (λ place name e named. ((_, is), (place, named, fails_there g.S.Source.faults place _ _ _ c.as_mut_slice.ensures.value (s.fault r place refl e))))
+    (λ place kept found name e named.
+        let h = s.shrank r place kept found refl e in
+        ((_, is), shrank_by left _ _ setup _ h.0 place kept found name c.in-Ok-setup_of.ensures bytes h.1 h.2 named))
+    (λ e. (_, is))
+    (λ e. ((_, is), inl (s.sink_cause r refl e))))
+    (λ tells. inr (_, is, s.kept tells)) (λ tells. inr (_, is, s.written tells))
