@@ -1,5 +1,5 @@
 -- From what the parts of a run ensure to what `replay` does.
-use Rattle.std.proofs.Common.{◌≡◌, ◌⊎◌, inl, inr, ◌<◌, ℕ, Bool, true, false, List, [], ◌++◌, map, length, refl, sym, ap, ◌∙◌, subst, append_assoc, slice_get, Option, Some, None}
+use Rattle.std.proofs.Common.{◌≡◌, ◌⊎◌, inl, inr, ◌<◌, ℕ, Bool, true, false, List, [], ◌∷◌, ◌++◌, map, length, take, refl, sym, ap, ◌∙◌, subst, append_assoc, slice_get, arith, Option, Some, None, suc, zero}
 use Rattle.std.specs.Prelude.{option_map}
 use Rattle.std.proofs.lemmas.Option.{same_Some, slice_get-map, slice_get_within}
 use Rattle.config_files.specs.Configurations.{IsConfigured}
@@ -19,8 +19,8 @@ use Rattle.daemon_rounds.specs.declared.setup.SourceName.{SourceName as SessionS
 use Rattle.daemon_rounds.specs.Rounding.{FailsAt}
 use Rattle.daemon_rounds.specs.Starting as starting
 use Rattle.replay_rounds.specs.declared.running.Ended.{Ended}
-use Rattle.replay_rounds.specs.declared.running.RunError.{RunError}
-use Rattle.replay_rounds.specs.declared.running.RunError.TheVariants as running
+use Rattle.replay_rounds.specs.declared.refused.RunError.{RunError}
+use Rattle.replay_rounds.specs.declared.refused.RunError.TheVariants as running
 use Rattle.replay_rounds.specs.Fixed.{given_of}
 use Rattle.replay_rounds.specs.Running.{HasRun, IsKept, IsWritten}
 use Rattle.replay_rounds.specs.Sources.{sources_of}
@@ -255,5 +255,20 @@ shrank_by left words told setup objects taken place kept found name is bytes tak
 pub is_within : {X Y : Type 0} (xs : List X) (ys : List Y) (place : ℕ) (x : X) → length xs ≡ length ys → slice_get xs place ≡ Some x → place < length ys
 is_within xs ys place x same there = subst (λ (n : ℕ). place < n) same (slice_get_within xs place x there)
 
-pub fails_there : {S : Type 0} (faults : S → ℕ) (place : ℕ) (sources objects rests : List S) → sources ≡ objects → FailsAt faults place sources rests → FailsAt faults place objects rests
-fails_there {S = S} faults place sources objects rests same fails = subst (λ (ss : List S). FailsAt faults place ss rests) same fails
+-- what stands at a place of a list stands there of the list with more behind it, as far as that is taken
+still_there : {X : Type 0} (xs others : List X) (count place : ℕ) (x : X) → slice_get xs place ≡ Some x → place < count → slice_get (take count (xs ++ others)) place ≡ Some x
+still_there [] others count place x there below = absurd cc
+still_there (y ∷ xs) others zero place x there below = absurd (omega (arith, below))
+still_there (y ∷ xs) others (suc count) zero x there below = there
+still_there (y ∷ xs) others (suc count) (suc place) x there below = still_there xs others count place x there (omega (arith, below))
+
+-- a source that failed among the slice of all of them
+pub fails_there : {S : Type 0} (faults : S → ℕ) (place count : ℕ) (sources objects rests others : List S) → sources ≡ objects → length sources ≡ count → FailsAt faults place sources rests
+    → FailsAt faults place objects (take count (rests ++ others))
+fails_there {S = S} faults place count sources objects rests others same long fails = record {
+  source = fails.source;
+  rest = fails.rest;
+  was = ap (λ (ss : List S). slice_get ss place) (sym same) ∙ fails.was;
+  is = still_there rests others count place fails.rest fails.is (let below = slice_get_within sources place fails.source fails.was in omega (arith, below, long));
+  rose = fails.rose;
+}

@@ -1,8 +1,8 @@
 -- How a session that ended before its last tick was done is answered.
 use Rattle.std.specs.Prelude.{◌≡◌, ◌⊎◌, ℕ, List, Some, slice_get}
 use Rattle.program_words.specs.declared.source.SourceName.{SourceName}
-use Rattle.replay_rounds.specs.declared.running.RunError.{RunError}
-use Rattle.replay_rounds.specs.declared.running.RunError.TheVariants as running
+use Rattle.replay_rounds.specs.declared.refused.RunError.{RunError}
+use Rattle.replay_rounds.specs.declared.refused.RunError.TheVariants as running
 use Rattle.osq_program.specs.declared.status.Status.{Status}
 use Rattle.osq_program.specs.declared.status.Status.TheVariants.{KeeperFault, KeeperRefused, MomentTooLarge, SourceFault, SourceShrank, NumbersSpent, SinkFault, OutOfMemory}
 

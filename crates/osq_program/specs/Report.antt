@@ -1,7 +1,7 @@
 -- The lines of the status stream that clauses speak of.
 use Rattle.std.specs.Prelude.{ℕ, ◌+◌, nat_lt, if◌then◌else◌, List, ◌++◌, codes}
 use Rattle.std.specs.Fmt.{decimal}
-use Rattle.replay_rounds.specs.declared.running.Numbers.{Numbers}
+use Rattle.replay_rounds.specs.declared.refused.Numbers.{Numbers}
 
 abbrev pub usage_text : List ℕ
 usage_text = codes "usage: osqd COMMAND [OPTIONS]\n"

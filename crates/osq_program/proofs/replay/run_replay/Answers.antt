@@ -69,10 +69,10 @@ returns-clause-does g c =
     (λ e. ((_, is), s.keeper_cause r refl e))
     (λ e. ((_, is), λ tells. (s.illegal tells r refl e, s.refused tells r refl e)))
     (λ moment e. ((_, is), s.moment r moment refl e))
-    (λ place name e named. ((_, is), (place, named, fails_there g.S.Source.faults place _ _ _ c.as_mut_slice.ensures.value (s.fault r place refl e))))
+    (λ place name e named. ((_, is), (place, named, fails_there g.S.Source.faults place _ _ _ _ _ c.as_mut_slice.ensures.value c.as_mut_slice.ensures.len (s.fault r place refl e))))
     (λ place kept found name e named.
-        let h = s.shrank r place kept found refl e in
-        ((_, is), shrank_by left _ _ setup _ h.0 place kept found name c.in-Ok-setup_of.ensures bytes h.1 h.2 named))
+    let h = s.shrank r place kept found refl e in
+    ((_, is), shrank_by left _ _ setup _ h.0 place kept found name c.in-Ok-setup_of.ensures bytes h.1 h.2 named))
     (λ e. (_, is))
     (λ e. ((_, is), inl (s.sink_cause r refl e))))
     (λ tells. inr (_, is, s.kept tells)) (λ tells. inr (_, is, s.written tells))
