@@ -1,5 +1,5 @@
 -- From what the parts of a check ensure to what `check` does.
-use Rattle.std.proofs.Common.{◌≡◌, ◌⊎◌, inl, inr, ◌<◌, ℕ, ◌+◌, length, get_or, List, [], ◌∷◌, ◌++◌, take, sym, ap, ◌∙◌, subst, append-nil, append_assoc}
+use Rattle.std.proofs.Common.{◌≡◌, ◌⊎◌, ◌<◌, ℕ, ◌+◌, length, get_or, List, [], ◌∷◌, ◌++◌, take, sym, ap, ◌∙◌, subst, append-nil, append_assoc}
 use Rattle.std.proofs.lemmas.List.{take_more}
 use Rattle.osq_config.specs.declared.error.ConfigError.{ConfigError}
 use Rattle.pack_rules.specs.declared.schedule.Scheduled.{Scheduled}

@@ -1,11 +1,9 @@
 -- From what the parts of a run ensure to what `replay` does.
-use Rattle.std.proofs.Common.{◌≡◌, ◌⊎◌, inl, inr, ◌<◌, ℕ, Bool, true, false, List, [], ◌∷◌, ◌++◌, map, length, take, refl, sym, ap, ◌∙◌, subst, append_assoc, slice_get, arith, Option, Some, None, suc, zero}
+use Rattle.std.proofs.Common.{◌≡◌, ◌⊎◌, inl, inr, ◌<◌, ℕ, Bool, true, false, List, [], ◌∷◌, ◌++◌, map, length, take, refl, sym, ap, ◌∙◌, subst, append_assoc, slice_get, arith, Some, suc, zero}
 use Rattle.std.specs.Prelude.{option_map}
 use Rattle.std.proofs.lemmas.Option.{same_Some, slice_get-map, slice_get_within}
 use Rattle.config_files.specs.Configurations.{IsConfigured}
 use Rattle.osq_config.specs.declared.config.Config.{Config}
-use Rattle.osq_outside.specs.Causes.{Rose}
-use Rattle.entry_model.specs.declared.entry.Entry.{Entry}
 use Rattle.entry_model.specs.declared.restored.Taken.{Taken}
 use Rattle.entry_model.specs.Next.{offset_at}
 use Rattle.entry_model.specs.Summary.{summary}
@@ -28,8 +26,8 @@ use Rattle.osq_program.specs.declared.status.Status.{Status}
 use Rattle.osq_program.specs.declared.status.Status.TheVariants.{Ok as Done, Usage, FilesFault, ConfigRefused, KeeperFault, KeeperRefused, MomentTooLarge, SourceFault, SourceShrank, NumbersSpent, SinkFault, TicksSpent, QueryRefused, OutOfMemory, NotBuilt}
 use Rattle.osq_program.specs.Answers.{Causes, IsCaused, IsDoneStatus, IsSpentStatus, IsUsageStatus, IsRefusal, no_causes}
 use Rattle.osq_program.specs.Checking.{IsRefusedFor}
-use Rattle.osq_program.specs.Ending.{IsAnswerTo, IsNamedAt, NamesSource}
-use Rattle.osq_program.specs.Replaying.{HasFailed, HasShrunk, IsAccepted, IsGiven, IsReplay, IsTooLate, IsUnfit, Ran, causes_of, fixed}
+use Rattle.osq_program.specs.Ending.{IsAnswerTo, IsNamedAt}
+use Rattle.osq_program.specs.Replaying.{HasShrunk, IsAccepted, IsGiven, IsReplay, Ran, causes_of, fixed}
 use Rattle.osq_program.specs.Report.{final_line, spent_line}
 use Rattle.osq_program.specs.Setups.{setup_in, source_in, sources_named}
 use Rattle.osq_program.specs.Told.{Told}
