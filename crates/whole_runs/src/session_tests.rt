@@ -796,7 +796,7 @@ const TABLES_AT_THE_CUT: Story<'static> = &[(
         ..PLAIN
     },
     Left {
-        number: 0,
+        number: 11,
         kept: &[
             "opened 1",
             "set 3 by 67 of t: [ 0 0 'root' - - - ]",

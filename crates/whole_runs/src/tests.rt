@@ -149,20 +149,20 @@ fn refusals(rt: HostRuntime) -> Result<(), Failed> {
         (
             Run {
                 words: TWICE,
-                start: 253_402_300_790,
+                step: 253_402_299_800,
                 ..PLAIN
             },
             Left {
                 number: 9,
                 kept: &[
                     "opened 1",
-                    "configured at 253402300790: fe/60",
-                    "ticked at 253402300790",
-                    "appended 46 of s, skipped 0, at 253402300790: 2[ '/etc/a' 'etc' 'CREATED' - - - - - - 1 ]",
-                    "committed 1 of fe, slice (0,1], cut 4, at 253402300790: [ '/etc/a' 'CREATED' ]",
+                    "configured at 1000: fe/60",
+                    "ticked at 1000",
+                    "appended 46 of s, skipped 0, at 1000: 2[ '/etc/a' 'etc' 'CREATED' - - - - - - 1 ]",
+                    "committed 1 of fe, slice (0,1], cut 4, at 1000: [ '/etc/a' 'CREATED' ]",
                 ],
-                results: "{\"name\":\"fe\",\"hostIdentifier\":\"h1\",\"calendarTime\":\"Fri Dec 31 23:59:50 9999 UTC\",\"unixTime\":253402300790,\"batch\":1,\"action\":\"added\",\"columns\":{\"target_path\":\"/etc/a\",\"action\":\"CREATED\"}}\n",
-                status: "osqd: status 9 MomentTooLarge moment=253402300850\nosqd: done 9 events=1 batches=1 acknowledged=0 next=1 linkfaults=0\n",
+                results: RESULT_A,
+                status: "osqd: status 9 MomentTooLarge moment=253402300800\nosqd: done 9 events=1 batches=1 acknowledged=0 next=1 linkfaults=0\n",
             },
         ),
         (
