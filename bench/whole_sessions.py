@@ -82,7 +82,7 @@ def spent(words: list[str], **given) -> tuple[float, int, int, bytes]:
 def by_sqlite(folder: pathlib.Path) -> tuple[float, int] | None:
     if not shutil.which("sqlite3"):
         return None
-    script = [".mode ascii", '.separator "\\x01" "\\n"', "CREATE TABLE changes (line TEXT);", "CREATE TABLE processes (line TEXT);"]
+    script = [".mode list", '.separator "\\t" "\\n"', "CREATE TABLE changes (line TEXT);", "CREATE TABLE processes (line TEXT);"]
     script += [f".import {folder}/changes changes", f".import {folder}/processes processes", ".output /dev/null"]
     for table, texts, keys in (("file_events", CHANGE_QUERIES, CHANGE_KEYS), ("process_events", PROCESS_QUERIES, PROCESS_KEYS)):
         source = "changes" if table == "file_events" else "processes"
