@@ -93,7 +93,7 @@ fn one_line(alloc: Global) -> Result<EntryList, NoMemory> {
 
 /// The answer at the moment 1000; want of memory stands for every refusal.
 fn answer(alloc: Global, question: &Question, kept: EntryList) -> Result<Asked, NoMemory>
-    requires { is_accepted question.now.text ≡ true }
+    requires { is_accepted question.now.text.now ≡ true }
 {
     let names = names(alloc, question.kind)?;
     let paths = paths(alloc)?;
