@@ -1,4 +1,4 @@
-//! Whole runs over the forms in memory: a crate of tests, so that the crates below stay quick to check.
+//! Whole sessions over the forms in memory, and what every command refuses: a crate of tests, so that the crates below stay quick to check.
 #![tactic(auto)]
 
 use batch_keeper::MemoryKeeper;
@@ -15,10 +15,6 @@ pub type Memory = Outside<
     MemoryLink,
 >;
 
-#[cfg(test)]
-mod check_tests;
-#[cfg(test)]
-mod query_tests;
 #[cfg(test)]
 mod runs;
 #[cfg(test)]
