@@ -1018,26 +1018,98 @@ const THREE_OF_ONE_KIND: Story<'static> = &[(
 )];
 
 #[test]
-fn sessions(rt: HostRuntime) -> Result<(), Failed> {
+fn sessions_over_what_was_kept(rt: HostRuntime) -> Result<(), Failed> {
     let rows = [
         ("nothing_asked", NOTHING_ASKED),
         ("grown_source", GROWN_SOURCE),
         ("shrunk_source", SHRUNK_SOURCE),
         ("most_events", MOST_EVENTS),
+    ];
+    for (name, story) in rows.into_iter() {
+        if let Some(at) = first_wrong(rt.alloc(), story)? {
+            panic!(rt; "in {name}, at {at}");
+        }
+    }
+    Ok(())
+}
+
+#[test]
+fn sessions_that_let_events_go(rt: HostRuntime) -> Result<(), Failed> {
+    let rows = [
         ("young_event", YOUNG_EVENT),
         ("old_event", OLD_EVENT),
         ("older_event", OLDER_EVENT),
+    ];
+    for (name, story) in rows.into_iter() {
+        if let Some(at) = first_wrong(rt.alloc(), story)? {
+            panic!(rt; "in {name}, at {at}");
+        }
+    }
+    Ok(())
+}
+
+#[test]
+fn sessions_of_changed_configurations(rt: HostRuntime) -> Result<(), Failed> {
+    let rows = [
         ("other_text", OTHER_TEXT),
         ("query_comes_back", QUERY_COMES_BACK),
         ("program_started", PROGRAM_STARTED),
+    ];
+    for (name, story) in rows.into_iter() {
+        if let Some(at) = first_wrong(rt.alloc(), story)? {
+            panic!(rt; "in {name}, at {at}");
+        }
+    }
+    Ok(())
+}
+
+#[test]
+fn sessions_over_tables(rt: HostRuntime) -> Result<(), Failed> {
+    let rows = [
         ("snapshot", SNAPSHOT),
         ("tables_at_the_cut", TABLES_AT_THE_CUT),
+    ];
+    for (name, story) in rows.into_iter() {
+        if let Some(at) = first_wrong(rt.alloc(), story)? {
+            panic!(rt; "in {name}, at {at}");
+        }
+    }
+    Ok(())
+}
+
+#[test]
+fn sessions_of_packs_that_are_found(rt: HostRuntime) -> Result<(), Failed> {
+    let rows = [
         ("nobody_found", NOBODY_FOUND),
         ("asked_after_an_hour", ASKED_AFTER_AN_HOUR),
         ("not_asked_before", NOT_ASKED_BEFORE),
+    ];
+    for (name, story) in rows.into_iter() {
+        if let Some(at) = first_wrong(rt.alloc(), story)? {
+            panic!(rt; "in {name}, at {at}");
+        }
+    }
+    Ok(())
+}
+
+#[test]
+fn sessions_of_steps(rt: HostRuntime) -> Result<(), Failed> {
+    let rows = [
         ("two_full_steps", TWO_FULL_STEPS),
         ("four_steps", FOUR_STEPS),
         ("no_change_line", NO_CHANGE_LINE),
+    ];
+    for (name, story) in rows.into_iter() {
+        if let Some(at) = first_wrong(rt.alloc(), story)? {
+            panic!(rt; "in {name}, at {at}");
+        }
+    }
+    Ok(())
+}
+
+#[test]
+fn sessions_over_many_sources(rt: HostRuntime) -> Result<(), Failed> {
+    let rows = [
         ("two_of_each_kind", TWO_OF_EACH_KIND),
         ("three_of_one_kind", THREE_OF_ONE_KIND),
     ];
@@ -1050,14 +1122,50 @@ fn sessions(rt: HostRuntime) -> Result<(), Failed> {
 }
 
 #[test]
-fn sessions_that_are_restarted(rt: HostRuntime) -> Result<(), Failed> {
+fn sessions_whose_seal_fails(rt: HostRuntime) -> Result<(), Failed> {
     let rows = [
         ("sealed_not_at_all", SEALED_NOT_AT_ALL),
         ("sealed_whole", SEALED_WHOLE),
+    ];
+    for (name, story) in rows.into_iter() {
+        if let Some(at) = first_wrong(rt.alloc(), story)? {
+            panic!(rt; "in {name}, at {at}");
+        }
+    }
+    Ok(())
+}
+
+#[test]
+fn sessions_without_their_first_seal(rt: HostRuntime) -> Result<(), Failed> {
+    let rows = [
         ("first_seal_lost", FIRST_SEAL_LOST),
         ("first_seal_whole", FIRST_SEAL_WHOLE),
+    ];
+    for (name, story) in rows.into_iter() {
+        if let Some(at) = first_wrong(rt.alloc(), story)? {
+            panic!(rt; "in {name}, at {at}");
+        }
+    }
+    Ok(())
+}
+
+#[test]
+fn sessions_without_their_second_seal(rt: HostRuntime) -> Result<(), Failed> {
+    let rows = [
         ("second_seal_lost", SECOND_SEAL_LOST),
         ("second_seal_whole", SECOND_SEAL_WHOLE),
+    ];
+    for (name, story) in rows.into_iter() {
+        if let Some(at) = first_wrong(rt.alloc(), story)? {
+            panic!(rt; "in {name}, at {at}");
+        }
+    }
+    Ok(())
+}
+
+#[test]
+fn sessions_without_their_third_seal(rt: HostRuntime) -> Result<(), Failed> {
+    let rows = [
         ("third_seal_lost", THIRD_SEAL_LOST),
         ("third_seal_whole", THIRD_SEAL_WHOLE),
     ];
