@@ -19,5 +19,3 @@ pub type Memory = Outside<
 mod runs;
 #[cfg(test)]
 mod session_tests;
-#[cfg(test)]
-mod tests;
