@@ -1,13 +1,14 @@
 -- The batches of a tick, one after another.
-use Rattle.std.proofs.Common.{◌≡◌, ℕ, ◌+◌, List, [], ◌∷◌, ◌++◌, length, None, refl, sym, ap, ◌∙◌, subst, arith}
+use Rattle.std.proofs.Common.{◌≡◌, ℕ, ◌+◌, ◌<◌, List, [], ◌∷◌, ◌++◌, length, Some, None, refl, sym, ap, ◌∙◌, subst, arith}
+use Rattle.std.specs.Prelude.{◌^◌}
 use Rattle.std.proofs.lemmas.List.{append-nil, map-append}
 use Rattle.entry_model.specs.declared.entry.Batch.{Batch}
 use Rattle.entry_model.specs.declared.entry.Entry.{Entry}
 use Rattle.entry_model.specs.declared.entry.Entry.TheVariants.{Committed}
-use Rattle.session_state.specs.Kept.{Counts, Kept, counts_next}
+use Rattle.session_state.specs.Kept.{Counts, IsState, Kept, counts_next}
 use Rattle.session_state.specs.Ticks.{first_due}
-use Rattle.daemon_rounds.specs.Adding.{Brings, counts_after}
-use Rattle.daemon_rounds.specs.Answering.{AnswersDue, AnswersEach, AnswersFirst, AreOwn, IsTellable, committed_all}
+use Rattle.daemon_rounds.specs.Adding.{AreFree, Brings, counts_after}
+use Rattle.daemon_rounds.specs.Answering.{AnswersDue, AnswersEach, AnswersFirst, AreOwn, IsTellable, SpendsBatches, committed_all}
 use Rattle.daemon_rounds.proofs.Adding.{brings_same, brings_then}
 
 count-after : (c : Counts) (batches : List Batch) → (counts_after c (committed_all batches)).position ≡ c.position + length batches
@@ -53,6 +54,19 @@ all_answered s t u so none last = record {
   each = up_to_all s t u so.batches so.each last;
   own = so.own;
   none = none;
+}
+
+-- no number is left for the batch of a query that is due
+pub none_left : (s t : Kept) → AreAnswered s t → IsState t → (AreFree t.claims → (place : ℕ) × (first_due t ≡ Some place)) → 2 ^ 62 < t.counts.batches + 1 → SpendsBatches s
+none_left s t so is due beyond = record {
+  batches = so.batches;
+  between = t;
+  brings = so.brings;
+  each = up_to_all s t t so.batches so.each (brings_same t);
+  own = so.own;
+  is = is;
+  due = due;
+  beyond = beyond;
 }
 
 -- one batch more is answered

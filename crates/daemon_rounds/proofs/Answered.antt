@@ -113,6 +113,12 @@ module _ (s : Kept) (is : IsState s) (cut : CutValue) (g : IsGiven s cut) (t : K
       by_bound false e k =
           absurd (let found : None ≡ Some refusal = sym (ap (λ (b : Bool). cond b (Some (NumbersSpent cut)) None) e) ∙ k in cc)
 
+  pub still_due : AreFree s.claims → (place : ℕ) × (first_due s ≡ Some place)
+  still_due free = (g.place, sym (next_is s is free) ∙ g.next)
+
+  pub spent : (refusal : CommitRefusal) → commit_refusal t cut ≡ Some refusal → 2 ^ 62 < s.counts.batches + 1
+  spent refusal h = subst (λ (c : Counts). 2 ^ 62 < c.batches + 1) like.counts (only_spent refusal h).1
+
   module _ (rows : List (List Value)) (new : Kept) (c : Commits t cut rows new) (cuts : (base : Restored) (added : List Entry) → Stands base added s → CutStands base added cut) where
     abbrev batch : Batch
     batch = batch_of cut (t.counts.batches + 1) rows

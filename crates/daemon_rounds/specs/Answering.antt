@@ -1,5 +1,5 @@
 -- The batches of a tick.
-use Rattle.std.specs.Prelude.{◌≡◌, ℕ, ◌+◌, ◌≤◌, true, List, [], ◌∷◌, map, Some, None, slice_get}
+use Rattle.std.specs.Prelude.{◌≡◌, ℕ, ◌+◌, ◌<◌, ◌≤◌, ◌^◌, true, List, [], ◌∷◌, map, Some, None, slice_get}
 use Rattle.sql_meaning.specs.Meaning.{is_accepted}
 use Rattle.entry_model.specs.declared.entry.Batch.{Batch}
 use Rattle.entry_model.specs.declared.entry.Entry.{Entry}
@@ -40,3 +40,14 @@ pub record AnswersDue (old new : Kept) : Type 0 where
   pub each : AnswersEach old batches new
   pub own : AreOwn old.counts.position batches
   pub none : first_due new ≡ None
+
+-- some queries have their batches, in order; one is due behind them, where no query was claimed; and its batch's number would pass 2^62
+pub record SpendsBatches (old : Kept) : Type 0 where
+  pub batches : List Batch
+  pub between : Kept
+  pub brings : Brings old (committed_all batches) between
+  pub each : AnswersEach old batches between
+  pub own : AreOwn old.counts.position batches
+  pub is : IsState between
+  pub due : AreFree between.claims → (place : ℕ) × (first_due between ≡ Some place)
+  pub beyond : 2 ^ 62 < between.counts.batches + 1

@@ -1,14 +1,14 @@
 //! The due queries of a tick, each answered by one batch.
 
-ghost use Rattle.std.specs.Prelude.{◌<◌, ◌^◌, Err, ◌≡◌, ◌+◌, ◌≤◌, true, false, IfOk, IfSome, Ok, None, [], ◌∷◌};
+ghost use Rattle.std.specs.Prelude.{◌<◌, ◌^◌, Err, ◌≡◌, ◌+◌, ◌≤◌, ℕ, true, false, IfOk, IfSome, Ok, None, Some, [], ◌∷◌};
 ghost use Rattle.sql_meaning.specs.Meaning.{is_accepted, meaning};
 ghost use Rattle.entry_model.specs.declared.entry.Batch.{Batch};
 ghost use Rattle.entry_model.specs.declared.entry.Entry.TheVariants.{Committed};
-ghost use Rattle.session_state.specs.Kept.{due_count};
+ghost use Rattle.session_state.specs.Kept.{IsState, due_count};
 ghost use Rattle.session_state.specs.Ticks.{first_due};
-ghost use Rattle.daemon_rounds.specs.Adding.{Brings};
+ghost use Rattle.daemon_rounds.specs.Adding.{AreFree, Brings};
 ghost use Rattle.daemon_rounds.specs.declared.error.RoundError.{RoundError};
-ghost use Rattle.daemon_rounds.specs.Answering.{AnswersDue, AnswersFirst, IsTellable};
+ghost use Rattle.daemon_rounds.specs.Answering.{AnswersDue, AnswersFirst, IsTellable, SpendsBatches};
 
 use crate::error::RoundError;
 use osq_value::{NoMemory, RowList, Tables};
@@ -32,7 +32,7 @@ fn answer_next(alloc: Global, state: &mut State) -> Result<bool, RoundError>
     ensures answered { IfOk result (λ more. more ≡ true → (batch : Batch) × Brings state.old (Committed batch ∷ []) state.new × (batch.cut ≡ state.old.counts.position) × IsTellable batch × AnswersFirst state.old batch) }
     ensures fewer { IfOk result (λ more. more ≡ true → due_count state.new + 1 ≤ due_count state.old) }
     ensures none { IfOk result (λ more. more ≡ false → (first_due state.new ≡ None) × Brings state.old [] state.new) }
-    ensures spent { result ≡ Err RoundError.NumbersSpent → 2 ^ 62 < state.new.counts.batches + 1 }
+    ensures spent { result ≡ Err RoundError.NumbersSpent → IsState state.old × (AreFree state.old.claims → (place : ℕ) × (first_due state.old ≡ Some place)) × (2 ^ 62 < state.old.counts.batches + 1) }
 {
     state.is_state();
     let cut = match state.claim_cut(alloc) {
@@ -64,7 +64,7 @@ fn answer_next(alloc: Global, state: &mut State) -> Result<bool, RoundError>
 /// Answers each due query of the present tick by one batch, made from all entries before its own.
 pub fn answer_due(alloc: Global, state: &mut State) -> Result<(), RoundError>
     ensures answered { IfOk result (λ _. AnswersDue state.old state.new) }
-    ensures spent { result ≡ Err RoundError.NumbersSpent → 2 ^ 62 < state.new.counts.batches + 1 }
+    ensures spent { result ≡ Err RoundError.NumbersSpent → SpendsBatches state.old }
 {
     while answer_next(alloc, state)? {}
     Ok(())

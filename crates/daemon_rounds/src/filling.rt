@@ -36,8 +36,8 @@ fn has_discovery(config: &Config) -> bool
         .any(|pack| pack.discovery.len() > 0)
 }
 
-/// Discovery is asked again at this moment.
-fn asks_again(config: &Config, configured_at: u64, moment: u64) -> bool
+/// Discovery is asked again at this moment: some pack has discovery queries, and 3600 seconds have passed since the session was configured last.
+pub fn asks_again(config: &Config, configured_at: u64, moment: u64) -> bool
     requires { configured_at ≤ moment }
     ensures { result ≡ asks_again config.now configured_at moment }
 {

@@ -1,7 +1,8 @@
 //! The end of a tick.
 
-ghost use Rattle.std.specs.Prelude.{◌≡◌, ◌≢◌, ◌≤◌, ◌⊎◌, ◌+◌, ◌<◌, ◌^◌, Err, OnErr, IfOk};
+ghost use Rattle.std.specs.Prelude.{◌≡◌, ◌≢◌, ◌≤◌, ◌⊎◌, Err, OnErr, IfOk};
 ghost use Rattle.osq_outside.specs.Causes.{Rose};
+ghost use Rattle.daemon_rounds.specs.Answering.{SpendsBatches};
 ghost use Rattle.daemon_rounds.specs.Keeping.{Finishes, GoesOn, IsPartlyTold, IsWhole, Settles};
 ghost use Rattle.daemon_rounds.specs.Refusals.{unsealed_by};
 ghost use Rattle.daemon_rounds.specs.declared.error.FinishError.{FinishError};
@@ -23,7 +24,7 @@ use std::alloc::Global;
 /// Behind that no query is due and no floor is owed, so that the next tick may begin.
 pub fn answer_and_settle(alloc: Global, state: &mut State) -> Result<(), RoundError>
     ensures settled { IfOk result (λ _. Settles state.old state.new) }
-    ensures spent { result ≡ Err RoundError.NumbersSpent → 2 ^ 62 < state.new.counts.batches + 1 }
+    ensures spent { result ≡ Err RoundError.NumbersSpent → SpendsBatches state.old }
 {
     answer_due(alloc, state)?;
     state.is_state();
@@ -59,7 +60,7 @@ pub fn finish_tick<K: Keeper, O: Sink>(
     requires goes_on { GoesOn K.tells (K.kept keeper.old) state.old }
     requires tellable { AreTellable state.old.tail }
     ensures done { IfOk result (λ _. Finishes K.tells O.tells host.now form (K.kept keeper.old) (K.kept keeper.new) (O.written results.old) (O.written results.new) state.old state.new) }
-    ensures spent { result ≡ Err FinishError.NumbersSpent → 2 ^ 62 < state.new.counts.batches + 1 }
+    ensures spent { result ≡ Err FinishError.NumbersSpent → SpendsBatches state.old }
     ensures whole { K.tells → result ≡ Err FinishError.KeeperFault → IsWhole (K.kept keeper.old) (K.kept keeper.new) state.old }
     ensures partly { result ≡ Err FinishError.SinkFault → IsPartlyTold K.tells O.tells host.now form (K.kept keeper.old) (K.kept keeper.new) (O.written results.old) (O.written results.new) state.old }
     ensures unkept { K.tells → (result ≡ Err FinishError.NumbersSpent) ⊎ (result ≡ Err FinishError.NoMemory) → K.kept keeper.new ≡ K.kept keeper.old }

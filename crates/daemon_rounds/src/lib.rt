@@ -26,7 +26,7 @@ pub use appending::append_all;
 pub use configuration::read_configuration;
 pub use configuring::configure;
 pub use error::{FinishError, OpenError, RoundError, StartError, TakeError, TurnError};
-pub use filling::fill_tick;
+pub use filling::{asks_again, fill_tick};
 pub use finishing::{answer_and_settle, finish_tick};
 pub use moments::{MomentTooLarge, read_moment};
 pub use opening::begin_session;

@@ -1,4 +1,6 @@
-use Rattle.daemon_rounds.proofs.AllAnswered.{all_answered, one_answered}
+use Rattle.std.proofs.Common.{◌≡◌, Err, rules}
+use Rattle.daemon_rounds.specs.declared.error.RoundError.TheVariants.{NumbersSpent}
+use Rattle.daemon_rounds.proofs.AllAnswered.{all_answered, none_left, one_answered}
 use Rattle.daemon_rounds.proofs.answering.answer_due.Goals as goal
 
 pub loop-preserved : goal.loop-preserved
@@ -10,3 +12,9 @@ pub returns-clause-answered : goal.returns-clause-answered
 returns-clause-answered c =
     let last = c.in_ok-answer_next.ensures.none c.if-branch.false in
     all_answered c.args.state.now c.loop.state c.answer_next.new.state c.loop.invariant last.0 last.1
+
+pub returns-in_err-answer_next-clause-spent : goal.returns-in_err-answer_next-clause-spent
+returns-in_err-answer_next-clause-spent c e =
+    let why : c.answer_next.result ≡ Err NumbersSpent = search rules in
+    let (is, due, beyond) = c.answer_next.ensures.spent why in
+    none_left c.args.state.now c.loop.state c.loop.invariant is due beyond

@@ -1,9 +1,8 @@
-use Rattle.std.proofs.Common.{◌≡◌, ◌+◌, ◌<◌, ◌^◌, Err, Ok, Some, None, refl, sym, ap, ◌∙◌, subst}
+use Rattle.std.proofs.Common.{◌+◌, Err, Ok, sym, ap, ◌∙◌}
 use Rattle.pack_rules.specs.declared.schedule.QueryKey.{QueryKey}
 use Rattle.sql_meaning.specs.Meaning.{is_accepted}
 use Rattle.session_state.specs.Cut.{batch_of}
-use Rattle.session_state.specs.Kept.{Kept}
-use Rattle.daemon_rounds.proofs.Answered.{accepted, answers_first, brings_batch, fewer, given, none_due, only_spent, own_place, stands_cut, tellable}
+use Rattle.daemon_rounds.proofs.Answered.{accepted, answers_first, brings_batch, fewer, given, none_due, only_spent, own_place, spent, stands_cut, still_due, tellable}
 use Rattle.daemon_rounds.proofs.answering.answer_next.Goals as goal
 
 pub returns-in-Ok-None-clause-none : goal.returns-in-Ok-None-clause-none
@@ -58,5 +57,6 @@ returns-in-Err-NumbersSpent-clause-spent c e =
     let cut = c.in-Ok-Some.cut in
     let g = given c.args.state.now cut (sym c.in-Ok-Some.field-0-is ∙ c.in-Ok-Some.ensures.cut) in
     let why = (c.commit.ensures.refused _).0 (c.in-Err-NumbersSpent.is ∙ ap Err c.in-Err-NumbersSpent.field-0-is) in
-    let many = (only_spent c.args.state.now c.is_state.ensures cut g c.claim_cut.new.self c.in-Ok-Some.ensures.claimed _ why).1 in
-    subst (λ (s : Kept). 2 ^ 62 < s.counts.batches + 1) (sym c.in-Err-NumbersSpent.ensures.err) many
+    let t = c.claim_cut.new.self in
+    let claimed = c.in-Ok-Some.ensures.claimed in
+    (c.is_state.ensures, still_due c.args.state.now c.is_state.ensures cut g t claimed, spent c.args.state.now c.is_state.ensures cut g t claimed _ why)
