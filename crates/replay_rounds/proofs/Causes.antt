@@ -104,6 +104,13 @@ unopened_fault (opening.SourceShrank other kept found) place h = cc
 unopened_fault opening.NumbersSpent place h = cc
 unopened_fault opening.NoMemory place h = cc
 
+pub unopened_spent : (e : OpenError) → unopened_by e ≡ run.NumbersSpent → e ≡ opening.NumbersSpent
+unopened_spent (opening.MomentTooLarge moment) h = cc
+unopened_spent (opening.SourceFault place) h = cc
+unopened_spent (opening.SourceShrank place kept found) h = cc
+unopened_spent opening.NumbersSpent h = refl
+unopened_spent opening.NoMemory h = cc
+
 pub one_moment : (a b : ℕ) → run.MomentTooLarge a ≡ run.MomentTooLarge b → a ≡ b
 one_moment a b h = cc
 

@@ -1,14 +1,10 @@
 -- A session that ran all its ticks.
-use Rattle.std.proofs.Common.{◌≡◌, ℕ, true, false, List, [], ◌∷◌, ◌++◌, length, refl, sym, ap, ◌∙◌, subst, append_assoc}
+use Rattle.std.proofs.Common.{◌≡◌, ℕ, false, List, ◌∷◌, ◌++◌, length, sym, ap, ◌∙◌, subst, append_assoc}
 use Rattle.source_feeds.specs.Feeding.{Feeding}
 use Rattle.entry_model.specs.declared.entry.Entry.{Entry}
-use Rattle.entry_model.specs.declared.restored.Restored.{Restored}
-use Rattle.entry_model.specs.Covered.{Covered}
 use Rattle.entry_model.specs.Legal.{Legal}
 use Rattle.entry_model.specs.Laws.{Coverage}
-use Rattle.entry_model.specs.Summary.{summary}
 use Rattle.std.specs.Prelude.{All}
-use Rattle.session_model.specs.Given.{Source}
 use Rattle.session_model.specs.Taking.{IsReadWhole}
 use Rattle.session_state.specs.Kept.{Counts, IsState, Kept}
 use Rattle.session_state.specs.Stands.{HasValues}
@@ -21,7 +17,7 @@ use Rattle.replay_rounds.specs.Standing.{IsReady}
 use Rattle.replay_rounds.specs.declared.refused.Numbers.{Numbers}
 use Rattle.replay_rounds.specs.declared.running.Ended.{Ended}
 use Rattle.replay_rounds.proofs.Endings.{all_present, all_whole, one_full}
-use Rattle.replay_rounds.proofs.Ran.{IsFullTick, IsRunning, all_kept, grows, values}
+use Rattle.replay_rounds.proofs.Ran.{IsRunning, all_kept, grows, values}
 
 module _ {S C : Type 0} (left : S → List ℕ) (x : Fixed) (reads : C → ℕ → C → Type 0) (clock now : C) (kept : List Entry) (written : List ℕ) (feeds : List Feeding) (objects : List S) (last : ℕ) (s : Kept) (r : IsRunning left x reads clock now kept written feeds objects last s) (is : IsState s) (ready : IsReady feeds last s) (coverage : Coverage) where
   list_is : x.keeper_tells → kept ≡ x.start ++ r.added.entries

@@ -1,5 +1,6 @@
 pub mod Again
 pub mod Answered
+pub mod Begins
 pub mod Begun
 pub mod Causes
 pub mod Done
@@ -7,12 +8,15 @@ pub mod Dues
 pub mod Endings
 pub mod Feeds
 pub mod Filled
+pub mod Grown
 pub mod Looping
 pub mod Nothing
 pub mod OpenedSession
+pub mod Overrun
 pub mod Passed
 pub mod Ran
 pub mod Sessions
+pub mod Spent
 pub mod Stepped
 pub mod Tellings
 pub mod Ticked

@@ -1,6 +1,6 @@
 -- The turns of the loop over ticks.
 use Rattle.std.proofs.Common.{◌≡◌, ℕ, ◌+◌, List, [], ◌∷◌, ◌++◌, length, refl, sym, ap, ◌∙◌, subst, arith, append_assoc, length-append, inl, inr}
-use Rattle.std.specs.Prelude.{bytes_eq, max, take}
+use Rattle.std.specs.Prelude.{bytes_eq, take}
 use Rattle.std.proofs.lemmas.List.{append-nil}
 use Rattle.osq_config.specs.declared.config.Config.{Config}
 use Rattle.config_files.specs.Configurations.{IsConfigOf}
@@ -26,10 +26,10 @@ use Rattle.daemon_rounds.proofs.Opened.{opened_goes_on}
 use Rattle.daemon_rounds.specs.declared.turning.Which.TheVariants as which
 use Rattle.replay_rounds.specs.Fixed.{Fixed, fixed_of}
 use Rattle.replay_rounds.specs.Running.{IsKept, IsWritten, ReadsAll}
-use Rattle.replay_rounds.specs.Standing.{IsReady, Standing}
+use Rattle.replay_rounds.specs.Standing.{Standing}
 use Rattle.replay_rounds.specs.Ticked.{IsPartlyTold, IsTick, IsWholeTick, TakesTick, TickDone}
 use Rattle.replay_rounds.proofs.OpenedSession.{OpensSession, opened_session}
-use Rattle.replay_rounds.proofs.Ran.{tail_own, IsAdded, IsRunning, IsToldAll, added_on, all_is_kept, all_kept, all_written, first_added, first_ran, from_opened, none_kept, none_written, partly_written, ran_on, still_kept, told_on}
+use Rattle.replay_rounds.proofs.Ran.{tail_own, IsAdded, IsRunning, added_on, all_is_kept, all_kept, all_written, first_added, first_ran, from_opened, none_kept, partly_written, ran_on, still_kept, told_on}
 use Rattle.replay_rounds.proofs.Ticked.{takes_tick}
 
 -- the counts of the sources' faults never fell in a tick

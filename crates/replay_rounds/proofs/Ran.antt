@@ -9,23 +9,20 @@ use Rattle.pack_rules.specs.declared.schedule.Form.{Form}
 use Rattle.pack_rules.specs.declared.schedule.Form.TheVariants as form
 use Rattle.pack_rules.specs.declared.schedule.Schedule.{Schedule}
 use Rattle.entry_model.specs.declared.entry.Entry.{Entry}
-use Rattle.entry_model.specs.declared.entry.Entry.TheVariants.{Opened, Ticked}
-use Rattle.entry_model.specs.declared.restored.Restored.{Restored}
+use Rattle.entry_model.specs.declared.entry.Entry.TheVariants.{Opened}
 use Rattle.entry_model.specs.Legal.{Legal}
-use Rattle.entry_model.specs.Summary.{summary}
-use Rattle.entry_model.specs.Values.{last_of, moment_of, no_schedule, schedule_in}
-use Rattle.session_model.specs.Given.{Given}
+use Rattle.entry_model.specs.Values.{moment_of, no_schedule}
 use Rattle.session_model.specs.Sessions.{IsSession, Opens}
 use Rattle.session_model.specs.Ticking.{Ticks}
 use Rattle.session_state.specs.Kept.{Counts, Kept}
-use Rattle.session_state.specs.Stands.{HasValues, Stands}
+use Rattle.session_state.specs.Stands.{HasValues}
 use Rattle.daemon_rounds.specs.Telling.{AreTold}
 use Rattle.replay_rounds.specs.Fixed.{Fixed}
-use Rattle.replay_rounds.specs.Running.{AddsAt, Grows, IsKept, IsWritten, ReadsAll}
+use Rattle.replay_rounds.specs.Running.{Grows, IsKept, IsWritten, ReadsAll}
 use Rattle.replay_rounds.specs.Sources.{AreFullOrOver}
 use Rattle.replay_rounds.specs.Standing.{Standing}
 use Rattle.replay_rounds.specs.Ticked.{TakesTick}
-use Rattle.replay_rounds.proofs.Sessions.{TicksBy, session_first, session_more}
+use Rattle.replay_rounds.proofs.Sessions.{session_first, session_more}
 use Rattle.replay_rounds.proofs.Tellings.{form_behind, form_is, told_more}
 
 pub reads_more : {C : Type 0} (reads : C → ℕ → C → Type 0) (before between after : C) (readings : List ℕ) (reading : ℕ) → ReadsAll reads before readings between → reads between reading after → ReadsAll reads before (readings ++ reading ∷ []) after

@@ -31,13 +31,13 @@ use Rattle.replay_rounds.specs.Sources.{AreFed, AreFullOrOver, IsFed, IsFull}
 use Rattle.replay_rounds.proofs.Passed.{moment_behind, other_behind, others_behind, taken_behind}
 use Rattle.replay_rounds.proofs.Feeds.{one_fed_on, others_fed_on}
 
-abbrev feeds_of : {S : Type 0} → List (Turn S) → List Feeding
+abbrev pub feeds_of : {S : Type 0} → List (Turn S) → List Feeding
 feeds_of {S} turns = map (λ (turn : Turn S). turn.feed) turns
 
 abbrev nexts_of : {S : Type 0} → List (Turn S) → List Feeding
 nexts_of {S} turns = map (λ (turn : Turn S). turn.next) turns
 
-abbrev objects_of : {S : Type 0} → List (Turn S) → List S
+abbrev pub objects_of : {S : Type 0} → List (Turn S) → List S
 objects_of {S} turns = map (λ (turn : Turn S). turn.source) turns
 
 abbrev rests_of : {S : Type 0} → List (Turn S) → List S
@@ -74,7 +74,7 @@ module _ {S : Type 0} (tells : Type 0) (left : S → List ℕ) (paths : List Cat
       ap (λ (readings : List Reading). entries_of feed.name moment readings) (step.read ∙ ap (λ (kind : SourceKind). readings_of kind step.pieces) is.kind) ∙ ap (λ (name : List ℕ). entries_of name moment (readings_of source.kind step.pieces)) is.name ∙ ap (λ (moment : ℕ). entries_of source.name moment (readings_of source.kind step.pieces)) at
 
 -- what the step took is a step of the source
-step_taken : {S : Type 0} (tells : Type 0) (left : S → List ℕ) (start now : List Entry) (given : Given) (source : Source) (feed next : Feeding) (object rest : S) (readings : List Reading) (is : IsFed tells left given.config.categories start now source feed object) (gave : Gave tells (left object) (left rest) feed next given.records readings) (moment : ℕ) → tells → moment ≡ moment_of now → TakesStep given now source (entries_of feed.name moment readings)
+pub step_taken : {S : Type 0} (tells : Type 0) (left : S → List ℕ) (start now : List Entry) (given : Given) (source : Source) (feed next : Feeding) (object rest : S) (readings : List Reading) (is : IsFed tells left given.config.categories start now source feed object) (gave : Gave tells (left object) (left rest) feed next given.records readings) (moment : ℕ) → tells → moment ≡ moment_of now → TakesStep given now source (entries_of feed.name moment readings)
 step_taken tells left start now given source feed next object rest readings is gave moment told at =
     let of_feed = step tells left given.config.categories start now source feed next object rest given.records readings is gave in
     record {
@@ -159,7 +159,7 @@ module _ {S : Type 0} (tells : Type 0) (left : S → List ℕ) (faults : S → �
   steps_full kept (source ∷ sources) (turn ∷ turns) at each are =
       (step_full tells left start kept given source turn.feed turn.next turn.source turn.rest turn.readings are.0 (All-head (IsTurn tells left faults which.Every given.records) turn turns each).plays moment told at, steps_full kept sources turns at (All-tail (IsTurn tells left faults which.Every given.records) turn turns each) are.1)
 
-every_source : (sources : List Source) → filter (λ (source : Source). takes_part which.Every source.kind) sources ≡ sources
+pub every_source : (sources : List Source) → filter (λ (source : Source). takes_part which.Every source.kind) sources ≡ sources
 every_source [] = refl
 every_source (source ∷ sources) = ap (λ (rest : List Source). source ∷ rest) (every_source sources)
 

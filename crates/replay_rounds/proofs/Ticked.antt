@@ -1,5 +1,5 @@
 -- A tick by the state is a tick by the list.
-use Rattle.std.proofs.Common.{◌≡◌, ℕ, Bool, List, [], ◌∷◌, ◌++◌, sym, ap, ◌∙◌, subst, append_assoc}
+use Rattle.std.proofs.Common.{◌≡◌, ℕ, List, ◌∷◌, ◌++◌, sym, ap, ◌∙◌, subst, append_assoc}
 use Rattle.std.specs.Prelude.{bytes_eq}
 use Rattle.osq_config.specs.declared.config.Config.{Config}
 use Rattle.pack_rules.specs.declared.host.Host.{Host}
@@ -9,15 +9,13 @@ use Rattle.entry_model.specs.declared.entry.Entry.{Entry}
 use Rattle.entry_model.specs.declared.entry.Entry.TheVariants.{Ticked}
 use Rattle.entry_model.specs.Fits.{IsDistinct}
 use Rattle.entry_model.specs.Legal.{Legal}
-use Rattle.entry_model.specs.Values.{last_of, moment_in, moment_of, schedule_in}
+use Rattle.entry_model.specs.Values.{last_of, schedule_in}
 use Rattle.entry_model.specs.Views.{due_queries}
 use Rattle.entry_model.proofs.Lasts.{last_of-append}
-use Rattle.session_model.specs.Configuring as model
 use Rattle.session_model.specs.Configuring.{configured_in}
 use Rattle.session_model.specs.Taking.{TakesSteps}
 use Rattle.session_model.specs.Ticking.{Answers, Ticks, expiries_of}
-use Rattle.session_state.specs.Kept.{Counts, Kept}
-use Rattle.session_state.specs.Stands.{HasValues}
+use Rattle.session_state.specs.Kept.{Kept}
 use Rattle.daemon_rounds.specs.Adding.{Brings}
 use Rattle.daemon_rounds.specs.Answering.{committed_all}
 use Rattle.daemon_rounds.specs.Keeping.{Settles}
@@ -30,26 +28,19 @@ use Rattle.replay_rounds.specs.Fixed.{Fixed}
 use Rattle.replay_rounds.specs.Sources.{AreFed, AreFullOrOver}
 use Rattle.replay_rounds.specs.Standing.{Standing}
 use Rattle.replay_rounds.specs.Ticked.{TakesTick, TickDone}
-use Rattle.replay_rounds.proofs.Again.{again_brings, again_configured, again_entries, again_last, again_listed, again_moment, again_nothing}
 use Rattle.replay_rounds.proofs.Answered.{answered_are, expired_are}
+use Rattle.replay_rounds.proofs.Begins.{BeginsTick, begins_tick, values_behind}
 use Rattle.replay_rounds.proofs.Feeds.{fed_on}
-use Rattle.replay_rounds.proofs.Nothing.{TakeNothing, nothing-append, nothing_behind, settled_nothing, ticked_nothing}
+use Rattle.replay_rounds.proofs.Nothing.{nothing_behind, settled_nothing}
 use Rattle.replay_rounds.proofs.Stepped.{fed_after, rounds_taken}
 use Rattle.replay_rounds.proofs.Unconfigured.{round_unconfigured, settled_unconfigured, unconfigured-append}
 use Rattle.replay_rounds.proofs.Undue.{none_between}
 
-module _ {S : Type 0} (left : S → List ℕ) (faults : S → ℕ) (x : Fixed) (added kept : List Entry) (feeds nexts : List Feeding) (objects rests : List S) (configured_at moment : ℕ) (old ticked configured filled settled : Kept) (standing : Standing left x added kept feeds objects configured_at old) (distinct : IsDistinct bytes_eq (names_of feeds)) (ticks : Brings old (Ticked moment ∷ []) ticked)
-    (again : ConfiguresAgain (asks_again x.given.config configured_at moment) x.given.config x.given.documents x.given.host moment ticked configured) (rounds : Rounds x.source_tells left faults which.Every x.given.records feeds nexts objects rests configured filled) (settles : Settles filled settled) where
-  abbrev asks : Bool
-  asks = asks_again x.given.config configured_at moment
-
-  -- the entries by which the session is configured again
-  abbrev anew : List Entry
-  anew = again_entries asks x.given.config x.given.documents x.given.host moment ticked configured again
-
+module _ {S : Type 0} (left : S → List ℕ) (faults : S → ℕ) (x : Fixed) (added kept : List Entry) (feeds nexts : List Feeding) (objects rests : List S) (configured_at moment : ℕ) (old configured filled settled : Kept) (standing : Standing left x added kept feeds objects configured_at old) (distinct : IsDistinct bytes_eq (names_of feeds))
+    (begins : BeginsTick left x added feeds objects configured_at moment old configured) (rounds : Rounds x.source_tells left faults which.Every x.given.records feeds nexts objects rests configured filled) (settles : Settles filled settled) where
   -- the tick's first entries
   abbrev begun : List Entry
-  begun = Ticked moment ∷ anew
+  begun = Ticked moment ∷ begins.anew
 
   -- those of its round
   abbrev taken : List Entry
@@ -61,12 +52,8 @@ module _ {S : Type 0} (left : S → List ℕ) (faults : S → ℕ) (x : Fixed) (
   abbrev own : List Entry
   own = begun ++ taken ++ answered ++ settles.expired
 
-  begins : Brings old begun configured
-  begins =
-      brings_then old ticked configured (Ticked moment ∷ []) anew ticks (again_brings asks x.given.config x.given.documents x.given.host moment ticked configured again)
-
   fills : Brings old (begun ++ taken) filled
-  fills = brings_then old configured filled begun taken begins rounds.brings
+  fills = brings_then old configured filled begun taken begins.brings rounds.brings
 
   answers : Brings old (begun ++ taken ++ answered) settles.between
   answers = brings_then old filled settles.between (begun ++ taken) answered fills settles.answers
@@ -79,33 +66,15 @@ module _ {S : Type 0} (left : S → List ℕ) (faults : S → ℕ) (x : Fixed) (
   own_is =
       append_assoc (begun ++ taken) answered settles.expired ∙ append_assoc begun taken (answered ++ settles.expired)
 
-  now_is : configured.counts.moment ≡ moment
-  now_is =
-      again_moment asks x.given.config x.given.documents x.given.host moment ticked configured again (ap (λ (c : Counts). c.moment) ticks.counts)
-
-  -- the round is of the tick's moment by the list too
-  at_moment : configured.counts.moment ≡ moment_of ((x.start ++ added) ++ begun)
-  at_moment =
-      now_is ∙ sym (last_of-append moment_in 0 (x.start ++ added) begun ∙ again_last asks x.given.config x.given.documents x.given.host moment ticked configured again)
-
-  begun_nothing : TakeNothing begun
-  begun_nothing =
-      nothing-append (Ticked moment ∷ []) anew (ticked_nothing moment) (again_nothing asks x.given.config x.given.documents x.given.host moment ticked configured again)
-
   -- when the session was configured last
-  own_configured : last_of configured_in configured_at own ≡ configured_last asks configured_at moment
+  own_configured : last_of configured_in configured_at own ≡ configured_last (asks_again x.given.config configured_at moment) configured_at moment
   own_configured =
-      ap (last_of configured_in configured_at) own_is ∙ last_of-append configured_in configured_at begun (taken ++ (answered ++ settles.expired)) ∙ unconfigured-append taken (answered ++ settles.expired) (round_unconfigured configured.counts.moment rounds.turns) (settled_unconfigured filled settled settles) (last_of configured_in configured_at begun)
-      ∙ again_configured asks x.given.config x.given.documents x.given.host moment ticked configured again configured_at
+      ap (last_of configured_in configured_at) own_is ∙ last_of-append configured_in configured_at begun (taken ++ (answered ++ settles.expired)) ∙ unconfigured-append taken (answered ++ settles.expired) (round_unconfigured configured.counts.moment rounds.turns) (settled_unconfigured filled settled settles) (last_of configured_in configured_at begun) ∙ begins.last
 
   module _ (tells : x.keeper_tells) where
-    fed_begun : AreFed x.source_tells left x.given.config.categories x.start ((x.start ++ added) ++ begun) x.given.sources feeds objects
-    fed_begun =
-        fed_on x.source_tells left x.given.config.categories x.start (x.start ++ added) ((x.start ++ added) ++ begun) x.given.sources feeds objects (nothing_behind (x.start ++ added) begun begun_nothing) (standing.fed tells)
-
     fed_taken : AreFed x.source_tells left x.given.config.categories x.start (((x.start ++ added) ++ begun) ++ taken) x.given.sources nexts rests
     fed_taken =
-        fed_after x.source_tells left faults x.given x.start ((x.start ++ added) ++ begun) configured.counts.moment feeds nexts objects rests rounds.turns which.Every fed_begun distinct rounds.whole rounds.each
+        fed_after x.source_tells left faults x.given x.start ((x.start ++ added) ++ begun) configured.counts.moment feeds nexts objects rests rounds.turns which.Every (begins.fed tells) distinct rounds.whole rounds.each
 
     all_is : (((x.start ++ added) ++ begun) ++ taken) ++ (answered ++ settles.expired) ≡ x.start ++ (added ++ own)
     all_is =
@@ -117,19 +86,6 @@ module _ {S : Type 0} (left : S → List ℕ) (faults : S → ℕ) (x : Fixed) (
         subst (λ (list : List Entry). AreFed x.source_tells left x.given.config.categories x.start list x.given.sources nexts rests) all_is (fed_on x.source_tells left x.given.config.categories x.start (((x.start ++ added) ++ begun) ++ taken) ((((x.start ++ added) ++ begun) ++ taken) ++ (answered ++ settles.expired)) x.given.sources nexts rests (nothing_behind (((x.start ++ added) ++ begun) ++ taken) (answered ++ settles.expired) (settled_nothing filled settled settles)) fed_taken)
 
     module _ (legal : Legal x.start) where
-      values : (es : List Entry) (s : Kept) → Brings old es s → HasValues ((x.start ++ added) ++ es) s
-      values es s more =
-          subst (λ (list : List Entry). HasValues list s) (sym (append_assoc x.start added es)) ((more.stands standing.base added standing.stands).values x.start legal (standing.same tells))
-
-      last_configured : last_of configured_in 0 (x.start ++ (added ++ Ticked moment ∷ [])) ≡ configured_at
-      last_configured =
-          last_of-append configured_in 0 x.start (added ++ Ticked moment ∷ []) ∙ last_of-append configured_in (last_of configured_in 0 x.start) added (Ticked moment ∷ []) ∙ standing.configured (last_of configured_in 0 x.start)
-
-      configures : model.ConfiguresAgain x.given ((x.start ++ added) ++ Ticked moment ∷ []) moment anew
-      configures =
-          subst (λ (list : List Entry). model.ConfiguresAgain x.given list moment anew) (sym (append_assoc x.start added (Ticked moment ∷ [])))
-          (again_listed x.given moment ticked configured standing.base (added ++ Ticked moment ∷ []) x.start (ticks.stands standing.base added standing.stands) legal (standing.same tells) configured_at again last_configured)
-
       answers_due : Answers ((x.start ++ added) ++ (begun ++ taken)) (due_queries ((x.start ++ added) ++ (begun ++ taken))) answered
       answers_due =
           subst (λ (list : List Entry). Answers list (due_queries list) answered) (sym (append_assoc x.start added (begun ++ taken)))
@@ -137,19 +93,19 @@ module _ {S : Type 0} (left : S → List ℕ) (faults : S → ℕ) (x : Fixed) (
 
       expires : settles.expired ≡ expiries_of ((x.start ++ added) ++ (begun ++ taken ++ answered))
       expires =
-          settles.are ∙ expired_are ((x.start ++ added) ++ (begun ++ taken ++ answered)) settles.between (values (begun ++ taken ++ answered) settles.between answers)
+          settles.are ∙ expired_are ((x.start ++ added) ++ (begun ++ taken ++ answered)) settles.between (values_behind left x added kept feeds objects configured_at old standing (begun ++ taken ++ answered) settles.between answers tells legal)
 
       module _ (told : x.source_tells) where
         steps : TakesSteps x.given ((x.start ++ added) ++ begun) x.given.sources taken × AreFed x.source_tells left x.given.config.categories x.start (((x.start ++ added) ++ begun) ++ taken) x.given.sources nexts rests × AreFullOrOver x.given ((x.start ++ added) ++ begun) x.given.sources nexts
         steps =
-            rounds_taken x.source_tells left faults x.given x.start ((x.start ++ added) ++ begun) configured.counts.moment feeds nexts objects rests rounds.turns told at_moment fed_begun distinct rounds.whole rounds.each
+            rounds_taken x.source_tells left faults x.given x.start ((x.start ++ added) ++ begun) configured.counts.moment feeds nexts objects rests rounds.turns told begins.at (begins.fed tells) distinct rounds.whole rounds.each
 
         by_list : Ticks x.given (x.start ++ added) moment own
         by_list = record {
-          configured = anew;
+          configured = begins.anew;
           taken = taken;
           answered = answered;
-          configures = configures;
+          configures = begins.configures tells legal;
           takes = steps.0;
           answers = answers_due;
           are = ap (λ (es : List Entry). begun ++ taken ++ answered ++ es) expires;
@@ -159,7 +115,7 @@ module _ {S : Type 0} (left : S → List ℕ) (faults : S → ℕ) (x : Fixed) (
         full =
             subst (λ (list : List Entry). AreFullOrOver x.given list x.given.sources nexts) (append_assoc x.start added begun) steps.2
 
-  stands : (last : ℕ) → last ≡ configured_last asks configured_at moment → Standing left x (added ++ own) kept nexts rests last settled
+  stands : (last : ℕ) → last ≡ configured_last (asks_again x.given.config configured_at moment) configured_at moment → Standing left x (added ++ own) kept nexts rests last settled
   stands last last_is = record {
     base = standing.base;
     same = standing.same;
@@ -173,7 +129,7 @@ module _ {S : Type 0} (left : S → List ℕ) (faults : S → ℕ) (x : Fixed) (
     fed = fed_own;
   }
 
-  takes : (last : ℕ) → last ≡ configured_last asks configured_at moment → TakesTick left x added kept nexts rests last moment old settled
+  takes : (last : ℕ) → last ≡ configured_last (asks_again x.given.config configured_at moment) configured_at moment → TakesTick left x added kept nexts rests last moment old settled
   takes last last_is = record {
     own = own;
     ticks = λ tells told legal. by_list tells legal told;
@@ -187,7 +143,7 @@ pub takes_tick : {S : Type 0} (left : S → List ℕ) (faults : S → ℕ) (x : 
     → TickDone x.source_tells left faults setup config documents configured_at moment feeds nexts objects rests old settled → last ≡ configured_last (asks_again config configured_at moment) configured_at moment → TakesTick left x added kept nexts rests last moment old settled
 unfolding takes
 takes_tick {S} left faults x setup config documents added kept feeds nexts objects rests configured_at last moment old settled config_is documents_are host_is records_are standing distinct done last_is =
-    takes left faults x added kept feeds nexts objects rests configured_at moment old done.fills.ticked done.fills.configured done.filled settled standing distinct done.fills.ticks again rounds done.settles last (last_is ∙ ap (λ (config : Config). configured_last (asks_again config configured_at moment) configured_at moment) (sym config_is))
+    takes left faults x added kept feeds nexts objects rests configured_at moment old done.fills.configured done.filled settled standing distinct (begins_tick left x added kept feeds objects configured_at old standing moment done.fills.ticked done.fills.configured done.fills.ticks again) rounds done.settles last (last_is ∙ ap (λ (config : Config). configured_last (asks_again config configured_at moment) configured_at moment) (sym config_is))
   where
     again : ConfiguresAgain (asks_again x.given.config configured_at moment) x.given.config x.given.documents x.given.host moment done.fills.ticked done.fills.configured
     again =

@@ -8,6 +8,8 @@ use Rattle.daemon_rounds.specs.declared.error.TakeError.{TakeError}
 use Rattle.daemon_rounds.specs.declared.error.TakeError.TheVariants as taking
 use Rattle.replay_rounds.specs.declared.loading.LoadError.{LoadError}
 use Rattle.replay_rounds.specs.declared.loading.LoadError.TheVariants as loading
+use Rattle.replay_rounds.specs.declared.noting.NoteError.{NoteError}
+use Rattle.replay_rounds.specs.declared.noting.NoteError.TheVariants as noting
 use Rattle.replay_rounds.specs.declared.refused.Numbers.{Numbers}
 use Rattle.replay_rounds.specs.declared.refused.RunError.{RunError}
 use Rattle.replay_rounds.specs.declared.refused.RunError.TheVariants as run
@@ -25,6 +27,11 @@ unopened_by (opening.SourceFault place) = run.SourceFault place
 unopened_by (opening.SourceShrank place kept found) = run.SourceShrank place kept found
 unopened_by opening.NumbersSpent = run.NumbersSpent
 unopened_by opening.NoMemory = run.NoMemory
+
+-- of lines that aren't written
+abbrev pub unnoted_by : NoteError → RunError
+unnoted_by noting.SinkFault = run.SinkFault
+unnoted_by noting.NoMemory = run.NoMemory
 
 -- of a tick that isn't filled
 abbrev pub unfilled_by : TakeError → RunError

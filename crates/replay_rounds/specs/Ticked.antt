@@ -6,9 +6,10 @@ use Rattle.entry_model.specs.declared.entry.Entry.{Entry}
 use Rattle.entry_model.specs.Legal.{Legal}
 use Rattle.session_model.specs.Ticking.{Ticks}
 use Rattle.session_state.specs.Kept.{Kept}
+use Rattle.daemon_rounds.specs.Answering.{SpendsBatches}
 use Rattle.daemon_rounds.specs.Keeping.{Settles}
 use Rattle.daemon_rounds.specs.Telling.{AreTold}
-use Rattle.daemon_rounds.specs.Ticking.{Fills, asks_again, configured_last}
+use Rattle.daemon_rounds.specs.Ticking.{Fills, FillsTooMuch, asks_again, configured_last}
 use Rattle.daemon_rounds.specs.declared.setup.Setup.{Setup}
 use Rattle.replay_rounds.specs.Fixed.{Fixed}
 use Rattle.replay_rounds.specs.Sources.{AreFullOrOver}
@@ -44,6 +45,12 @@ pub record IsPartlyTold {S : Type 0} (keeper_tells tells : Type 0) (left : S →
   pub count : ℕ
   pub told : AreTold setup.host.identifier old.schedule.form settled.tail lines
   pub written : written_after ≡ written_before ++ take count lines
+
+-- no number was left: for a batch of a tick that was filled, or for the events that a source gave
+abbrev pub SpendsTick : {S : Type 0} (tells : Type 0) (left : S → List ℕ) (faults : S → ℕ) (setup : Setup) (config : Config) (documents : List (List ℕ)) (configured_at moment : ℕ) (feeds nexts : List Feeding) (objects rests : List S) (old new : Kept) → Type 0
+SpendsTick tells left faults setup config documents configured_at moment feeds nexts objects rests old new =
+    ((filled : Kept) × Fills tells left faults setup config documents configured_at moment feeds nexts objects rests old filled × SpendsBatches filled)
+    ⊎ FillsTooMuch tells left faults setup config documents configured_at moment feeds nexts objects rests old new
 
 -- By the list: behind what the session has added there are now the entries of a tick at this moment, and where a source isn't at its end its
 -- step behind some of them was full. The state has them in its tail.

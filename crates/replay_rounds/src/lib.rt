@@ -2,11 +2,13 @@
 #![tactic(auto)]
 
 mod loading;
+mod noting;
+mod opening;
 pub mod refused;
 pub mod running;
 mod ticking;
 
 pub use loading::{LoadError, load_values};
 pub use refused::{Numbers, Refused, RunError};
-pub use running::{Ended, run_session};
+pub use running::{Ended, all_over, run_session};
 pub use ticking::take_tick;

@@ -1,9 +1,10 @@
 //! Why a session ends before its last tick is done.
 
 ghost use Rattle.std.specs.Prelude.{◌≡◌};
-ghost use Rattle.replay_rounds.specs.Refusals.{numbers_of, unloaded_by, unopened_by, unfilled_by, unfinished_by};
+ghost use Rattle.replay_rounds.specs.Refusals.{numbers_of, unloaded_by, unopened_by, unnoted_by, unfilled_by, unfinished_by};
 
 use crate::loading::LoadError;
+use crate::noting::NoteError;
 use daemon_rounds::{FinishError, OpenError, TakeError};
 use session_state::State;
 
@@ -22,7 +23,7 @@ pub enum RunError {
     SourceShrank { place: usize, kept: u64, found: u64 },
     /// The next event's or the next batch's number would pass 2^62.
     NumbersSpent,
-    /// The entries of the tick are kept, and a front part of their lines was written.
+    /// The entries of the tick are kept, and a front part of their lines was written; or what is to be told beside them could not be written.
     SinkFault,
     NoMemory,
 }
@@ -87,6 +88,20 @@ pub(crate) fn unopened(error: OpenError, kept: Numbers) -> Refused
     Refused {
         error,
         numbers: Some(kept),
+    }
+}
+
+/// The answer to lines of the status stream that aren't written, over a kept list of these numbers.
+pub(crate) fn unnoted(error: NoteError, sealed: Numbers) -> Refused
+    ensures { result.error ≡ unnoted_by error }
+{
+    let error = match error {
+        NoteError::SinkFault => RunError::SinkFault,
+        NoteError::NoMemory => RunError::NoMemory,
+    };
+    Refused {
+        error,
+        numbers: Some(sealed),
     }
 }
 

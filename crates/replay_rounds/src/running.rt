@@ -12,20 +12,24 @@ ghost use Rattle.daemon_rounds.specs.Moments.{IsRead};
 ghost use Rattle.daemon_rounds.specs.Rounding.{FailsAt};
 ghost use Rattle.daemon_rounds.specs.Starting.{HasShrunk, source_names};
 ghost use Rattle.replay_rounds.specs.Fixed.{fixed_of};
+ghost use Rattle.replay_rounds.specs.Noting.{IsBetween, IsGrown};
+ghost use Rattle.replay_rounds.specs.Refusals.{numbers_of};
 ghost use Rattle.replay_rounds.specs.Running.{HasRun, IsKept, IsWritten, ReadsAll};
 ghost use Rattle.replay_rounds.specs.Sources.{all_over};
+ghost use Rattle.replay_rounds.specs.Spent.{HasSpent};
 ghost use Rattle.replay_rounds.specs.declared.refused.Refused.{Refused};
 ghost use Rattle.replay_rounds.specs.declared.refused.RunError.{RunError};
 
 use crate::loading::load_values;
-use crate::refused::{Numbers, Refused, RunError, numbers_of, unloaded, unopened};
+use crate::noting::{told, write_notes, write_skipped};
+use crate::opening::open_noted;
+use crate::refused::{Numbers, Refused, RunError, numbers_of, unloaded, unnoted};
 use crate::ticking::take_tick;
 use batch_keeper::Keeper;
 use config_files::Configured;
 use daemon_rounds::setup::Setup;
-use daemon_rounds::{MomentTooLarge, Session, open_session, read_moment};
+use daemon_rounds::{MomentTooLarge, Session, asks_again, read_moment};
 use entry_model::laws;
-use entry_model::restored::Restored;
 use osq_outside::{Clock, Sink, Source};
 use session_state::State;
 use source_feeds::Feed;
@@ -40,38 +44,76 @@ pub struct Ended {
     pub numbers: Numbers,
 }
 
-/// The numbers of these values.
-fn numbers_in(restored: &Restored) -> Numbers {
-    Numbers {
-        events: restored.last,
-        batches: restored.batches,
-        acknowledged: restored.acked,
-    }
-}
-
-/// The moment of the next tick: the clock is read once, and it is its reading, or the last moment, whichever is later.
-fn next_moment<C: Clock>(clock: &mut C, state: &State) -> Result<u64, Refused>
+/// The moment of the next tick: the clock is read once, and it is its reading, or the last moment, whichever is later. Where the session, which
+/// was configured last at `configured_at`, is to be configured again at that moment, what is then to be told is written.
+fn next_moment<C: Clock, O: Sink>(
+    alloc: Global,
+    setup: &Setup,
+    configured: &Configured,
+    clock: &mut C,
+    state: &State,
+    status: &mut O,
+    configured_at: u64,
+) -> Result<u64, Refused>
+    requires { configured_at ≤ state.now.counts.moment }
     ensures read { IfOk result (λ moment. IsRead C.reads clock.old clock.new state.now.counts.moment moment) }
-    ensures beyond { IfErr result (λ refused. (moment : ℕ) × (refused.error ≡ RunError.MomentTooLarge moment) × C.reads clock.old moment clock.new × (253402300799 < moment)) }
+    ensures once { (reading : ℕ) × C.reads clock.old reading clock.new }
+    ensures cause { IfErr result (λ refused. IsBetween (λ moment. C.reads clock.old moment clock.new × (253402300799 < moment)) (Rose (O.faults status.old) (O.faults status.new)) refused.error) }
+    ensures grown { O.tells → IsGrown (O.written status.old) (O.written status.new) }
+    ensures later { O.faults status.old ≤ O.faults status.new }
 {
-    match read_moment(clock, state.moment()) {
-        Ok(moment) => Ok(moment),
-        Err(MomentTooLarge { moment }) => Err(Refused {
-            error: RunError::MomentTooLarge { moment },
-            numbers: Some(numbers_of(state)),
-        }),
+    state.is_state();
+    let numbers = numbers_of(state);
+    let moment = match read_moment(clock, state.moment()) {
+        Ok(moment) => moment,
+        Err(MomentTooLarge { moment }) => {
+            return Err(Refused {
+                error: RunError::MomentTooLarge { moment },
+                numbers: Some(numbers),
+            });
+        }
+    };
+    if !asks_again(&configured.config, configured_at, moment) {
+        return Ok(moment);
+    }
+    match write_notes(alloc, setup, configured, state, status, moment) {
+        Ok(()) => Ok(moment),
+        Err(error) => Err(unnoted(error, numbers)),
     }
 }
 
 /// Every source was read to its end.
-fn are_over(feeds: &[Feed]) -> bool
+pub fn all_over(feeds: &[Feed]) -> bool
     ensures { result ≡ all_over feeds.now }
 {
     feeds.iter().all(|feed| feed.at_end())
 }
 
+/// What a session leaves that ran all its ticks. A line is written for each source of which lines were skipped.
+fn end_session<O: Sink>(
+    alloc: Global,
+    state: &State,
+    feeds: &[Feed],
+    status: &mut O,
+) -> Result<Ended, Refused>
+    ensures is_end { IfOk result (λ ended. ended.is_end ≡ all_over feeds.now) }
+    ensures numbers { IfOk result (λ ended. ended.numbers ≡ numbers_of state.now) }
+    ensures cause { IfErr result (λ refused. IsBetween (λ moment. ⊥) (Rose (O.faults status.old) (O.faults status.new)) refused.error) }
+    ensures grown { O.tells → IsGrown (O.written status.old) (O.written status.new) }
+    ensures later { O.faults status.old ≤ O.faults status.new }
+{
+    let numbers = numbers_of(state);
+    match write_skipped(alloc, feeds, status) {
+        Ok(()) => Ok(Ended {
+            is_end: all_over(feeds),
+            numbers,
+        }),
+        Err(error) => Err(unnoted(error, numbers)),
+    }
+}
+
 /// Runs a whole session behind the keeper's list: it is loaded, the session opens, and all ticks are run, each of which is sealed by itself and then
-/// told. No two sources have one name.
+/// told. No two sources have one name. On the status stream it tells of each configuration, and at the end of skipped lines.
 pub fn run_session<S: Source, K: Keeper, O: Sink, C: Clock>(
     alloc: Global,
     setup: &Setup,
@@ -80,6 +122,7 @@ pub fn run_session<S: Source, K: Keeper, O: Sink, C: Clock>(
     sources: &mut [S],
     keeper: &mut K,
     results: &mut O,
+    status: &mut O,
 ) -> Result<Ended, Refused>
     requires configuration { IsConfigOf configured.now.documents configured.now.config configured.now.notes }
     requires bounded { IsBounded configured.now.config }
@@ -95,22 +138,23 @@ pub fn run_session<S: Source, K: Keeper, O: Sink, C: Clock>(
     ensures moment { (refused : Refused) (moment : ℕ) → result ≡ Err refused → refused.error ≡ RunError.MomentTooLarge moment → (253402300799 < moment) × ((readings : List ℕ) × ReadsAll C.reads clock.old (readings ++ moment ∷ []) clock.new) }
     ensures fault { (refused : Refused) (place : ℕ) → result ≡ Err refused → refused.error ≡ RunError.SourceFault place → FailsAt S.faults place sources.old sources.new }
     ensures shrank { (refused : Refused) (place kept found : ℕ) → result ≡ Err refused → refused.error ≡ RunError.SourceShrank place kept found → (taken : List Taken) × (K.tells → taken ≡ (summary (K.kept keeper.old)).taken) × HasShrunk S.tells S.left taken setup.now.sources place kept found sources.old }
-    ensures sink_cause { (refused : Refused) → result ≡ Err refused → refused.error ≡ RunError.SinkFault → Rose (O.faults results.old) (O.faults results.new) }
-    ensures later { (K.faults keeper.old ≤ K.faults keeper.new) × (O.faults results.old ≤ O.faults results.new) }
+    ensures spent { (refused : Refused) → result ≡ Err refused → refused.error ≡ RunError.NumbersSpent → HasSpent (fixed_of K.tells O.tells S.tells S.left setup.now configured.now.config configured.now.documents sources.old (K.kept keeper.old) (O.written results.old)) (λ readings. ReadsAll C.reads clock.old readings clock.new) (K.kept keeper.new) }
+    ensures sink_cause { (refused : Refused) → result ≡ Err refused → refused.error ≡ RunError.SinkFault → Rose (O.faults results.old) (O.faults results.new) ⊎ Rose (O.faults status.old) (O.faults status.new) }
+    ensures notes { O.tells → IsGrown (O.written status.old) (O.written status.new) }
+    ensures later { (K.faults keeper.old ≤ K.faults keeper.new) × (O.faults results.old ≤ O.faults results.new) × (O.faults status.old ≤ O.faults status.new) }
 {
     laws::coverage();
     let restored = match load_values(alloc, keeper) {
         Ok(restored) => restored,
         Err(error) => return Err(unloaded(error)),
     };
-    let kept = numbers_in(&restored);
     let Session {
         mut state,
         mut feeds,
         configured_at,
-    } = match open_session(alloc, setup, configured, restored, clock, sources) {
+    } = match open_noted(alloc, setup, configured, restored, clock, sources, status) {
         Ok(session) => session,
-        Err(error) => return Err(unopened(error, kept)),
+        Err(refused) => return Err(refused),
     };
     let feeds = feeds.as_mut_slice();
     let mut last = match take_tick(
@@ -126,23 +170,20 @@ pub fn run_session<S: Source, K: Keeper, O: Sink, C: Clock>(
         configured_at,
     ) {
         Ok(last) => last,
-        Err(refused) => return Err(refused),
+        Err(refused) => return Err(told(alloc, feeds, status, refused)),
     };
     for _ in 1..setup.ticks {
-        let moment = match next_moment(clock, &state) {
+        let moment = match next_moment(alloc, setup, configured, clock, &state, status, last) {
             Ok(moment) => moment,
-            Err(refused) => return Err(refused),
+            Err(refused) => return Err(told(alloc, feeds, status, refused)),
         };
         last = match take_tick(
             alloc, setup, configured, &mut state, feeds, sources, keeper, results, last, moment,
         ) {
             Ok(last) => last,
-            Err(refused) => return Err(refused),
+            Err(refused) => return Err(told(alloc, feeds, status, refused)),
         };
     }
     state.is_state();
-    Ok(Ended {
-        is_end: are_over(feeds),
-        numbers: numbers_of(&state),
-    })
+    end_session(alloc, &state, feeds, status)
 }

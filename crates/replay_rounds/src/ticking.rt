@@ -1,13 +1,12 @@
 //! A whole tick.
 
-ghost use Rattle.std.specs.Prelude.{◌≡◌, ◌≢◌, ◌≤◌, ◌⊎◌, ◌+◌, ◌<◌, ◌^◌, ℕ, length, Err, IfOk, IfErr, OnErr};
+ghost use Rattle.std.specs.Prelude.{◌≡◌, ◌≢◌, ◌≤◌, ℕ, length, Err, IfOk, IfErr, OnErr};
 ghost use Rattle.osq_config.specs.Bounds.{IsBounded};
 ghost use Rattle.osq_outside.specs.Causes.{Rose};
 ghost use Rattle.daemon_rounds.specs.Keeping.{GoesOn};
 ghost use Rattle.daemon_rounds.specs.Rounding.{FailsAt};
-ghost use Rattle.daemon_rounds.specs.Ticking.{FillsTooMuch};
 ghost use Rattle.replay_rounds.specs.Standing.{IsReady};
-ghost use Rattle.replay_rounds.specs.Ticked.{IsPartlyTold, IsTick, IsWholeTick};
+ghost use Rattle.replay_rounds.specs.Ticked.{IsPartlyTold, IsTick, IsWholeTick, SpendsTick};
 ghost use Rattle.replay_rounds.specs.declared.refused.Refused.{Refused};
 ghost use Rattle.replay_rounds.specs.declared.refused.RunError.{RunError};
 
@@ -49,7 +48,8 @@ pub fn take_tick<S: Source, K: Keeper, O: Sink>(
     ensures unwritten { IfErr result (λ refused. refused.error ≢ RunError.SinkFault → results.new ≡ results.old) }
     ensures fault { (refused : Refused) (place : ℕ) → result ≡ Err refused → refused.error ≡ RunError.SourceFault place → FailsAt S.faults place sources.old sources.new }
     ensures opened { (refused : Refused) → result ≡ Err refused → (refused.error ≢ RunError.KeeperRefused) × ((moment : ℕ) → refused.error ≢ RunError.MomentTooLarge moment) × ((place kept found : ℕ) → refused.error ≢ RunError.SourceShrank place kept found) }
-    ensures spent { (refused : Refused) → result ≡ Err refused → refused.error ≡ RunError.NumbersSpent → (2 ^ 62 < state.new.counts.batches + 1) ⊎ FillsTooMuch S.tells S.left S.faults setup.now configured.now.config configured.now.documents configured_at moment feeds.old feeds.new sources.old sources.new state.old state.new }
+    ensures spent { (refused : Refused) → result ≡ Err refused → refused.error ≡ RunError.NumbersSpent → SpendsTick S.tells S.left S.faults setup.now configured.now.config configured.now.documents configured_at moment feeds.old feeds.new sources.old sources.new state.old state.new }
+    ensures unkept { K.tells → (refused : Refused) → result ≡ Err refused → refused.error ≡ RunError.NumbersSpent → K.kept keeper.new ≡ K.kept keeper.old }
     ensures keeper_cause { (refused : Refused) → result ≡ Err refused → refused.error ≡ RunError.KeeperFault → Rose (K.faults keeper.old) (K.faults keeper.new) }
     ensures sink_cause { (refused : Refused) → result ≡ Err refused → refused.error ≡ RunError.SinkFault → Rose (O.faults results.old) (O.faults results.new) }
     ensures later { (K.faults keeper.old ≤ K.faults keeper.new) × (O.faults results.old ≤ O.faults results.new) }

@@ -1,15 +1,19 @@
-use Rattle.std.proofs.Common.{◌≡◌, ℕ, ◌<◌, List, [], ◌∷◌, ◌++◌, Err, refl, sym, ap, ◌∙◌, subst, arith}
+use Rattle.std.proofs.Common.{◌≡◌, List, [], ◌∷◌, refl, sym, ap, ◌∙◌, subst, arith, inl, inr}
 use Rattle.std.proofs.lemmas.List.{append-nil}
 use Rattle.source_feeds.specs.Feeding.{Feeding}
+use Rattle.entry_model.specs.declared.restored.Restored.{Restored}
 use Rattle.daemon_rounds.specs.Rounding.{AreGoing}
 use Rattle.daemon_rounds.proofs.Laters.{fails_since}
 use Rattle.replay_rounds.specs.Fixed.{fixed_of}
+use Rattle.replay_rounds.specs.Noting.{IsBetween}
 use Rattle.replay_rounds.specs.Running.{IsWritten, ReadsAll}
 use Rattle.replay_rounds.specs.declared.refused.Refused.{Refused}
-use Rattle.replay_rounds.proofs.Causes.{by_sink, one_moment, unopened_late}
+use Rattle.replay_rounds.proofs.Causes.{by_sink}
 use Rattle.replay_rounds.proofs.Done.{has_run}
+use Rattle.replay_rounds.proofs.Grown.{grown_then, of_error, of_value}
 use Rattle.replay_rounds.proofs.Looping.{goes_on_here, grown_of, kept_first, kept_on, looped_first, looped_on, opens_here, partly_first, partly_on, still_written, written_on}
 use Rattle.replay_rounds.proofs.Ran.{all_is_kept, none_kept, none_written, reads_more, still_kept}
+use Rattle.replay_rounds.proofs.Spent.{spent_first, spent_nowhere, spent_on}
 use Rattle.replay_rounds.proofs.running.run_session.Goals as goal
 
 pub returns-in-Err-clause-kept : goal.returns-in-Err-clause-kept
@@ -20,41 +24,68 @@ pub returns-in-Err-clause-written : goal.returns-in-Err-clause-written
 returns-in-Err-clause-written g c told =
     none_written (fixed_of g.K.Keeper.tells g.O.Sink.tells g.S.Source.tells g.S.Source.left c.args.setup.now c.args.configured.now.config c.args.configured.now.documents c.args.sources.now (g.K.Keeper.kept c.args.keeper.now) (g.O.Sink.written c.args.results.now)) (g.K.Keeper.kept c.load_values.new.keeper) (g.O.Sink.written c.args.results.now) (λ tells. ([], c.in-Err.ensures.same tells ∙ sym (append-nil (g.K.Keeper.kept c.args.keeper.now)))) refl
 
-pub returns-in-Err-open_session-clause-kept : goal.returns-in-Err-open_session-clause-kept
-returns-in-Err-open_session-clause-kept g c told =
-    let (reading, read) = c.in-Err-open_session.ensures.read in
-    none_kept (fixed_of g.K.Keeper.tells g.O.Sink.tells g.S.Source.tells g.S.Source.left c.args.setup.now c.args.configured.now.config c.args.configured.now.documents c.args.sources.now (g.K.Keeper.kept c.args.keeper.now) (g.O.Sink.written c.args.results.now)) (λ readings. ReadsAll g.C.Clock.reads c.args.clock.now readings c.open_session.new.clock) (reading ∷ []) (g.K.Keeper.kept c.load_values.new.keeper) (c.open_session.new.clock, read, refl) (omega arith) c.in-Ok.ensures.same
+pub returns-in-Err-open_noted-clause-kept : goal.returns-in-Err-open_noted-clause-kept
+returns-in-Err-open_noted-clause-kept g c told =
+    let (reading, read) = c.in-Err-open_noted.ensures.read in
+    none_kept (fixed_of g.K.Keeper.tells g.O.Sink.tells g.S.Source.tells g.S.Source.left c.args.setup.now c.args.configured.now.config c.args.configured.now.documents c.args.sources.now (g.K.Keeper.kept c.args.keeper.now) (g.O.Sink.written c.args.results.now)) (λ readings. ReadsAll g.C.Clock.reads c.args.clock.now readings c.open_noted.new.clock) (reading ∷ []) (g.K.Keeper.kept c.load_values.new.keeper) (c.open_noted.new.clock, read, refl) (omega arith) c.in-Ok.ensures.same
 
-pub returns-in-Err-open_session-clause-written : goal.returns-in-Err-open_session-clause-written
-returns-in-Err-open_session-clause-written g c told =
+pub returns-in-Err-open_noted-clause-written : goal.returns-in-Err-open_noted-clause-written
+returns-in-Err-open_noted-clause-written g c told =
     none_written (fixed_of g.K.Keeper.tells g.O.Sink.tells g.S.Source.tells g.S.Source.left c.args.setup.now c.args.configured.now.config c.args.configured.now.documents c.args.sources.now (g.K.Keeper.kept c.args.keeper.now) (g.O.Sink.written c.args.results.now)) (g.K.Keeper.kept c.load_values.new.keeper) (g.O.Sink.written c.args.results.now) (λ tells. ([], c.in-Ok.ensures.same tells ∙ sym (append-nil (g.K.Keeper.kept c.args.keeper.now)))) refl
 
-pub returns-in-Err-open_session-clause-moment : goal.returns-in-Err-open_session-clause-moment
-returns-in-Err-open_session-clause-moment g c refused moment is error =
-    let same : c.unopened.result ≡ refused = (cc) in
-    let why = unopened_late c.in-Err-open_session.error moment (sym c.unopened.ensures ∙ ap (λ (r : Refused). r.error) same ∙ error) in
-    let (read, beyond) = c.open_session.ensures.moment moment (c.in-Err-open_session.is ∙ ap Err why) in
-    (beyond, ([], (c.open_session.new.clock, read, refl)))
+pub returns-in-Err-open_noted-clause-moment : goal.returns-in-Err-open_noted-clause-moment
+returns-in-Err-open_noted-clause-moment g c refused moment is error =
+    let same : c.in-Err-open_noted.refused ≡ refused = (cc) in
+    let (read, beyond) = c.open_noted.ensures.moment c.in-Err-open_noted.refused moment c.in-Err-open_noted.is (ap (λ (r : Refused). r.error) same ∙ error) in
+    (beyond, ([], (c.open_noted.new.clock, read, refl)))
+
+pub returns-in-Err-open_noted-clause-fault : goal.returns-in-Err-open_noted-clause-fault
+returns-in-Err-open_noted-clause-fault g c refused place is error =
+    let same : c.in-Err-open_noted.refused ≡ refused = (cc) in
+    c.open_noted.ensures.fault c.in-Err-open_noted.refused place c.in-Err-open_noted.is (ap (λ (r : Refused). r.error) same ∙ error)
+
+pub returns-in-Err-open_noted-clause-shrank : goal.returns-in-Err-open_noted-clause-shrank
+returns-in-Err-open_noted-clause-shrank g c refused place kept found is error =
+    let same : c.in-Err-open_noted.refused ≡ refused = (cc) in
+    (c.in-Ok.restored.taken, λ tells. ap (λ (r : Restored). r.taken) (c.in-Ok.ensures.value tells), c.open_noted.ensures.shrank c.in-Err-open_noted.refused place kept found c.in-Err-open_noted.is (ap (λ (r : Refused). r.error) same ∙ error))
+
+pub returns-in-Err-open_noted-clause-spent : goal.returns-in-Err-open_noted-clause-spent
+returns-in-Err-open_noted-clause-spent g c refused is error =
+    let same : c.in-Err-open_noted.refused ≡ refused = (cc) in
+    let (reading, read) = c.in-Err-open_noted.ensures.read in
+    spent_nowhere g.K.Keeper.tells g.O.Sink.tells g.S.Source.tells g.S.Source.left g.S.Source.faults c.args.setup.now c.args.configured.now.config c.args.configured.now.documents c.args.sources.now (g.K.Keeper.kept c.args.keeper.now) (g.O.Sink.written c.args.results.now) g.C.Clock.reads c.args.clock.now c.open_noted.new.clock reading c.in-Ok.restored (g.K.Keeper.kept c.load_values.new.keeper) c.open_noted.new.sources read c.in-Ok.ensures.value c.in-Ok.ensures.same c.requires.distinct (c.open_noted.ensures.spent c.in-Err-open_noted.refused c.in-Err-open_noted.is (ap (λ (r : Refused). r.error) same ∙ error))
 
 pub take_tick-requires-clause-goes_on : goal.take_tick-requires-clause-goes_on
 take_tick-requires-clause-goes_on g c κs within =
-    goes_on_here g.K.Keeper.tells g.S.Source.tells g.S.Source.left g.S.Source.faults c.args.setup.now c.args.configured.now.config c.args.configured.now.documents c.args.sources.now (g.K.Keeper.kept c.args.keeper.now) (g.K.Keeper.kept c.load_values.new.keeper) g.C.Clock.reads c.args.clock.now c.open_session.new.clock c.in-Ok.restored c.in-Ok-open_session.session.feeds.items c.open_session.new.sources c.in-Ok-open_session.session.configured_at c.in-Ok-open_session.session.state c.in-Ok.ensures.value c.in-Ok.ensures.same c.in-Ok-open_session.ensures.opened
+    goes_on_here g.K.Keeper.tells g.S.Source.tells g.S.Source.left g.S.Source.faults c.args.setup.now c.args.configured.now.config c.args.configured.now.documents c.args.sources.now (g.K.Keeper.kept c.args.keeper.now) (g.K.Keeper.kept c.load_values.new.keeper) g.C.Clock.reads c.args.clock.now c.open_noted.new.clock c.in-Ok.restored c.in-Ok-open_noted.session.feeds.items c.open_noted.new.sources c.in-Ok-open_noted.session.configured_at c.in-Ok-open_noted.session.state c.in-Ok.ensures.value c.in-Ok.ensures.same c.in-Ok-open_noted.ensures.opened
 
 pub returns-in-Err-take_tick-clause-kept : goal.returns-in-Err-take_tick-clause-kept
 returns-in-Err-take_tick-clause-kept g c told =
     let kept_is = c.in-Ok.ensures.same in
-    let opens = opens_here g.K.Keeper.tells g.O.Sink.tells g.S.Source.tells g.S.Source.left g.S.Source.faults c.args.setup.now c.args.configured.now.config c.args.configured.now.documents c.args.sources.now (g.K.Keeper.kept c.args.keeper.now) (g.O.Sink.written c.args.results.now) g.C.Clock.reads c.args.clock.now c.open_session.new.clock c.in-Ok.restored (g.K.Keeper.kept c.load_values.new.keeper) c.in-Ok-open_session.session.feeds.items c.as_mut_slice-feeds.result.now c.open_session.new.sources c.in-Ok-open_session.session.configured_at c.in-Ok-open_session.session.state c.in-Ok.ensures.value kept_is c.requires.distinct c.in-Ok-open_session.ensures.opened c.as_mut_slice-feeds.ensures.value in
-    let going = subst (λ (feeds : List Feeding). AreGoing c.in-Ok-open_session.session.state.counts.taken feeds) (sym c.as_mut_slice-feeds.ensures.value) c.in-Ok-open_session.ensures.going in
-    kept_first g.K.Keeper.tells g.O.Sink.tells g.S.Source.tells g.S.Source.left g.S.Source.faults c.args.setup.now c.args.configured.now.config c.args.configured.now.documents c.args.sources.now (g.K.Keeper.kept c.args.keeper.now) (g.O.Sink.written c.args.results.now) g.C.Clock.reads c.args.clock.now c.open_session.new.clock (g.K.Keeper.kept c.load_values.new.keeper) (g.K.Keeper.kept c.take_tick.new.keeper) (g.O.Sink.written c.take_tick.new.results) c.as_mut_slice-feeds.result.now c.take_tick.new.feeds c.open_session.new.sources c.take_tick.new.sources c.in-Ok-open_session.session.configured_at c.in-Ok-open_session.session.state c.args.configured.now.notes c.requires.configuration opens.0 going kept_is (c.in-Err-take_tick.ensures.kept told) told
+    let opens = opens_here g.K.Keeper.tells g.O.Sink.tells g.S.Source.tells g.S.Source.left g.S.Source.faults c.args.setup.now c.args.configured.now.config c.args.configured.now.documents c.args.sources.now (g.K.Keeper.kept c.args.keeper.now) (g.O.Sink.written c.args.results.now) g.C.Clock.reads c.args.clock.now c.open_noted.new.clock c.in-Ok.restored (g.K.Keeper.kept c.load_values.new.keeper) c.in-Ok-open_noted.session.feeds.items c.as_mut_slice-feeds.result.now c.open_noted.new.sources c.in-Ok-open_noted.session.configured_at c.in-Ok-open_noted.session.state c.in-Ok.ensures.value kept_is c.requires.distinct c.in-Ok-open_noted.ensures.opened c.as_mut_slice-feeds.ensures.value in
+    let going = subst (λ (feeds : List Feeding). AreGoing c.in-Ok-open_noted.session.state.counts.taken feeds) (sym c.as_mut_slice-feeds.ensures.value) c.in-Ok-open_noted.ensures.going in
+    kept_first g.K.Keeper.tells g.O.Sink.tells g.S.Source.tells g.S.Source.left g.S.Source.faults c.args.setup.now c.args.configured.now.config c.args.configured.now.documents c.args.sources.now (g.K.Keeper.kept c.args.keeper.now) (g.O.Sink.written c.args.results.now) g.C.Clock.reads c.args.clock.now c.open_noted.new.clock (g.K.Keeper.kept c.load_values.new.keeper) (g.K.Keeper.kept c.take_tick.new.keeper) (g.O.Sink.written c.take_tick.new.results) c.as_mut_slice-feeds.result.now c.take_tick.new.feeds c.open_noted.new.sources c.take_tick.new.sources c.in-Ok-open_noted.session.configured_at c.in-Ok-open_noted.session.state c.args.configured.now.notes c.requires.configuration opens.0 going kept_is (c.in-Err-take_tick.ensures.kept told) told
 
 pub returns-in-Err-take_tick-clause-written : goal.returns-in-Err-take_tick-clause-written
 returns-in-Err-take_tick-clause-written g c told =
     let kept_is = c.in-Ok.ensures.same in
-    let opens = opens_here g.K.Keeper.tells g.O.Sink.tells g.S.Source.tells g.S.Source.left g.S.Source.faults c.args.setup.now c.args.configured.now.config c.args.configured.now.documents c.args.sources.now (g.K.Keeper.kept c.args.keeper.now) (g.O.Sink.written c.args.results.now) g.C.Clock.reads c.args.clock.now c.open_session.new.clock c.in-Ok.restored (g.K.Keeper.kept c.load_values.new.keeper) c.in-Ok-open_session.session.feeds.items c.as_mut_slice-feeds.result.now c.open_session.new.sources c.in-Ok-open_session.session.configured_at c.in-Ok-open_session.session.state c.in-Ok.ensures.value kept_is c.requires.distinct c.in-Ok-open_session.ensures.opened c.as_mut_slice-feeds.ensures.value in
-    let going = subst (λ (feeds : List Feeding). AreGoing c.in-Ok-open_session.session.state.counts.taken feeds) (sym c.as_mut_slice-feeds.ensures.value) c.in-Ok-open_session.ensures.going in
+    let opens = opens_here g.K.Keeper.tells g.O.Sink.tells g.S.Source.tells g.S.Source.left g.S.Source.faults c.args.setup.now c.args.configured.now.config c.args.configured.now.documents c.args.sources.now (g.K.Keeper.kept c.args.keeper.now) (g.O.Sink.written c.args.results.now) g.C.Clock.reads c.args.clock.now c.open_noted.new.clock c.in-Ok.restored (g.K.Keeper.kept c.load_values.new.keeper) c.in-Ok-open_noted.session.feeds.items c.as_mut_slice-feeds.result.now c.open_noted.new.sources c.in-Ok-open_noted.session.configured_at c.in-Ok-open_noted.session.state c.in-Ok.ensures.value kept_is c.requires.distinct c.in-Ok-open_noted.ensures.opened c.as_mut_slice-feeds.ensures.value in
+    let going = subst (λ (feeds : List Feeding). AreGoing c.in-Ok-open_noted.session.state.counts.taken feeds) (sym c.as_mut_slice-feeds.ensures.value) c.in-Ok-open_noted.ensures.going in
     by_sink c.in-Err-take_tick.refused.error (fixed_of g.K.Keeper.tells g.O.Sink.tells g.S.Source.tells g.S.Source.left c.args.setup.now c.args.configured.now.config c.args.configured.now.documents c.args.sources.now (g.K.Keeper.kept c.args.keeper.now) (g.O.Sink.written c.args.results.now)) (g.K.Keeper.kept c.take_tick.new.keeper) (g.O.Sink.written c.take_tick.new.results)
-    (λ is. partly_first g.K.Keeper.tells g.O.Sink.tells g.S.Source.tells g.S.Source.left g.S.Source.faults c.args.setup.now c.args.configured.now.config c.args.configured.now.documents c.args.sources.now (g.K.Keeper.kept c.args.keeper.now) (g.O.Sink.written c.args.results.now) g.C.Clock.reads c.args.clock.now c.open_session.new.clock (g.K.Keeper.kept c.load_values.new.keeper) (g.K.Keeper.kept c.take_tick.new.keeper) (g.O.Sink.written c.take_tick.new.results) c.as_mut_slice-feeds.result.now c.take_tick.new.feeds c.open_session.new.sources c.take_tick.new.sources c.in-Ok-open_session.session.configured_at c.in-Ok-open_session.session.state c.args.configured.now.notes c.requires.configuration opens.0 going kept_is (c.take_tick.ensures.partly told c.in-Err-take_tick.refused c.in-Err-take_tick.is is))
-    (λ other. none_written (fixed_of g.K.Keeper.tells g.O.Sink.tells g.S.Source.tells g.S.Source.left c.args.setup.now c.args.configured.now.config c.args.configured.now.documents c.args.sources.now (g.K.Keeper.kept c.args.keeper.now) (g.O.Sink.written c.args.results.now)) (g.K.Keeper.kept c.take_tick.new.keeper) (g.O.Sink.written c.take_tick.new.results) (λ tells. grown_of (fixed_of g.K.Keeper.tells g.O.Sink.tells g.S.Source.tells g.S.Source.left c.args.setup.now c.args.configured.now.config c.args.configured.now.documents c.args.sources.now (g.K.Keeper.kept c.args.keeper.now) (g.O.Sink.written c.args.results.now)) (λ readings. ReadsAll g.C.Clock.reads c.args.clock.now readings c.open_session.new.clock) (g.K.Keeper.kept c.take_tick.new.keeper) (kept_first g.K.Keeper.tells g.O.Sink.tells g.S.Source.tells g.S.Source.left g.S.Source.faults c.args.setup.now c.args.configured.now.config c.args.configured.now.documents c.args.sources.now (g.K.Keeper.kept c.args.keeper.now) (g.O.Sink.written c.args.results.now) g.C.Clock.reads c.args.clock.now c.open_session.new.clock (g.K.Keeper.kept c.load_values.new.keeper) (g.K.Keeper.kept c.take_tick.new.keeper) (g.O.Sink.written c.take_tick.new.results) c.as_mut_slice-feeds.result.now c.take_tick.new.feeds c.open_session.new.sources c.take_tick.new.sources c.in-Ok-open_session.session.configured_at c.in-Ok-open_session.session.state c.args.configured.now.notes c.requires.configuration opens.0 going kept_is (c.in-Err-take_tick.ensures.kept tells) tells) tells) (ap g.O.Sink.written (c.in-Err-take_tick.ensures.unwritten other)))
+    (λ is. partly_first g.K.Keeper.tells g.O.Sink.tells g.S.Source.tells g.S.Source.left g.S.Source.faults c.args.setup.now c.args.configured.now.config c.args.configured.now.documents c.args.sources.now (g.K.Keeper.kept c.args.keeper.now) (g.O.Sink.written c.args.results.now) g.C.Clock.reads c.args.clock.now c.open_noted.new.clock (g.K.Keeper.kept c.load_values.new.keeper) (g.K.Keeper.kept c.take_tick.new.keeper) (g.O.Sink.written c.take_tick.new.results) c.as_mut_slice-feeds.result.now c.take_tick.new.feeds c.open_noted.new.sources c.take_tick.new.sources c.in-Ok-open_noted.session.configured_at c.in-Ok-open_noted.session.state c.args.configured.now.notes c.requires.configuration opens.0 going kept_is (c.take_tick.ensures.partly told c.in-Err-take_tick.refused c.in-Err-take_tick.is is))
+    (λ other. none_written (fixed_of g.K.Keeper.tells g.O.Sink.tells g.S.Source.tells g.S.Source.left c.args.setup.now c.args.configured.now.config c.args.configured.now.documents c.args.sources.now (g.K.Keeper.kept c.args.keeper.now) (g.O.Sink.written c.args.results.now)) (g.K.Keeper.kept c.take_tick.new.keeper) (g.O.Sink.written c.take_tick.new.results) (λ tells. grown_of (fixed_of g.K.Keeper.tells g.O.Sink.tells g.S.Source.tells g.S.Source.left c.args.setup.now c.args.configured.now.config c.args.configured.now.documents c.args.sources.now (g.K.Keeper.kept c.args.keeper.now) (g.O.Sink.written c.args.results.now)) (λ readings. ReadsAll g.C.Clock.reads c.args.clock.now readings c.open_noted.new.clock) (g.K.Keeper.kept c.take_tick.new.keeper) (kept_first g.K.Keeper.tells g.O.Sink.tells g.S.Source.tells g.S.Source.left g.S.Source.faults c.args.setup.now c.args.configured.now.config c.args.configured.now.documents c.args.sources.now (g.K.Keeper.kept c.args.keeper.now) (g.O.Sink.written c.args.results.now) g.C.Clock.reads c.args.clock.now c.open_noted.new.clock (g.K.Keeper.kept c.load_values.new.keeper) (g.K.Keeper.kept c.take_tick.new.keeper) (g.O.Sink.written c.take_tick.new.results) c.as_mut_slice-feeds.result.now c.take_tick.new.feeds c.open_noted.new.sources c.take_tick.new.sources c.in-Ok-open_noted.session.configured_at c.in-Ok-open_noted.session.state c.args.configured.now.notes c.requires.configuration opens.0 going kept_is (c.in-Err-take_tick.ensures.kept tells) tells) tells) (ap g.O.Sink.written (c.in-Err-take_tick.ensures.unwritten other)))
+
+pub returns-in-Err-take_tick-clause-keeper_cause : goal.returns-in-Err-take_tick-clause-keeper_cause
+returns-in-Err-take_tick-clause-keeper_cause g c refused is error =
+    let same : c.in-Err-take_tick.refused ≡ refused = (cc) in
+    let rose = c.take_tick.ensures.keeper_cause c.in-Err-take_tick.refused c.in-Err-take_tick.is (ap (λ (r : Refused). r.error) same ∙ error) in
+    let loaded = c.load_values.ensures.later in
+    omega (arith, rose, loaded)
+
+pub returns-in-Err-take_tick-clause-refused : goal.returns-in-Err-take_tick-clause-refused
+returns-in-Err-take_tick-clause-refused g c told refused is error fits =
+    let same : c.in-Err-take_tick.refused ≡ refused = (cc) in
+    (c.take_tick.ensures.opened c.in-Err-take_tick.refused c.in-Err-take_tick.is).0 (ap (λ (r : Refused). r.error) same ∙ error)
 
 pub returns-in-Err-take_tick-clause-illegal : goal.returns-in-Err-take_tick-clause-illegal
 returns-in-Err-take_tick-clause-illegal g c told refused is error legal =
@@ -71,53 +102,118 @@ returns-in-Err-take_tick-clause-fault g c refused place is error =
     let same : c.in-Err-take_tick.refused ≡ refused = (cc) in
     let failed = c.take_tick.ensures.fault c.in-Err-take_tick.refused place c.in-Err-take_tick.is (ap (λ (r : Refused). r.error) same ∙ error) in
     let kept_is = c.in-Ok.ensures.same in
-    let opens = opens_here g.K.Keeper.tells g.O.Sink.tells g.S.Source.tells g.S.Source.left g.S.Source.faults c.args.setup.now c.args.configured.now.config c.args.configured.now.documents c.args.sources.now (g.K.Keeper.kept c.args.keeper.now) (g.O.Sink.written c.args.results.now) g.C.Clock.reads c.args.clock.now c.open_session.new.clock c.in-Ok.restored (g.K.Keeper.kept c.load_values.new.keeper) c.in-Ok-open_session.session.feeds.items c.as_mut_slice-feeds.result.now c.open_session.new.sources c.in-Ok-open_session.session.configured_at c.in-Ok-open_session.session.state c.in-Ok.ensures.value kept_is c.requires.distinct c.in-Ok-open_session.ensures.opened c.as_mut_slice-feeds.ensures.value in
-    let going = subst (λ (feeds : List Feeding). AreGoing c.in-Ok-open_session.session.state.counts.taken feeds) (sym c.as_mut_slice-feeds.ensures.value) c.in-Ok-open_session.ensures.going in
-    fails_since g.S.Source.faults place c.args.sources.now c.open_session.new.sources c.take_tick.new.sources opens.1 failed
+    let opens = opens_here g.K.Keeper.tells g.O.Sink.tells g.S.Source.tells g.S.Source.left g.S.Source.faults c.args.setup.now c.args.configured.now.config c.args.configured.now.documents c.args.sources.now (g.K.Keeper.kept c.args.keeper.now) (g.O.Sink.written c.args.results.now) g.C.Clock.reads c.args.clock.now c.open_noted.new.clock c.in-Ok.restored (g.K.Keeper.kept c.load_values.new.keeper) c.in-Ok-open_noted.session.feeds.items c.as_mut_slice-feeds.result.now c.open_noted.new.sources c.in-Ok-open_noted.session.configured_at c.in-Ok-open_noted.session.state c.in-Ok.ensures.value kept_is c.requires.distinct c.in-Ok-open_noted.ensures.opened c.as_mut_slice-feeds.ensures.value in
+    let going = subst (λ (feeds : List Feeding). AreGoing c.in-Ok-open_noted.session.state.counts.taken feeds) (sym c.as_mut_slice-feeds.ensures.value) c.in-Ok-open_noted.ensures.going in
+    fails_since g.S.Source.faults place c.args.sources.now c.open_noted.new.sources c.take_tick.new.sources opens.1 failed
 
 pub returns-in-Err-take_tick-clause-shrank : goal.returns-in-Err-take_tick-clause-shrank
 returns-in-Err-take_tick-clause-shrank g c refused place kept found is error =
     let same : c.in-Err-take_tick.refused ≡ refused = (cc) in
     absurd ((c.take_tick.ensures.opened c.in-Err-take_tick.refused c.in-Err-take_tick.is).2 place kept found (ap (λ (r : Refused). r.error) same ∙ error))
 
+pub returns-in-Err-take_tick-clause-spent : goal.returns-in-Err-take_tick-clause-spent
+returns-in-Err-take_tick-clause-spent g c refused is error =
+    let same : c.in-Err-take_tick.refused ≡ refused = (cc) in
+    let why = ap (λ (r : Refused). r.error) same ∙ error in
+    let kept_is = c.in-Ok.ensures.same in
+    let opens = opens_here g.K.Keeper.tells g.O.Sink.tells g.S.Source.tells g.S.Source.left g.S.Source.faults c.args.setup.now c.args.configured.now.config c.args.configured.now.documents c.args.sources.now (g.K.Keeper.kept c.args.keeper.now) (g.O.Sink.written c.args.results.now) g.C.Clock.reads c.args.clock.now c.open_noted.new.clock c.in-Ok.restored (g.K.Keeper.kept c.load_values.new.keeper) c.in-Ok-open_noted.session.feeds.items c.as_mut_slice-feeds.result.now c.open_noted.new.sources c.in-Ok-open_noted.session.configured_at c.in-Ok-open_noted.session.state c.in-Ok.ensures.value kept_is c.requires.distinct c.in-Ok-open_noted.ensures.opened c.as_mut_slice-feeds.ensures.value in
+    let going = subst (λ (feeds : List Feeding). AreGoing c.in-Ok-open_noted.session.state.counts.taken feeds) (sym c.as_mut_slice-feeds.ensures.value) c.in-Ok-open_noted.ensures.going in
+    spent_first g.K.Keeper.tells g.O.Sink.tells g.S.Source.tells g.S.Source.left g.S.Source.faults c.args.setup.now c.args.configured.now.config c.args.configured.now.documents c.args.sources.now (g.K.Keeper.kept c.args.keeper.now) (g.O.Sink.written c.args.results.now) g.C.Clock.reads c.args.clock.now c.open_noted.new.clock (g.K.Keeper.kept c.load_values.new.keeper) (g.K.Keeper.kept c.take_tick.new.keeper) c.as_mut_slice-feeds.result.now c.take_tick.new.feeds c.open_noted.new.sources c.take_tick.new.sources c.in-Ok-open_noted.session.configured_at c.in-Ok-open_noted.session.state c.take_tick.new.state opens.0 going.distinct
+    (λ tells. c.take_tick.ensures.unkept tells c.in-Err-take_tick.refused c.in-Err-take_tick.is why ∙ kept_is tells) (c.take_tick.ensures.spent c.in-Err-take_tick.refused c.in-Err-take_tick.is why)
+
+pub returns-in-Err-take_tick-clause-sink_cause : goal.returns-in-Err-take_tick-clause-sink_cause
+returns-in-Err-take_tick-clause-sink_cause g c refused is error =
+    let same : c.in-Err-take_tick.refused ≡ refused = (cc) in
+    inl (c.take_tick.ensures.sink_cause c.in-Err-take_tick.refused c.in-Err-take_tick.is (ap (λ (r : Refused). r.error) same ∙ error))
+
+pub returns-in-Err-take_tick-clause-notes : goal.returns-in-Err-take_tick-clause-notes
+returns-in-Err-take_tick-clause-notes g c tells =
+    grown_then _ _ _ (c.open_noted.ensures.grown tells) (c.told.ensures.grown tells)
+
 pub loop-init : goal.loop-init
 loop-init g c =
     let kept_is = c.in-Ok.ensures.same in
-    let opens = opens_here g.K.Keeper.tells g.O.Sink.tells g.S.Source.tells g.S.Source.left g.S.Source.faults c.args.setup.now c.args.configured.now.config c.args.configured.now.documents c.args.sources.now (g.K.Keeper.kept c.args.keeper.now) (g.O.Sink.written c.args.results.now) g.C.Clock.reads c.args.clock.now c.open_session.new.clock c.in-Ok.restored (g.K.Keeper.kept c.load_values.new.keeper) c.in-Ok-open_session.session.feeds.items c.as_mut_slice-feeds.result.now c.open_session.new.sources c.in-Ok-open_session.session.configured_at c.in-Ok-open_session.session.state c.in-Ok.ensures.value kept_is c.requires.distinct c.in-Ok-open_session.ensures.opened c.as_mut_slice-feeds.ensures.value in
-    let going = subst (λ (feeds : List Feeding). AreGoing c.in-Ok-open_session.session.state.counts.taken feeds) (sym c.as_mut_slice-feeds.ensures.value) c.in-Ok-open_session.ensures.going in
+    let opens = opens_here g.K.Keeper.tells g.O.Sink.tells g.S.Source.tells g.S.Source.left g.S.Source.faults c.args.setup.now c.args.configured.now.config c.args.configured.now.documents c.args.sources.now (g.K.Keeper.kept c.args.keeper.now) (g.O.Sink.written c.args.results.now) g.C.Clock.reads c.args.clock.now c.open_noted.new.clock c.in-Ok.restored (g.K.Keeper.kept c.load_values.new.keeper) c.in-Ok-open_noted.session.feeds.items c.as_mut_slice-feeds.result.now c.open_noted.new.sources c.in-Ok-open_noted.session.configured_at c.in-Ok-open_noted.session.state c.in-Ok.ensures.value kept_is c.requires.distinct c.in-Ok-open_noted.ensures.opened c.as_mut_slice-feeds.ensures.value in
+    let going = subst (λ (feeds : List Feeding). AreGoing c.in-Ok-open_noted.session.state.counts.taken feeds) (sym c.as_mut_slice-feeds.ensures.value) c.in-Ok-open_noted.ensures.going in
     let loaded = c.load_values.ensures.later in
     let ticked = c.take_tick.ensures.later in
     let keeper_first = ticked.0 in
     let results_first = ticked.1 in
     record {
-      looping = looped_first g.K.Keeper.tells g.O.Sink.tells g.S.Source.tells g.S.Source.left g.S.Source.faults c.args.setup.now c.args.configured.now.config c.args.configured.now.documents c.args.sources.now (g.K.Keeper.kept c.args.keeper.now) (g.O.Sink.written c.args.results.now) g.C.Clock.reads c.args.clock.now c.open_session.new.clock (g.K.Keeper.kept c.load_values.new.keeper) (g.K.Keeper.kept c.take_tick.new.keeper) (g.O.Sink.written c.take_tick.new.results) c.as_mut_slice-feeds.result.now c.take_tick.new.feeds c.open_session.new.sources c.take_tick.new.sources c.in-Ok-open_session.session.configured_at c.in-Ok-open_session.session.state c.args.configured.now.notes c.requires.configuration opens.0 going kept_is c.in-Ok-take_tick.last c.take_tick.new.state c.in-Ok-take_tick.ensures.done opens.1;
+      looping = looped_first g.K.Keeper.tells g.O.Sink.tells g.S.Source.tells g.S.Source.left g.S.Source.faults c.args.setup.now c.args.configured.now.config c.args.configured.now.documents c.args.sources.now (g.K.Keeper.kept c.args.keeper.now) (g.O.Sink.written c.args.results.now) g.C.Clock.reads c.args.clock.now c.open_noted.new.clock (g.K.Keeper.kept c.load_values.new.keeper) (g.K.Keeper.kept c.take_tick.new.keeper) (g.O.Sink.written c.take_tick.new.results) c.as_mut_slice-feeds.result.now c.take_tick.new.feeds c.open_noted.new.sources c.take_tick.new.sources c.in-Ok-open_noted.session.configured_at c.in-Ok-open_noted.session.state c.args.configured.now.notes c.requires.configuration opens.0 going kept_is c.in-Ok-take_tick.last c.take_tick.new.state c.in-Ok-take_tick.ensures.done opens.1;
       ready = c.in-Ok-take_tick.ensures.ready;
       goes_on = c.in-Ok-take_tick.ensures.goes_on;
       keeper_later = omega (arith, loaded, keeper_first);
       results_later = results_first;
+      status_later = c.open_noted.ensures.later;
+      noted = c.open_noted.ensures.grown;
     }
 
 pub returns-in-Err-next_moment-clause-kept : goal.returns-in-Err-next_moment-clause-kept
 returns-in-Err-next_moment-clause-kept g c told =
-    let (moment, error, read, beyond) = c.in-Err-next_moment.ensures.beyond in
+    let (reading, read) = c.next_moment.ensures.once in
     let l = c.loop.invariant.looping in
-    still_kept g.S.Source.left (fixed_of g.K.Keeper.tells g.O.Sink.tells g.S.Source.tells g.S.Source.left c.args.setup.now c.args.configured.now.config c.args.configured.now.documents c.args.sources.now (g.K.Keeper.kept c.args.keeper.now) (g.O.Sink.written c.args.results.now)) g.C.Clock.reads c.args.clock.now c.loop.clock (g.K.Keeper.kept c.loop.keeper) c.loop.feeds c.loop.sources c.loop.last c.loop.state l.running.added moment c.next_moment.new.clock (g.K.Keeper.kept c.loop.keeper) read refl
+    still_kept g.S.Source.left (fixed_of g.K.Keeper.tells g.O.Sink.tells g.S.Source.tells g.S.Source.left c.args.setup.now c.args.configured.now.config c.args.configured.now.documents c.args.sources.now (g.K.Keeper.kept c.args.keeper.now) (g.O.Sink.written c.args.results.now)) g.C.Clock.reads c.args.clock.now c.loop.clock (g.K.Keeper.kept c.loop.keeper) c.loop.feeds c.loop.sources c.loop.last c.loop.state l.running.added reading c.next_moment.new.clock (g.K.Keeper.kept c.loop.keeper) read refl
 
 pub returns-in-Err-next_moment-clause-written : goal.returns-in-Err-next_moment-clause-written
 returns-in-Err-next_moment-clause-written g c told =
     still_written g.K.Keeper.tells g.O.Sink.tells g.S.Source.tells g.S.Source.left g.S.Source.faults c.args.setup.now c.args.configured.now.config c.args.configured.now.documents c.args.sources.now (g.K.Keeper.kept c.args.keeper.now) (g.O.Sink.written c.args.results.now) g.C.Clock.reads c.args.clock.now c.loop.clock c.loop.counter (g.K.Keeper.kept c.loop.keeper) (g.O.Sink.written c.loop.results) c.loop.feeds c.loop.sources c.loop.last c.loop.state c.loop.invariant.looping told
 
+pub returns-in-Err-next_moment-clause-keeper_cause : goal.returns-in-Err-next_moment-clause-keeper_cause
+returns-in-Err-next_moment-clause-keeper_cause g c refused is error =
+    let same : c.in-Err-next_moment.refused ≡ refused = (cc) in
+    absurd (subst (IsBetween _ _) (ap (λ (r : Refused). r.error) same ∙ error) c.in-Err-next_moment.ensures.cause)
+
+pub returns-in-Err-next_moment-clause-refused : goal.returns-in-Err-next_moment-clause-refused
+returns-in-Err-next_moment-clause-refused g c told refused is error =
+    let same : c.in-Err-next_moment.refused ≡ refused = (cc) in
+    absurd (subst (IsBetween _ _) (ap (λ (r : Refused). r.error) same ∙ error) c.in-Err-next_moment.ensures.cause)
+
+pub returns-in-Err-next_moment-clause-illegal : goal.returns-in-Err-next_moment-clause-illegal
+returns-in-Err-next_moment-clause-illegal g c told refused is error =
+    let same : c.in-Err-next_moment.refused ≡ refused = (cc) in
+    absurd (subst (IsBetween _ _) (ap (λ (r : Refused). r.error) same ∙ error) c.in-Err-next_moment.ensures.cause)
+
 pub returns-in-Err-next_moment-clause-moment : goal.returns-in-Err-next_moment-clause-moment
 returns-in-Err-next_moment-clause-moment g c refused moment is error =
     let same : c.in-Err-next_moment.refused ≡ refused = (cc) in
-    let (late, late_is, read, beyond) = c.in-Err-next_moment.ensures.beyond in
-    let at : late ≡ moment = one_moment late moment (sym late_is ∙ ap (λ (r : Refused). r.error) same ∙ error) in
+    let (read, beyond) = subst (IsBetween _ _) (ap (λ (r : Refused). r.error) same ∙ error) c.in-Err-next_moment.ensures.cause in
     let r = c.loop.invariant.looping.running.added in
-    (subst (λ m. 253402300799 < m) at beyond, (r.reading ∷ r.readings, subst (λ m. ReadsAll g.C.Clock.reads c.args.clock.now ((r.reading ∷ r.readings) ++ m ∷ []) c.next_moment.new.clock) at (reads_more g.C.Clock.reads c.args.clock.now c.loop.clock c.next_moment.new.clock (r.reading ∷ r.readings) late r.read read)))
+    (beyond, (r.reading ∷ r.readings, reads_more g.C.Clock.reads c.args.clock.now c.loop.clock c.next_moment.new.clock (r.reading ∷ r.readings) moment r.read read))
+
+pub returns-in-Err-next_moment-clause-fault : goal.returns-in-Err-next_moment-clause-fault
+returns-in-Err-next_moment-clause-fault g c refused place is error =
+    let same : c.in-Err-next_moment.refused ≡ refused = (cc) in
+    absurd (subst (IsBetween _ _) (ap (λ (r : Refused). r.error) same ∙ error) c.in-Err-next_moment.ensures.cause)
+
+pub returns-in-Err-next_moment-clause-shrank : goal.returns-in-Err-next_moment-clause-shrank
+returns-in-Err-next_moment-clause-shrank g c refused place kept found is error =
+    let same : c.in-Err-next_moment.refused ≡ refused = (cc) in
+    absurd (subst (IsBetween _ _) (ap (λ (r : Refused). r.error) same ∙ error) c.in-Err-next_moment.ensures.cause)
+
+pub returns-in-Err-next_moment-clause-spent : goal.returns-in-Err-next_moment-clause-spent
+returns-in-Err-next_moment-clause-spent g c refused is error =
+    let same : c.in-Err-next_moment.refused ≡ refused = (cc) in
+    absurd (subst (IsBetween _ _) (ap (λ (r : Refused). r.error) same ∙ error) c.in-Err-next_moment.ensures.cause)
+
+pub returns-in-Err-next_moment-clause-sink_cause : goal.returns-in-Err-next_moment-clause-sink_cause
+returns-in-Err-next_moment-clause-sink_cause g c refused is error =
+    let same : c.in-Err-next_moment.refused ≡ refused = (cc) in
+    let rose = subst (IsBetween _ _) (ap (λ (r : Refused). r.error) same ∙ error) c.in-Err-next_moment.ensures.cause in
+    let before = c.loop.invariant.status_later in
+    let behind = c.told-in-Err-next_moment.ensures.later in
+    inr (omega (arith, rose, before, behind))
+
+pub returns-in-Err-next_moment-clause-notes : goal.returns-in-Err-next_moment-clause-notes
+returns-in-Err-next_moment-clause-notes g c tells =
+    grown_then _ _ _ (grown_then _ _ _ (c.loop.invariant.noted tells) (c.next_moment.ensures.grown tells)) (c.told-in-Err-next_moment.ensures.grown tells)
 
 pub returns-in-Err-next_moment-clause-later : goal.returns-in-Err-next_moment-clause-later
 returns-in-Err-next_moment-clause-later g c =
-    (c.loop.invariant.keeper_later, c.loop.invariant.results_later)
+    let before = c.loop.invariant.status_later in
+    let noted = c.next_moment.ensures.later in
+    let behind = c.told-in-Err-next_moment.ensures.later in
+    (c.loop.invariant.keeper_later, c.loop.invariant.results_later, omega (arith, before, noted, behind))
 
 pub take_tick-requires-in-loop-clause-ready : goal.take_tick-requires-in-loop-clause-ready
 take_tick-requires-in-loop-clause-ready g c κs within =
@@ -149,7 +245,11 @@ returns-in-Err-take_tick-2-clause-sink_cause g c refused is error =
     let same : c.in-Err-take_tick-2.refused ≡ refused = (cc) in
     let rose = c.take_tick-in-loop.ensures.sink_cause c.in-Err-take_tick-2.refused c.in-Err-take_tick-2.is (ap (λ (r : Refused). r.error) same ∙ error) in
     let before = c.loop.invariant.results_later in
-    omega (arith, rose, before)
+    inl (omega (arith, rose, before))
+
+pub returns-in-Err-take_tick-2-clause-notes : goal.returns-in-Err-take_tick-2-clause-notes
+returns-in-Err-take_tick-2-clause-notes g c tells =
+    grown_then _ _ _ (grown_then _ _ _ (c.loop.invariant.noted tells) (c.next_moment.ensures.grown tells)) (c.told-in-Err-take_tick-2.ensures.grown tells)
 
 pub returns-in-Err-take_tick-2-clause-refused : goal.returns-in-Err-take_tick-2-clause-refused
 returns-in-Err-take_tick-2-clause-refused g c told refused is error fits =
@@ -177,19 +277,31 @@ returns-in-Err-take_tick-2-clause-shrank g c refused place kept found is error =
     let same : c.in-Err-take_tick-2.refused ≡ refused = (cc) in
     absurd ((c.take_tick-in-loop.ensures.opened c.in-Err-take_tick-2.refused c.in-Err-take_tick-2.is).2 place kept found (ap (λ (r : Refused). r.error) same ∙ error))
 
+pub returns-in-Err-take_tick-2-clause-spent : goal.returns-in-Err-take_tick-2-clause-spent
+returns-in-Err-take_tick-2-clause-spent g c refused is error =
+    let same : c.in-Err-take_tick-2.refused ≡ refused = (cc) in
+    let why = ap (λ (r : Refused). r.error) same ∙ error in
+    spent_on g.K.Keeper.tells g.O.Sink.tells g.S.Source.tells g.S.Source.left g.S.Source.faults c.args.setup.now c.args.configured.now.config c.args.configured.now.documents c.args.sources.now (g.K.Keeper.kept c.args.keeper.now) (g.O.Sink.written c.args.results.now) g.C.Clock.reads c.args.clock.now c.loop.clock c.next_moment.new.clock (g.K.Keeper.kept c.loop.keeper) (g.K.Keeper.kept c.take_tick-in-loop.new.keeper) c.loop.feeds c.take_tick-in-loop.new.feeds c.loop.sources c.take_tick-in-loop.new.sources c.loop.last c.in-Ok-next_moment.moment c.loop.state c.take_tick-in-loop.new.state c.loop.invariant.looping.running.added c.loop.invariant.ready.going.distinct c.in-Ok-next_moment.ensures.read
+    (λ tells. c.take_tick-in-loop.ensures.unkept tells c.in-Err-take_tick-2.refused c.in-Err-take_tick-2.is why) (c.take_tick-in-loop.ensures.spent c.in-Err-take_tick-2.refused c.in-Err-take_tick-2.is why)
+
 pub returns-in-Err-take_tick-2-clause-later : goal.returns-in-Err-take_tick-2-clause-later
 returns-in-Err-take_tick-2-clause-later g c =
     let k = c.loop.invariant.keeper_later in
     let r = c.loop.invariant.results_later in
+    let s = c.loop.invariant.status_later in
     let ticked = c.take_tick-in-loop.ensures.later in
     let k2 = ticked.0 in
     let r2 = ticked.1 in
-    (omega (arith, k, k2), omega (arith, r, r2))
+    let noted = c.next_moment.ensures.later in
+    let behind = c.told-in-Err-take_tick-2.ensures.later in
+    (omega (arith, k, k2), omega (arith, r, r2), omega (arith, s, noted, behind))
 
 pub loop-preserved : goal.loop-preserved
 loop-preserved g c =
     let k = c.loop.invariant.keeper_later in
     let r = c.loop.invariant.results_later in
+    let s = c.loop.invariant.status_later in
+    let noted = c.next_moment.ensures.later in
     let ticked = c.take_tick-in-loop.ensures.later in
     let k2 = ticked.0 in
     let r2 = ticked.1 in
@@ -199,6 +311,8 @@ loop-preserved g c =
       goes_on = c.in-Ok-take_tick-2.ensures.goes_on;
       keeper_later = omega (arith, k, k2);
       results_later = omega (arith, r, r2);
+      status_later = omega (arith, s, noted);
+      noted = λ tells. grown_then _ _ _ (c.loop.invariant.noted tells) (c.next_moment.ensures.grown tells);
     }
 
 pub returns-clause-done : goal.returns-clause-done
@@ -207,7 +321,8 @@ returns-clause-done g c =
     let past = c.loop-test.false in
     let within = c.loop.auto.counter-end in
     let some = c.requires.ticks in
-    has_run g.S.Source.left (fixed_of g.K.Keeper.tells g.O.Sink.tells g.S.Source.tells g.S.Source.left c.args.setup.now c.args.configured.now.config c.args.configured.now.documents c.args.sources.now (g.K.Keeper.kept c.args.keeper.now) (g.O.Sink.written c.args.results.now)) g.C.Clock.reads c.args.clock.now c.loop.clock (g.K.Keeper.kept c.loop.keeper) (g.O.Sink.written c.loop.results) c.loop.feeds c.loop.sources c.loop.last c.loop.state l.running c.is_state.ensures c.loop.invariant.ready c.coverage.ensures c.args.setup.now.ticks (record { is_end = c.are_over.result; numbers = c.numbers_of.result }) (l.count ∙ omega (arith, past, within, some)) c.are_over.ensures c.numbers_of.ensures
+    of_value _ _ _ c.end_session.result c.end_session.ensures.is_end c.end_session.ensures.numbers
+    (λ ended is_end numbers. has_run g.S.Source.left (fixed_of g.K.Keeper.tells g.O.Sink.tells g.S.Source.tells g.S.Source.left c.args.setup.now c.args.configured.now.config c.args.configured.now.documents c.args.sources.now (g.K.Keeper.kept c.args.keeper.now) (g.O.Sink.written c.args.results.now)) g.C.Clock.reads c.args.clock.now c.loop.clock (g.K.Keeper.kept c.loop.keeper) (g.O.Sink.written c.loop.results) c.loop.feeds c.loop.sources c.loop.last c.loop.state l.running c.is_state.ensures c.loop.invariant.ready c.coverage.ensures c.args.setup.now.ticks ended (l.count ∙ omega (arith, past, within, some)) is_end numbers)
 
 pub returns-clause-kept : goal.returns-clause-kept
 returns-clause-kept g c told =
@@ -217,6 +332,46 @@ pub returns-clause-written : goal.returns-clause-written
 returns-clause-written g c told =
     still_written g.K.Keeper.tells g.O.Sink.tells g.S.Source.tells g.S.Source.left g.S.Source.faults c.args.setup.now c.args.configured.now.config c.args.configured.now.documents c.args.sources.now (g.K.Keeper.kept c.args.keeper.now) (g.O.Sink.written c.args.results.now) g.C.Clock.reads c.args.clock.now c.loop.clock c.loop.counter (g.K.Keeper.kept c.loop.keeper) (g.O.Sink.written c.loop.results) c.loop.feeds c.loop.sources c.loop.last c.loop.state c.loop.invariant.looping told
 
+pub returns-clause-keeper_cause : goal.returns-clause-keeper_cause
+returns-clause-keeper_cause g c refused is error =
+    absurd (subst (IsBetween _ _) error (of_error _ c.end_session.result refused c.end_session.ensures.cause is))
+
+pub returns-clause-refused : goal.returns-clause-refused
+returns-clause-refused g c told refused is error =
+    absurd (subst (IsBetween _ _) error (of_error _ c.end_session.result refused c.end_session.ensures.cause is))
+
+pub returns-clause-illegal : goal.returns-clause-illegal
+returns-clause-illegal g c told refused is error =
+    absurd (subst (IsBetween _ _) error (of_error _ c.end_session.result refused c.end_session.ensures.cause is))
+
+pub returns-clause-moment : goal.returns-clause-moment
+returns-clause-moment g c refused moment is error =
+    absurd (subst (IsBetween _ _) error (of_error _ c.end_session.result refused c.end_session.ensures.cause is))
+
+pub returns-clause-fault : goal.returns-clause-fault
+returns-clause-fault g c refused place is error =
+    absurd (subst (IsBetween _ _) error (of_error _ c.end_session.result refused c.end_session.ensures.cause is))
+
+pub returns-clause-shrank : goal.returns-clause-shrank
+returns-clause-shrank g c refused place kept found is error =
+    absurd (subst (IsBetween _ _) error (of_error _ c.end_session.result refused c.end_session.ensures.cause is))
+
+pub returns-clause-spent : goal.returns-clause-spent
+returns-clause-spent g c refused is error =
+    absurd (subst (IsBetween _ _) error (of_error _ c.end_session.result refused c.end_session.ensures.cause is))
+
+pub returns-clause-sink_cause : goal.returns-clause-sink_cause
+returns-clause-sink_cause g c refused is error =
+    let rose = subst (IsBetween _ _) error (of_error _ c.end_session.result refused c.end_session.ensures.cause is) in
+    let before = c.loop.invariant.status_later in
+    inr (omega (arith, rose, before))
+
+pub returns-clause-notes : goal.returns-clause-notes
+returns-clause-notes g c tells =
+    grown_then _ _ _ (c.loop.invariant.noted tells) (c.end_session.ensures.grown tells)
+
 pub returns-clause-later : goal.returns-clause-later
 returns-clause-later g c =
-    (c.loop.invariant.keeper_later, c.loop.invariant.results_later)
+    let before = c.loop.invariant.status_later in
+    let behind = c.end_session.ensures.later in
+    (c.loop.invariant.keeper_later, c.loop.invariant.results_later, omega (arith, before, behind))

@@ -1,5 +1,6 @@
 use Rattle.std.proofs.Common.{◌≤◌}
 use Rattle.daemon_rounds.specs.Keeping.{GoesOn}
+use Rattle.replay_rounds.specs.Noting.{IsGrown}
 use Rattle.replay_rounds.specs.Standing.{IsReady}
 use Rattle.replay_rounds.proofs.Looping.{IsLooping}
 use Rattle.replay_rounds.proofs.running.run_session.Given as goal
@@ -12,4 +13,6 @@ invariant-loop g l = record {
   goes_on : GoesOn g.K.Keeper.tells (g.K.Keeper.kept l.keeper) l.state;
   keeper_later : g.K.Keeper.faults l.fn.keeper ≤ g.K.Keeper.faults l.keeper;
   results_later : g.O.Sink.faults l.fn.results ≤ g.O.Sink.faults l.results;
+  status_later : g.O.Sink.faults l.fn.status ≤ g.O.Sink.faults l.status;
+  noted : g.O.Sink.tells → IsGrown (g.O.Sink.written l.fn.status) (g.O.Sink.written l.status);
 }

@@ -130,7 +130,13 @@ pub returns-in-Err-finish_tick-clause-spent : goal.returns-in-Err-finish_tick-cl
 returns-in-Err-finish_tick-clause-spent g c refused is error =
     let same : c.unfinished.result ≡ refused = (cc) in
     let why = unfinished_spent c.in-Err-finish_tick.error (sym c.unfinished.ensures ∙ ap (λ (r : Refused). r.error) same ∙ error) in
-    inl (c.finish_tick.ensures.spent (c.in-Err-finish_tick.is ∙ ap Err why))
+    inl (c.fill_tick.new.state, c.in-Ok.ensures.fills, c.finish_tick.ensures.spent (c.in-Err-finish_tick.is ∙ ap Err why))
+
+pub returns-in-Err-finish_tick-clause-unkept : goal.returns-in-Err-finish_tick-clause-unkept
+returns-in-Err-finish_tick-clause-unkept g c told refused is error =
+    let same : c.unfinished.result ≡ refused = (cc) in
+    let why = unfinished_spent c.in-Err-finish_tick.error (sym c.unfinished.ensures ∙ ap (λ (r : Refused). r.error) same ∙ error) in
+    c.finish_tick.ensures.unkept told (inl (c.in-Err-finish_tick.is ∙ ap Err why))
 
 pub returns-in-Err-finish_tick-clause-keeper_cause : goal.returns-in-Err-finish_tick-clause-keeper_cause
 returns-in-Err-finish_tick-clause-keeper_cause g c refused is error =

@@ -1,0 +1,226 @@
+-- A session in which a number is spent.
+use Rattle.std.proofs.Common.{◌≡◌, ℕ, ◌+◌, ◌<◌, List, [], ◌∷◌, ◌++◌, length, inl, inr, refl, sym, ap, ◌∙◌, subst, append_assoc}
+use Rattle.std.specs.Prelude.{◌^◌, bytes_eq, max}
+use Rattle.std.proofs.lemmas.List.{append-nil}
+use Rattle.osq_config.specs.declared.config.Config.{Config}
+use Rattle.source_feeds.specs.Feeding.{Feeding}
+use Rattle.entry_model.specs.declared.entry.Entry.{Entry}
+use Rattle.entry_model.specs.declared.entry.Entry.TheVariants.{Opened, Ticked}
+use Rattle.entry_model.specs.declared.restored.Restored.{Restored}
+use Rattle.entry_model.specs.Fits.{IsDistinct}
+use Rattle.entry_model.specs.Legal.{Legal}
+use Rattle.entry_model.specs.Next.{offset_at}
+use Rattle.entry_model.specs.Summary.{summary}
+use Rattle.entry_model.specs.Values.{commits, moment_in, moment_of}
+use Rattle.entry_model.proofs.Lasts.{last_of-append}
+use Rattle.entry_model.proofs.Summaries.{taken_is}
+use Rattle.session_model.specs.Given.{Source}
+use Rattle.session_state.specs.Kept.{Counts, Kept}
+use Rattle.session_state.specs.Stands.{HasValues}
+use Rattle.daemon_rounds.specs.Adding.{Brings}
+use Rattle.daemon_rounds.specs.Answering.{SpendsBatches, committed_all}
+use Rattle.daemon_rounds.specs.Moments.{IsRead}
+use Rattle.daemon_rounds.specs.Rounding.{AreGoing, Overflows, Rounds, names_of, round_entries}
+use Rattle.daemon_rounds.specs.Session.{IsOverfull}
+use Rattle.daemon_rounds.specs.Starting.{source_names}
+use Rattle.daemon_rounds.specs.declared.setup.Setup.{Setup}
+use Rattle.daemon_rounds.specs.declared.turning.Which.TheVariants as which
+use Rattle.daemon_rounds.proofs.Adding.{brings_then}
+use Rattle.daemon_rounds.proofs.Started.{all_going}
+use Rattle.replay_rounds.specs.Fixed.{Fixed, fixed_of}
+use Rattle.replay_rounds.specs.Running.{ReadsAll}
+use Rattle.replay_rounds.specs.Sources.{AreFed}
+use Rattle.replay_rounds.specs.Spent.{AnswersFront, HasSpent, SpendsAt, StepsSpend, TickSpends}
+use Rattle.replay_rounds.specs.Standing.{Standing}
+use Rattle.replay_rounds.specs.Ticked.{SpendsTick}
+use Rattle.replay_rounds.proofs.Answered.{answered_front}
+use Rattle.replay_rounds.proofs.Begins.{BeginsTick, begins_tick, values_behind}
+use Rattle.replay_rounds.proofs.Begun.{started_fed}
+use Rattle.replay_rounds.proofs.Feeds.{fed_on}
+use Rattle.replay_rounds.proofs.Nothing.{nothing_behind, opened_nothing}
+use Rattle.replay_rounds.proofs.OpenedSession.{OpensSession}
+use Rattle.replay_rounds.proofs.Overrun.{overflow_brings, overflow_entries, overflow_spends, tables_keep}
+use Rattle.replay_rounds.proofs.Ran.{IsAdded, all_kept, moment_is, reads_more}
+use Rattle.replay_rounds.proofs.Stepped.{every_source, rounds_taken}
+
+-- By the list: behind what the session has added a tick at this moment has these entries up to the place at which no number is left.
+pub record SpendsBehind (x : Fixed) (added : List Entry) (moment : ℕ) : Type 0 where
+  pub own : List Entry
+  pub legal : x.keeper_tells → Legal x.start → Legal ((x.start ++ added) ++ own)
+  pub spends : x.keeper_tells → x.source_tells → Legal x.start → TickSpends x.given (x.start ++ added) moment own
+
+module _ {S : Type 0} (left : S → List ℕ) (faults : S → ℕ) (x : Fixed) (added kept : List Entry) (feeds nexts : List Feeding) (objects rests : List S) (configured_at moment : ℕ) (old configured : Kept) (standing : Standing left x added kept feeds objects configured_at old) (distinct : IsDistinct bytes_eq (names_of feeds)) (b : BeginsTick left x added feeds objects configured_at moment old configured) where
+  abbrev begun : List Entry
+  begun = Ticked moment ∷ b.anew
+
+  -- a source gives too much
+  by_events : (new : Kept) → Overflows x.source_tells left faults which.Every x.given.records feeds nexts objects rests configured new → SpendsBehind x added moment
+  by_events new o = record {
+    own = begun ++ rest;
+    legal = λ tells legal. (values_behind left x added kept feeds objects configured_at old standing (begun ++ rest) new brings tells legal).legal;
+    spends = λ tells told legal. record {
+      configured = b.anew;
+      rest = rest;
+      configures = b.configures tells legal;
+      spends = inl (subst (λ (sources : List Source). StepsSpend x.given ((x.start ++ added) ++ begun) sources rest) (every_source x.given.sources)
+          (overflow_spends x.source_tells left faults which.Every x.given feeds nexts objects rests configured new o x.start ((x.start ++ added) ++ begun) told b.at distinct (b.fed tells)
+          (subst (λ (list : List Entry). HasValues list new) (sym (append_assoc (x.start ++ added) begun rest)) (values_behind left x added kept feeds objects configured_at old standing (begun ++ rest) new brings tells legal))));
+      are = refl;
+    };
+  }
+    where
+      rest : List Entry
+      rest = overflow_entries x.source_tells left faults which.Every x.given feeds nexts objects rests configured new o
+
+      brings : Brings old (begun ++ rest) new
+      brings =
+          brings_then old configured new begun rest b.brings (overflow_brings x.source_tells left faults which.Every x.given feeds nexts objects rests configured new o)
+
+  -- each source had its turn, and no number is left for a batch
+  by_batches : (filled : Kept) → Rounds x.source_tells left faults which.Every x.given.records feeds nexts objects rests configured filled → SpendsBatches filled → SpendsBehind x added moment
+  by_batches filled rounds spent = record {
+    own = begun ++ (taken ++ answered);
+    legal = λ tells legal. (has tells legal).legal;
+    spends = λ tells told legal. record {
+      configured = b.anew;
+      rest = taken ++ answered;
+      configures = b.configures tells legal;
+      spends = inr (record {
+        taken = taken;
+        answered = answered;
+        takes = (rounds_taken x.source_tells left faults x.given x.start ((x.start ++ added) ++ begun) configured.counts.moment feeds nexts objects rests rounds.turns told b.at (b.fed tells) distinct rounds.whole rounds.each).0;
+        answers = answers tells legal;
+        are = refl;
+        beyond = subst (λ (list : List Entry). 2 ^ 62 < length (commits list) + 1) (sym (append_assoc (x.start ++ added) begun (taken ++ answered)))
+            (subst (λ (count : ℕ). 2 ^ 62 < count + 1) (sym (ap (λ (c : Counts). c.batches) (has tells legal).counts)) spent.beyond);
+      });
+      are = refl;
+    };
+  }
+    where
+      taken : List Entry
+      taken = round_entries configured.counts.moment rounds.turns
+
+      answered : List Entry
+      answered = committed_all spent.batches
+
+      fills : Brings old (begun ++ taken) filled
+      fills = brings_then old configured filled begun taken b.brings rounds.brings
+
+      brings : Brings old (begun ++ (taken ++ answered)) spent.between
+      brings =
+          subst (λ (es : List Entry). Brings old es spent.between) (append_assoc begun taken answered) (brings_then old filled spent.between (begun ++ taken) answered fills spent.brings)
+
+      has : x.keeper_tells → Legal x.start → HasValues ((x.start ++ added) ++ (begun ++ (taken ++ answered))) spent.between
+      has =
+          values_behind left x added kept feeds objects configured_at old standing (begun ++ (taken ++ answered)) spent.between brings
+
+      answers : x.keeper_tells → Legal x.start → AnswersFront (((x.start ++ added) ++ begun) ++ taken) answered
+      answers tells legal =
+          let free = fills.free standing.free in
+          let (place, due) = spent.due (spent.brings.free free) in
+          let list : x.start ++ (added ++ (begun ++ taken)) ≡ ((x.start ++ added) ++ begun) ++ taken = sym (append_assoc x.start added (begun ++ taken)) ∙ sym (append_assoc (x.start ++ added) begun taken) in
+          subst (λ (entries : List Entry). AnswersFront entries answered) list
+          (answered_front standing.base x.start legal (standing.same tells) (added ++ (begun ++ taken)) filled spent.between spent.batches place (fills.stands standing.base added standing.stands) free spent.each spent.own spent.is due)
+
+module _ {S C : Type 0} (keeper_tells sink_tells tells : Type 0) (left : S → List ℕ) (faults : S → ℕ) (setup : Setup) (config : Config) (documents : List (List ℕ)) (sources : List S) (start : List Entry) (before : List ℕ) (reads : C → ℕ → C → Type 0) (clock : C) where
+  abbrev x : Fixed
+  x = fixed_of keeper_tells sink_tells tells left setup config documents sources start before
+
+  -- An opening spends no number, since a source of tables gives no event.
+  pub spent_nowhere : (now : C) (reading : ℕ) (restored : Restored) (kept : List Entry) (rests : List S) → reads clock reading now → (keeper_tells → restored ≡ summary start) → (keeper_tells → kept ≡ start) → IsDistinct bytes_eq (source_names setup.sources) → IsOverfull tells left faults setup config restored sources rests → HasSpent x (λ readings. ReadsAll reads clock readings now) kept
+  spent_nowhere now reading restored kept rests read same kept_is distinct over = record {
+    readings = [];
+    reading = reading;
+    read = (now, read, refl);
+    added = [];
+    grows = record { grown = λ told. kept_is told ∙ sym (append-nil start); adds = λ told sources legal. refl };
+    entries = [];
+    legal = λ told legal. subst Legal (sym (append-nil kept ∙ kept_is told)) legal;
+    spends = λ told gives legal. absurd (never told gives legal);
+  }
+    where
+      o : Overflows tells left faults which.Tables setup.records over.started over.nexts over.between rests over.too_much.begun over.too_much.last
+      o = over.too_much.overflows
+
+      opened : List Entry
+      opened = Opened (restored.sessions + 1) ∷ []
+
+      came : List Entry
+      came = overflow_entries tells left faults which.Tables x.given over.started over.nexts over.between rests over.too_much.begun over.too_much.last o
+
+      going : AreGoing restored.taken over.started
+      going =
+          all_going tells left faults restored.taken config.categories setup.sources over.starts.opened over.started sources over.between over.starts.of_sources over.starts.starts distinct
+
+      fed : keeper_tells → AreFed tells left config.categories start (start ++ opened) x.given.sources over.started over.between
+      fed told =
+          fed_on tells left config.categories start start (start ++ opened) x.given.sources over.started over.between (nothing_behind start opened (opened_nothing (restored.sessions + 1)))
+          (started_fed tells left faults config.categories start restored.taken setup.sources over.started sources over.between (λ name. ap (λ (r : Restored). offset_at r.taken name) (same told) ∙ taken_is start name) over.starts)
+
+      at : keeper_tells → over.too_much.begun.counts.moment ≡ moment_of (start ++ opened)
+      at told =
+          ap (λ (c : Counts). c.moment) over.too_much.begins.counts ∙ ap (λ (r : Restored). r.moment) (same told) ∙ sym (last_of-append moment_in 0 start opened)
+
+      has : keeper_tells → Legal start → HasValues ((start ++ opened) ++ came) over.too_much.last
+      has told legal =
+          subst (λ (list : List Entry). HasValues list over.too_much.last) (sym (append_assoc start opened came))
+          (((overflow_brings tells left faults which.Tables x.given over.started over.nexts over.between rests over.too_much.begun over.too_much.last o).stands restored opened over.too_much.begins.stands).values start legal (sym (same told)))
+
+      never : keeper_tells → tells → Legal start → ⊥
+      never told gives legal =
+          tables_keep x.given (start ++ opened) x.given.sources came
+          (overflow_spends tells left faults which.Tables x.given over.started over.nexts over.between rests over.too_much.begun over.too_much.last o start (start ++ opened) gives (at told) going.distinct (fed told) (has told legal)) (has told legal).legal
+
+  tick_spends : (added kept : List Entry) (feeds nexts : List Feeding) (objects rests : List S) (configured_at moment : ℕ) (old new : Kept) → Standing left x added kept feeds objects configured_at old → IsDistinct bytes_eq (names_of feeds) → SpendsTick tells left faults setup config documents configured_at moment feeds nexts objects rests old new → SpendsBehind x added moment
+  tick_spends added kept feeds nexts objects rests configured_at moment old new standing distinct (inl (filled, fills, spent)) =
+      by_batches left faults x added kept feeds nexts objects rests configured_at moment old fills.configured standing distinct (begins_tick left x added kept feeds objects configured_at old standing moment fills.ticked fills.configured fills.ticks fills.again) filled fills.rounds spent
+  tick_spends added kept feeds nexts objects rests configured_at moment old new standing distinct (inr fills) =
+      by_events left faults x added kept feeds nexts objects rests configured_at moment old fills.configured standing distinct (begins_tick left x added kept feeds objects configured_at old standing moment fills.ticked fills.configured fills.ticks fills.again) new fills.overflows
+
+  -- in the first tick
+  pub spent_first : (now : C) (kept next : List Entry) (feeds nexts : List Feeding) (objects rests : List S) (opened_at : ℕ) (old new : Kept) → OpensSession left x reads clock now kept feeds objects opened_at old → IsDistinct bytes_eq (names_of feeds) → (keeper_tells → next ≡ start)
+      → SpendsTick tells left faults setup config documents opened_at opened_at feeds nexts objects rests old new → HasSpent x (λ readings. ReadsAll reads clock readings now) next
+  spent_first now kept next feeds nexts objects rests opened_at old new o distinct same spends = record {
+    readings = [];
+    reading = o.reading;
+    read = (now, o.read, refl);
+    added = [];
+    grows = record { grown = λ told. same told ∙ sym (append-nil start); adds = λ told sources legal. refl };
+    entries = opening ++ s.own;
+    legal = λ told legal. subst Legal (sym (ap (λ (list : List Entry). list ++ (opening ++ s.own)) (same told) ∙ sym (append_assoc start opening s.own))) (s.legal told legal);
+    spends = λ told sources legal.
+        subst (λ (list : List Entry). SpendsAt x.given list [] o.reading (opening ++ s.own)) (sym (same told))
+        (opening, s.own, o.opens told sources legal, subst (λ (m : ℕ). TickSpends x.given (start ++ opening) m s.own) o.at (s.spends told sources legal), refl);
+  }
+    where
+      opening : List Entry
+      opening = Opened o.number ∷ o.rest
+
+      s : SpendsBehind x (Opened o.number ∷ o.rest) opened_at
+      s = tick_spends (Opened o.number ∷ o.rest) kept feeds nexts objects rests opened_at opened_at old new o.standing distinct spends
+
+  -- in a further tick
+  pub spent_on : (between now : C) (kept next : List Entry) (feeds nexts : List Feeding) (objects rests : List S) (configured_at moment : ℕ) (old new : Kept) → IsAdded left x reads clock between kept feeds objects configured_at old → IsDistinct bytes_eq (names_of feeds) → IsRead reads between now old.counts.moment moment → (keeper_tells → next ≡ kept)
+      → SpendsTick tells left faults setup config documents configured_at moment feeds nexts objects rests old new → HasSpent x (λ readings. ReadsAll reads clock readings now) next
+  spent_on between now kept next feeds nexts objects rests configured_at moment old new r distinct read same spends = record {
+    readings = r.reading ∷ r.readings;
+    reading = read.reading;
+    read = reads_more reads clock between now (r.reading ∷ r.readings) read.reading r.read read.reads_it;
+    added = r.entries;
+    grows = record { grown = list_is; adds = r.session };
+    entries = s.own;
+    legal = λ told legal. subst (λ (list : List Entry). Legal (list ++ s.own)) (sym (list_is told)) (s.legal told legal);
+    spends = λ told sources legal.
+        subst (λ (list : List Entry). TickSpends x.given list (max read.reading (moment_of list)) s.own) (sym (list_is told))
+        (subst (λ (m : ℕ). TickSpends x.given (start ++ r.entries) m s.own) (at told legal) (s.spends told sources legal));
+  }
+    where
+      s : SpendsBehind x r.entries moment
+      s = tick_spends r.entries kept feeds nexts objects rests configured_at moment old new r.standing distinct spends
+
+      list_is : keeper_tells → next ≡ start ++ r.entries
+      list_is told = same told ∙ all_kept left x r.entries kept feeds objects configured_at old r.standing r.empty told
+
+      at : keeper_tells → Legal start → moment ≡ max read.reading (moment_of (start ++ r.entries))
+      at told legal = read.is ∙ ap (max read.reading) (sym (moment_is left x r.entries kept feeds objects configured_at old r.standing told legal))

@@ -1,0 +1,11 @@
+use Rattle.std.proofs.Common.{arith}
+use Rattle.replay_rounds.proofs.running.next_moment.Goals as goal
+
+pub write_notes-requires : goal.write_notes-requires
+write_notes-requires g c =
+    let read = c.in-Ok.ensures.read in
+    let calendar = read.calendar in
+    let is = read.is in
+    let last = c.moment.ensures in
+    let kept = c.is_state.ensures.moment in
+    omega (arith, calendar, is, last, kept)

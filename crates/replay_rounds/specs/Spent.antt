@@ -1,0 +1,74 @@
+-- A session that a spent number ends.
+use Rattle.std.specs.Prelude.{◌≡◌, ◌⊎◌, ℕ, ◌+◌, ◌<◌, ◌^◌, max, List, [], ◌∷◌, ◌++◌, length}
+use Rattle.pack_rules.specs.declared.schedule.QueryKey.{QueryKey}
+use Rattle.entry_model.specs.declared.entry.Entry.{Entry}
+use Rattle.entry_model.specs.declared.entry.Entry.TheVariants.{Ticked}
+use Rattle.entry_model.specs.Legal.{Legal}
+use Rattle.entry_model.specs.Values.{commits, events_in, last_number, moment_of}
+use Rattle.entry_model.specs.Views.{due_queries}
+use Rattle.session_model.specs.Configuring.{ConfiguresAgain}
+use Rattle.session_model.specs.Given.{Given, Source}
+use Rattle.session_model.specs.Sessions.{Opens}
+use Rattle.session_model.specs.Taking.{TakesStep, TakesSteps}
+use Rattle.session_model.specs.Ticking.{Answers}
+use Rattle.replay_rounds.specs.Fixed.{Fixed}
+use Rattle.replay_rounds.specs.Running.{Grows}
+
+-- A step of the source behind this list gives these entries, and then one whose events would have numbers beyond 2^62.
+pub record StepSpends (given : Given) (kept : List Entry) (source : Source) (entries : List Entry) : Type 0 where
+  pub next : Entry
+  pub rest : List Entry
+  pub step : TakesStep given kept source (entries ++ next ∷ rest)
+  pub beyond : 2 ^ 62 < last_number (kept ++ entries) + length (events_in next)
+
+-- each of these sources takes a step, one after another, up to one whose step spends the numbers
+abbrev pub StepsSpend : Given → List Entry → List Source → List Entry → Type 0
+StepsSpend given kept [] entries = ⊥
+StepsSpend given kept (source ∷ sources) entries =
+    StepSpends given kept source entries
+    ⊎ ((own others : List Entry) × TakesStep given kept source own × StepsSpend given (kept ++ own) sources others × (entries ≡ own ++ others))
+
+-- these are the batches of the first of the queries that are due behind this list, but not of all of them
+pub record AnswersFront (kept entries : List Entry) : Type 0 where
+  pub front : List QueryKey
+  pub next : QueryKey
+  pub later : List QueryKey
+  pub due : due_queries kept ≡ front ++ next ∷ later
+  pub answers : Answers kept front entries
+
+-- Each source takes a step, some of the queries that are then due are answered, and the number of the next one's batch would pass 2^62.
+pub record BatchSpends (given : Given) (kept entries : List Entry) : Type 0 where
+  pub taken : List Entry
+  pub answered : List Entry
+  pub takes : TakesSteps given kept given.sources taken
+  pub answers : AnswersFront (kept ++ taken) answered
+  pub are : entries ≡ taken ++ answered
+  pub beyond : 2 ^ 62 < length (commits (kept ++ entries)) + 1
+
+-- At this moment a tick begins, the session is configured again where that is due, and then no number is left: for the events that a source gave,
+-- or for a batch. Up to there the tick has these entries.
+pub record TickSpends (given : Given) (kept : List Entry) (moment : ℕ) (entries : List Entry) : Type 0 where
+  pub configured : List Entry
+  pub rest : List Entry
+  pub configures : ConfiguresAgain given (kept ++ Ticked moment ∷ []) moment configured
+  pub spends : StepsSpend given (kept ++ (Ticked moment ∷ configured)) given.sources rest ⊎ BatchSpends given (kept ++ (Ticked moment ∷ configured)) rest
+  pub are : entries ≡ (Ticked moment ∷ configured) ++ rest
+
+-- that tick comes at this reading of the clock, behind ticks at those readings; before its first tick a session opens
+abbrev pub SpendsAt : Given → List Entry → List ℕ → ℕ → List Entry → Type 0
+SpendsAt given kept [] reading entries =
+    (opening own : List Entry) × Opens given kept reading opening × TickSpends given (kept ++ opening) (max reading (moment_of (kept ++ opening))) own × (entries ≡ opening ++ own)
+SpendsAt given kept (before ∷ readings) reading entries =
+    TickSpends given kept (max reading (moment_of kept)) entries
+
+-- The list has grown by the ticks at these readings of the clock, and at the next reading a number was spent: behind the list there would be
+-- these entries, up to the place at which no number is left.
+pub record HasSpent (x : Fixed) (has_read : List ℕ → Type 0) (kept : List Entry) : Type 0 where
+  pub readings : List ℕ
+  pub reading : ℕ
+  pub read : has_read (readings ++ reading ∷ [])
+  pub added : List Entry
+  pub grows : Grows x kept readings added
+  pub entries : List Entry
+  pub legal : x.keeper_tells → Legal x.start → Legal (kept ++ entries)
+  pub spends : x.keeper_tells → x.source_tells → Legal x.start → SpendsAt x.given kept readings reading entries

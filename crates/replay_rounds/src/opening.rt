@@ -1,0 +1,77 @@
+//! A session opens, and what is to be told of its configuration is written.
+
+ghost use Rattle.std.specs.Prelude.{◌≡◌, ◌≢◌, ◌<◌, ◌≤◌, ℕ, length, bytes_eq, Err, IfOk, IfErr};
+ghost use Rattle.osq_config.specs.Bounds.{IsBounded};
+ghost use Rattle.osq_outside.specs.Causes.{Rose};
+ghost use Rattle.entry_model.specs.Fits.{Fits, IsDistinct};
+ghost use Rattle.daemon_rounds.specs.Rounding.{AreGoing, FailsAt};
+ghost use Rattle.daemon_rounds.specs.Session.{IsOpen, IsOverfull};
+ghost use Rattle.daemon_rounds.specs.Starting.{HasShrunk, source_names};
+ghost use Rattle.replay_rounds.specs.Noting.{IsGrown};
+ghost use Rattle.replay_rounds.specs.declared.refused.Refused.{Refused};
+ghost use Rattle.replay_rounds.specs.declared.refused.RunError.{RunError};
+
+use crate::noting::{told, write_notes};
+use crate::refused::{Numbers, Refused, unnoted, unopened};
+use config_files::Configured;
+use daemon_rounds::setup::Setup;
+use daemon_rounds::{Session, open_session};
+use entry_model::restored::Restored;
+use osq_outside::{Clock, Sink, Source};
+use std::alloc::Global;
+
+/// The numbers of these values.
+fn numbers_in(restored: &Restored) -> Numbers {
+    Numbers {
+        events: restored.last,
+        batches: restored.batches,
+        acknowledged: restored.acked,
+    }
+}
+
+/// Opens a session over the values of a kept list, and writes what is to be told of its configuration. No two sources have one name.
+pub(crate) fn open_noted<S: Source, C: Clock, O: Sink>(
+    alloc: Global,
+    setup: &Setup,
+    configured: &Configured,
+    restored: Restored,
+    clock: &mut C,
+    sources: &mut [S],
+    status: &mut O,
+) -> Result<Session, Refused>
+    requires fits { Fits restored }
+    requires bounded { IsBounded configured.now.config }
+    requires paired { length sources.old ≡ length setup.now.sources }
+    requires distinct { IsDistinct bytes_eq (source_names setup.now.sources) }
+    ensures opened { IfOk result (λ session. IsOpen S.tells S.left S.faults C.reads setup.now configured.now.config configured.now.documents restored clock.old clock.new sources.old sources.new session.configured_at session.feeds.items session.state) }
+    ensures going { IfOk result (λ session. AreGoing session.state.counts.taken session.feeds.items) }
+    ensures read { (reading : ℕ) × C.reads clock.old reading clock.new }
+    ensures loaded { IfErr result (λ refused. (refused.error ≢ RunError.KeeperFault) × (refused.error ≢ RunError.KeeperRefused)) }
+    ensures moment { (refused : Refused) (moment : ℕ) → result ≡ Err refused → refused.error ≡ RunError.MomentTooLarge moment → C.reads clock.old moment clock.new × (253402300799 < moment) }
+    ensures fault { (refused : Refused) (place : ℕ) → result ≡ Err refused → refused.error ≡ RunError.SourceFault place → FailsAt S.faults place sources.old sources.new }
+    ensures shrank { (refused : Refused) (place kept found : ℕ) → result ≡ Err refused → refused.error ≡ RunError.SourceShrank place kept found → HasShrunk S.tells S.left restored.taken setup.now.sources place kept found sources.old }
+    ensures spent { (refused : Refused) → result ≡ Err refused → refused.error ≡ RunError.NumbersSpent → IsOverfull S.tells S.left S.faults setup.now configured.now.config restored sources.old sources.new }
+    ensures sink_cause { (refused : Refused) → result ≡ Err refused → refused.error ≡ RunError.SinkFault → Rose (O.faults status.old) (O.faults status.new) }
+    ensures grown { O.tells → IsGrown (O.written status.old) (O.written status.new) }
+    ensures later { O.faults status.old ≤ O.faults status.new }
+{
+    let kept = numbers_in(&restored);
+    let session = match open_session(alloc, setup, configured, restored, clock, sources) {
+        Ok(session) => session,
+        Err(error) => return Err(unopened(error, kept)),
+    };
+    match write_notes(
+        alloc,
+        setup,
+        configured,
+        &session.state,
+        status,
+        session.configured_at,
+    ) {
+        Ok(()) => Ok(session),
+        Err(error) => {
+            let feeds = session.feeds.as_slice();
+            Err(told(alloc, feeds, status, unnoted(error, kept)))
+        }
+    }
+}
