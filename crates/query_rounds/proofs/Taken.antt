@@ -16,7 +16,7 @@ use Rattle.session_state.specs.Kept.{Counts}
 use Rattle.session_state.specs.Stands.{Stands}
 use Rattle.daemon_rounds.specs.declared.setup.SourceName.{SourceName}
 use Rattle.daemon_rounds.specs.Rounding.{names_of, round_entries}
-use Rattle.replay_rounds.specs.Sources.{AreFed, AreFullOrOver, sources_of}
+use Rattle.replay_rounds.specs.Sources.{AreFed, AreFullOrOver, all_over, sources_of}
 use Rattle.replay_rounds.proofs.Begun.{started_fed}
 use Rattle.replay_rounds.proofs.Endings.{one_full}
 use Rattle.replay_rounds.proofs.Feeds.{fed_names, fed_on}
@@ -25,7 +25,7 @@ use Rattle.replay_rounds.proofs.Stepped.{rounds_taken}
 use Rattle.query_rounds.specs.Asking.{opened_behind}
 use Rattle.query_rounds.specs.Reading.{IsBegun}
 use Rattle.query_rounds.specs.Rounds.{HasMore, TakesRounds}
-use Rattle.query_rounds.specs.Running.{Place, Turns, TurnsOften, are_over}
+use Rattle.query_rounds.specs.Running.{Place, Turns, TurnsOften}
 use Rattle.query_rounds.proofs.Rounded.{rounds_more}
 
 -- the list with an entry behind it, and others behind that
@@ -98,7 +98,7 @@ module _ {S : Type 0} (tells : Type 0) (left : S → List ℕ) (faults : S → �
       (entries ++ own count entries between to taken last, one_taken count entries between to taken last, one_full_end count entries between to taken last)
 
 -- where one source isn't at its end, it gave a full step in the last round
-pub has_more : {S : Type 0} (tells : Type 0) (left : S → List ℕ) (given : Given) (kept : List Entry) (count : ℕ) (entries : List Entry) (at : Place S) → HasTaken tells left given kept count entries at → EndsFull given (opened_behind kept) count entries at.feeds → are_over at.feeds ≡ false → 1 ≤ count → HasMore given (opened_behind kept) count entries
+pub has_more : {S : Type 0} (tells : Type 0) (left : S → List ℕ) (given : Given) (kept : List Entry) (count : ℕ) (entries : List Entry) (at : Place S) → HasTaken tells left given kept count entries at → EndsFull given (opened_behind kept) count entries at.feeds → all_over at.feeds ≡ false → 1 ≤ count → HasMore given (opened_behind kept) count entries
 has_more tells left given kept zero entries at taken full over some = absurd (omega (arith, some))
 has_more tells left given kept (suc earlier) entries at taken (before, last, are, takes, takes_last, full) over some =
     let (source, among, gave) = one_full tells left given.config.categories kept (opened_behind kept ++ entries) given (opened_behind kept ++ before) given.sources at.feeds at.sources taken.fed full over in

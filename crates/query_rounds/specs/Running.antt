@@ -1,11 +1,10 @@
 -- Rounds of the sources, by the state.
 use Rattle.std.specs.Prelude.{◌≡◌, ℕ, ◌<◌, ◌≤◌, zero, suc, Bool, false, List}
-use Rattle.std.specs.List.{list_all}
-use Rattle.publisher_core.specs.Standing.{is_at_end}
 use Rattle.source_feeds.specs.Feeding.{Feeding}
 use Rattle.session_state.specs.Kept.{Kept}
 use Rattle.daemon_rounds.specs.Rounding.{Overflows, Rounds}
 use Rattle.daemon_rounds.specs.declared.turning.Which.TheVariants as which
+use Rattle.replay_rounds.specs.Sources.{all_over}
 
 -- where a session stands: its feeds, what they are read from, and its state
 pub record Place (S : Type 0) : Type 0 where
@@ -27,16 +26,12 @@ TurnsOften tells left faults most zero from to = to ≡ from
 TurnsOften {S} tells left faults most (suc count) from to =
     (between : Place S) × TurnsOften tells left faults most count from between × Turns tells left faults most between to
 
--- each source is at its end
-abbrev pub are_over : List Feeding → Bool
-are_over feeds = list_all (λ (feed : Feeding). is_at_end feed.reader) feeds
-
 -- rounds were run until each source was at its end, or until there were so many
 pub record RunsOut {S : Type 0} (tells : Type 0) (left : S → List ℕ) (faults : S → ℕ) (most rounds : ℕ) (from to : Place S) (is_end : Bool) : Type 0 where
   pub count : ℕ
   pub few : count ≤ rounds
   pub turns : TurnsOften tells left faults most count from to
-  pub over : is_end ≡ are_over to.feeds
+  pub over : is_end ≡ all_over to.feeds
   pub all_run : is_end ≡ false → count ≡ rounds
 
 -- behind fewer rounds than that a source gave a reading whose events would have numbers beyond 2^62

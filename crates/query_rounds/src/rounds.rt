@@ -3,20 +3,14 @@
 ghost use Rattle.std.specs.Prelude.{◌≡◌, ℕ, length, Err, IfOk};
 ghost use Rattle.daemon_rounds.specs.Rounding.{AreGoing, FailsAt};
 ghost use Rattle.daemon_rounds.specs.declared.error.TakeError.{TakeError};
-ghost use Rattle.query_rounds.specs.Running.{RunsOut, RunsOver, are_over, place_of};
+ghost use Rattle.query_rounds.specs.Running.{RunsOut, RunsOver, place_of};
 
 use daemon_rounds::{TakeError, Which, take_round};
 use osq_outside::Source;
+use replay_rounds::all_over;
 use session_state::State;
 use source_feeds::Feed;
 use std::alloc::Global;
-
-/// Whether each source is at its end.
-fn all_over(feeds: &[Feed]) -> bool
-    ensures { result ≡ are_over feeds.now }
-{
-    feeds.iter().all(|feed| feed.at_end())
-}
 
 /// Runs rounds, each of one step of every source, of at most `most` records, until each source is at its end or `rounds` of them were run. It
 /// answers whether each is at its end.
