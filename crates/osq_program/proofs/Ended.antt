@@ -13,3 +13,11 @@ written_or_front before after text faults now (Err e) writes cause = inr (cause.
 -- a count that rose behind a call rose over both
 pub rose_behind : (first between now : ℕ) → first ≤ between → Rose between now → Rose first now
 rose_behind first between now later rose = omega (arith, later, rose)
+
+pub later_then : (first between now : ℕ) → first ≤ between → between ≤ now → first ≤ now
+later_then first between now before behind = omega (arith, before, behind)
+
+-- one of two sinks failed, the second between two other calls of it
+pub failed_between : (A : Type 0) (first from to now : ℕ) → first ≤ from → to ≤ now → A ⊎ Rose from to → A ⊎ Rose first now
+failed_between A first from to now before behind (inl failed) = inl failed
+failed_between A first from to now before behind (inr rose) = inr (omega (arith, before, behind, rose))

@@ -6,7 +6,7 @@ use Rattle.sql_names.specs.Texts.{query_in}
 use Rattle.sql_planner.specs.Explained.{explained}
 use Rattle.sql_planner.specs.Plans.{planned}
 use Rattle.osq_program.specs.declared.status.Status.{Status}
-use Rattle.osq_program.specs.declared.status.Status.TheVariants.{Ok as Done, Usage, FilesFault, ConfigRefused, KeeperFault, KeeperRefused, MomentTooLarge, SourceFault, SourceShrank, NumbersSpent, SinkFault, TicksSpent, QueryRefused, OutOfMemory, NotBuilt}
+use Rattle.osq_program.specs.declared.status.Status.TheVariants.{Ok as Done, Usage, FilesFault, ConfigRefused, KeeperFault, KeeperRefused, MomentTooLarge, SourceFault, SourceShrank, NumbersSpent, SinkFault, TicksSpent, QueryRefused, OutOfMemory}
 use Rattle.osq_program.specs.Answers.{IsCaused, no_causes}
 use Rattle.osq_program.specs.Commands.{Explain}
 use Rattle.osq_program.specs.Explaining.{IsExplain, Leaves, ShowsPlan, causes_of}
@@ -29,7 +29,6 @@ cause_more w told SinkFault caused = absurd caused
 cause_more w told TicksSpent caused = caused
 cause_more w told (QueryRefused place kind) caused = caused
 cause_more w told OutOfMemory caused = caused
-cause_more w told (NotBuilt what) caused = caused
 
 nothing_left : (w : Explain) (told : Told) (s : Status) → IsCaused (record no_causes { query = IsRefusedAt w.text }) s → (told.sink_tells → told.results_after ≡ told.results_before) → Leaves w told s
 nothing_left w told Done caused same = absurd caused
@@ -46,7 +45,6 @@ nothing_left w told SinkFault caused same = absurd caused
 nothing_left w told TicksSpent caused same = same
 nothing_left w told (QueryRefused place kind) caused same = same
 nothing_left w told OutOfMemory caused same = same
-nothing_left w told (NotBuilt what) caused same = same
 
 -- by the text
 pub unexplained : (w : Explain) (told : Told) (s r : Status) → r ≡ s → IsCaused (record no_causes { query = IsRefusedAt w.text }) s → (told.sink_tells → told.results_after ≡ told.results_before) → IsExplain w told r

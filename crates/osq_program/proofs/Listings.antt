@@ -4,7 +4,7 @@ use Rattle.std.proofs.lemmas.List.{take_more}
 use Rattle.osq_config.specs.declared.error.ConfigError.{ConfigError}
 use Rattle.pack_rules.specs.declared.schedule.Scheduled.{Scheduled}
 use Rattle.osq_program.specs.declared.status.Status.{Status}
-use Rattle.osq_program.specs.declared.status.Status.TheVariants.{Ok as Done, Usage, FilesFault, ConfigRefused, KeeperFault, KeeperRefused, MomentTooLarge, SourceFault, SourceShrank, NumbersSpent, SinkFault, TicksSpent, QueryRefused, OutOfMemory, NotBuilt}
+use Rattle.osq_program.specs.declared.status.Status.TheVariants.{Ok as Done, Usage, FilesFault, ConfigRefused, KeeperFault, KeeperRefused, MomentTooLarge, SourceFault, SourceShrank, NumbersSpent, SinkFault, TicksSpent, QueryRefused, OutOfMemory}
 use Rattle.osq_program.specs.Answers.{Causes, IsCaused, no_causes}
 use Rattle.config_files.specs.Naming.{key_of_error, kind_of_error}
 use Rattle.osq_program.specs.Checking.{HasLines, IsCheck, IsRefusedFor, Leaves, Refuses, causes_of, query_line, schedule_lines}
@@ -40,7 +40,6 @@ by_error failed R error gives SinkFault refuses = absurd refuses
 by_error failed R error gives TicksSpent refuses = absurd refuses
 by_error failed R error gives (QueryRefused place kind) refuses = absurd refuses
 by_error failed R error gives OutOfMemory refuses = tt
-by_error failed R error gives (NotBuilt what) refuses = absurd refuses
 
 abbrev config_causes : CheckWords → Told → Causes
 config_causes w told = record no_causes { files = told.files_failed; refused = IsRefusedFor told.files_tell told.file w.config }
@@ -60,7 +59,6 @@ check_cause w told SinkFault caused = absurd caused
 check_cause w told TicksSpent caused = caused
 check_cause w told (QueryRefused place kind) caused = caused
 check_cause w told OutOfMemory caused = caused
-check_cause w told (NotBuilt what) caused = absurd caused.1
 
 check_leaves : (w : CheckWords) (told : Told) (s : Status) → IsCaused (config_causes w told) s → (told.sink_tells → told.results_after ≡ told.results_before) → Leaves w told s
 check_leaves w told Done caused same = absurd caused
@@ -77,7 +75,6 @@ check_leaves w told SinkFault caused same = absurd caused
 check_leaves w told TicksSpent caused same = same
 check_leaves w told (QueryRefused place kind) caused same = same
 check_leaves w told OutOfMemory caused same = same
-check_leaves w told (NotBuilt what) caused same = same
 
 -- by the configuration
 pub refused_config : (w : CheckWords) (told : Told) (s r : Status) → r ≡ s → IsCaused (record no_causes { files = told.files_failed; refused = IsRefusedFor told.files_tell told.file w.config }) s

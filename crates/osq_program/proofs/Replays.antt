@@ -20,14 +20,16 @@ use Rattle.replay_rounds.specs.declared.running.Ended.{Ended}
 use Rattle.replay_rounds.specs.declared.refused.RunError.{RunError}
 use Rattle.replay_rounds.specs.declared.refused.RunError.TheVariants as running
 use Rattle.replay_rounds.specs.Fixed.{given_of}
+use Rattle.replay_rounds.specs.Noting.{IsGrown}
 use Rattle.replay_rounds.specs.Running.{HasRun, IsKept, IsWritten}
 use Rattle.replay_rounds.specs.Sources.{sources_of}
 use Rattle.osq_program.specs.declared.status.Status.{Status}
-use Rattle.osq_program.specs.declared.status.Status.TheVariants.{Ok as Done, Usage, FilesFault, ConfigRefused, KeeperFault, KeeperRefused, MomentTooLarge, SourceFault, SourceShrank, NumbersSpent, SinkFault, TicksSpent, QueryRefused, OutOfMemory, NotBuilt}
+use Rattle.osq_program.specs.declared.status.Status.TheVariants.{Ok as Done, Usage, FilesFault, ConfigRefused, KeeperFault, KeeperRefused, MomentTooLarge, SourceFault, SourceShrank, NumbersSpent, SinkFault, TicksSpent, QueryRefused, OutOfMemory}
 use Rattle.osq_program.specs.Answers.{Causes, IsCaused, IsDoneStatus, IsSpentStatus, IsUsageStatus, IsRefusal, no_causes}
 use Rattle.osq_program.specs.Checking.{IsRefusedFor}
 use Rattle.osq_program.specs.Ending.{IsAnswerTo, IsNamedAt}
-use Rattle.osq_program.specs.Replaying.{HasShrunk, IsAccepted, IsGiven, IsReplay, Ran, causes_of, fixed}
+use Rattle.osq_program.specs.Reasons.{HasShrunk}
+use Rattle.osq_program.specs.Replaying.{IsAccepted, IsGiven, IsReplay, IsToldBy, Ran, causes_of, fixed}
 use Rattle.osq_program.specs.Report.{final_line, spent_line}
 use Rattle.osq_program.specs.Setups.{setup_in, source_in, sources_named}
 use Rattle.osq_program.specs.Told.{Told}
@@ -49,7 +51,6 @@ not_done c SinkFault caused is = is
 not_done c TicksSpent caused is = is
 not_done c (QueryRefused place kind) caused is = is
 not_done c OutOfMemory caused is = is
-not_done c (NotBuilt what) caused is = is
 
 pub not_spent : (c : Causes) (s : Status) → IsCaused c s → IsSpentStatus s → ⊥
 not_spent c Done caused is = is
@@ -66,7 +67,6 @@ not_spent c SinkFault caused is = is
 not_spent c TicksSpent caused is = caused
 not_spent c (QueryRefused place kind) caused is = is
 not_spent c OutOfMemory caused is = is
-not_spent c (NotBuilt what) caused is = is
 
 pub not_usage : (c : Causes) (s : Status) → IsCaused c s → IsUsageStatus s → ⊥
 not_usage c Done caused is = is
@@ -83,7 +83,6 @@ not_usage c SinkFault caused is = is
 not_usage c TicksSpent caused is = is
 not_usage c (QueryRefused place kind) caused is = is
 not_usage c OutOfMemory caused is = is
-not_usage c (NotBuilt what) caused is = is
 
 -- the configuration is refused
 config_cause : (words : ReplayWords) (told : Told) (s : Status) → IsCaused (record no_causes { files = told.files_failed; refused = IsRefusedFor told.files_tell told.file words.config }) s → IsCaused (causes_of words told) s
@@ -101,7 +100,6 @@ config_cause words told SinkFault caused = absurd caused
 config_cause words told TicksSpent caused = caused
 config_cause words told (QueryRefused place kind) caused = caused
 config_cause words told OutOfMemory caused = tt
-config_cause words told (NotBuilt what) caused = absurd caused.1
 
 -- the last line of a whole session could not be written
 line_cause : (words : ReplayWords) (told : Told) → IsAccepted words told → (s : Status) → IsCaused (record no_causes { sink = told.status_failed }) s → IsCaused (causes_of words told) s
@@ -119,7 +117,6 @@ line_cause words told accepted SinkFault caused = (accepted, inr caused)
 line_cause words told accepted TicksSpent caused = caused
 line_cause words told accepted (QueryRefused place kind) caused = caused
 line_cause words told accepted OutOfMemory caused = tt
-line_cause words told accepted (NotBuilt what) caused = absurd caused.1
 
 -- a run that ended before its session was done
 pub stopped : (words : ReplayWords) (told : Told) (s r : Status) → r ≡ s → IsCaused (causes_of words told) s
@@ -164,19 +161,23 @@ given_is left words told setup config documents notes objects is bytes configure
   records = ap (λ (s : Setup). s.records) is;
 }
 
--- what was written behind the notes
-behind : (before between after notes text : List ℕ) → between ≡ before ++ notes → after ≡ between ++ text → after ≡ before ++ (notes ++ text)
-behind before between after notes text first second = second ∙ ap (λ (t : List ℕ). t ++ text) first ∙ append_assoc before notes text
+-- what was written behind the notes, and then behind what the session told
+behind : (told : Told) (noted between notes text : List ℕ) → noted ≡ told.status_before ++ notes → IsGrown noted between → told.status_after ≡ between ++ text → IsToldBy told notes text
+behind told noted between notes text first (lines, second) third =
+    (lines, third ∙ ap (λ (t : List ℕ). t ++ text) (second ∙ ap (λ (t : List ℕ). t ++ lines) first) ∙ append_assoc (told.status_before ++ notes) lines text ∙ append_assoc told.status_before notes (lines ++ text))
 
 -- a session that did all its ticks, and what was then told of it
 module _ (words : ReplayWords) (told : Told) (status : Status) (given : Given) (is : IsGiven words told given) (ended : Ended)
-    (run : HasRun (fixed told given) told.has_read words.ticks told.kept_after told.results_after ended) (between : List ℕ) (noted : told.sink_tells → between ≡ told.status_before ++ is.notes) where
+    (run : HasRun (fixed told given) told.has_read words.ticks told.kept_after told.results_after ended) (noted between : List ℕ) (notes_are : told.sink_tells → noted ≡ told.status_before ++ is.notes) (grown : told.sink_tells → IsGrown noted between) where
   abbrev ran_with : (is_end : Bool) → ended.is_end ≡ is_end → Ran words told is_end
   ran_with is_end end_is = record { given = given; is = is; ended = ended; end_is = end_is; run = run }
 
+  told_by : (text : List ℕ) → told.sink_tells → told.status_after ≡ between ++ text → IsToldBy told is.notes text
+  told_by text tells written = behind told noted between is.notes text (notes_are tells) (grown tells) written
+
   told_spent : (failed : Type 0) → (failed → told.status_failed) → told.sink_tells → (told.status_after ≡ between ++ (spent_line ++ final_line 11 ended.numbers 0)) ⊎ failed
-      → (told.status_after ≡ told.status_before ++ (is.notes ++ (spent_line ++ final_line 11 ended.numbers 0))) ⊎ told.status_failed
-  told_spent failed more tells (inl written) = inl (behind told.status_before between told.status_after is.notes (spent_line ++ final_line 11 ended.numbers 0) (noted tells) written)
+      → IsToldBy told is.notes (spent_line ++ final_line 11 ended.numbers 0) ⊎ told.status_failed
+  told_spent failed more tells (inl written) = inl (told_by (spent_line ++ final_line 11 ended.numbers 0) tells written)
   told_spent failed more tells (inr rose) = inr (more rose)
 
   pub ran : (failed : Type 0) → (failed → told.status_failed) → (IsDoneStatus status → (ended.is_end ≡ true) × (told.sink_tells → told.status_after ≡ between ++ final_line 0 ended.numbers 0))
@@ -186,7 +187,7 @@ module _ (words : ReplayWords) (told : Told) (status : Status) (given : Given) (
   ran failed more done spent cause kept written = record {
     done = λ finished.
         let end = done finished in
-        (ran_with true end.0, λ tells. behind told.status_before between told.status_after is.notes (final_line 0 ended.numbers 0) (noted tells) (end.1 tells));
+        (ran_with true end.0, λ tells. told_by (final_line 0 ended.numbers 0) tells (end.1 tells));
     spent = λ finished.
         let end = spent finished in
         (ran_with false end.0, λ tells. told_spent failed more tells (end.1 tells));
@@ -209,7 +210,6 @@ module _ (words : ReplayWords) (told : Told) (status : Status) (given : Given) (
     failed_more TicksSpent caused = caused
     failed_more (QueryRefused place kind) caused = caused
     failed_more OutOfMemory caused = tt
-    failed_more (NotBuilt what) caused = absurd caused.1
 
 -- the answer to the end of a session is caused by it
 pub answered : (c : Causes) (sources : List SourceName) (e : RunError) (s : Status) → IsAnswerTo sources e s → (e ≡ running.KeeperFault → c.keeper) → (e ≡ running.KeeperRefused → c.unfit)
@@ -235,12 +235,12 @@ same_name sources place name source named there =
     ap (λ (s : SessionSource). s.name) (same_Some source (source_in named.source) found) ∙ sym named.name_is
 
 -- a source that shrank, by the words
-pub shrank_by : {S : Type 0} (left : S → List ℕ) (words : ReplayWords) (told : Told) (setup : Setup) (objects : List S) (taken : List Taken) (place kept found : ℕ) (name : List ℕ) → setup ≡ setup_in words
+pub shrank_by : {S : Type 0} (left : S → List ℕ) (sources : List SourceName) (told : Told) (names : List SessionSource) (objects : List S) (taken : List Taken) (place kept found : ℕ) (name : List ℕ) → names ≡ map source_in sources
     → told.all_bytes ≡ map left objects → (told.keeper_tells → taken ≡ (summary told.kept_before).taken)
-    → starting.HasShrunk told.source_tells left taken setup.sources place kept found objects → IsNamedAt words.sources place name → HasShrunk words told name kept found
-shrank_by left words told setup objects taken place kept found name is bytes taken_there h named =
-    let there = sym (ap (λ (s : Setup). slice_get s.sources place) is) ∙ h.named in
-    let same = same_name words.sources place name h.name named there in
+    → starting.HasShrunk told.source_tells left taken names place kept found objects → IsNamedAt sources place name → HasShrunk sources told name kept found
+shrank_by left sources told names objects taken place kept found name is bytes taken_there h named =
+    let there = sym (ap (λ (ns : List SessionSource). slice_get ns place) is) ∙ h.named in
+    let same = same_name sources place name h.name named there in
     record {
       place = place;
       named = named;

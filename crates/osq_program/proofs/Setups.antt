@@ -11,6 +11,7 @@ use Rattle.program_words.specs.declared.command.ReplayWords.{ReplayWords}
 use Rattle.program_words.specs.declared.source.SourceName.{SourceName}
 use Rattle.session_model.specs.Given.{Source}
 use Rattle.daemon_rounds.specs.declared.setup.Setup.{Setup}
+use Rattle.daemon_rounds.specs.declared.setup.SourceName.{SourceName as SessionSource}
 use Rattle.daemon_rounds.specs.Starting.{source_names}
 use Rattle.replay_rounds.specs.declared.running.Ended.{Ended}
 use Rattle.replay_rounds.specs.Fixed.{Fixed}
@@ -65,3 +66,10 @@ setup_ticks setup words is some = subst (λ (s : Setup). 1 ≤ s.ticks) (sym is)
 pub for_ticks : (setup : Setup) (words : ReplayWords) (x : Fixed) (has_read : List ℕ → Type 0) (kept : List Entry) (written : List ℕ) (ended : Ended) → setup ≡ setup_in words
     → HasRun x has_read setup.ticks kept written ended → HasRun x has_read words.ticks kept written ended
 for_ticks setup words x has_read kept written ended is run = subst (λ (s : Setup). HasRun x has_read s.ticks kept written ended) is run
+
+-- the same of the names of these sources
+pub names_paired : (names : List SessionSource) (sources : List SourceName) (count : ℕ) → names ≡ map source_in sources → count ≡ length sources → count ≡ length names
+names_paired names sources count is same = same ∙ sym (length-map sources source_in) ∙ sym (ap (λ (ns : List SessionSource). length ns) is)
+
+pub names_distinct : (names : List SessionSource) (sources : List SourceName) → names ≡ map source_in sources → AllPairs (λ (a b : SourceName). a.path ≢ b.path) sources → IsDistinct bytes_eq (source_names names)
+names_distinct names sources is own = subst (λ (ns : List SessionSource). IsDistinct bytes_eq (source_names ns)) (sym is) (distinct_names sources own)

@@ -1,7 +1,7 @@
 -- What a run answers, and why.
-use Rattle.std.specs.Prelude.{◌≡◌, ℕ, List, codes}
+use Rattle.std.specs.Prelude.{ℕ, List}
 use Rattle.osq_program.specs.declared.status.Status.{Status}
-use Rattle.osq_program.specs.declared.status.Status.TheVariants.{Ok as Done, Usage, FilesFault, ConfigRefused, KeeperFault, KeeperRefused, MomentTooLarge, SourceFault, SourceShrank, NumbersSpent, SinkFault, TicksSpent, QueryRefused, OutOfMemory, NotBuilt}
+use Rattle.osq_program.specs.declared.status.Status.TheVariants.{Ok as Done, Usage, FilesFault, ConfigRefused, KeeperFault, KeeperRefused, MomentTooLarge, SourceFault, SourceShrank, NumbersSpent, SinkFault, TicksSpent, QueryRefused, OutOfMemory}
 
 -- the number that the process ends with
 abbrev pub status_number : Status → ℕ
@@ -18,7 +18,6 @@ status_number NumbersSpent = 10
 status_number TicksSpent = 11
 status_number (QueryRefused place kind) = 12
 status_number OutOfMemory = 20
-status_number (NotBuilt what) = 30
 status_number Usage = 64
 
 abbrev pub IsDoneStatus : Status → Type 0
@@ -40,7 +39,6 @@ pub record Causes : Type 1 where
   pub refused : List ℕ → List ℕ → Type 0  -- a configuration that is refused by a fault of this kind at this key
   pub keeper : Type 0  -- a fault of the keeper
   pub unfit : Type 0  -- a kept list from which no session may go on
-  pub kept : Type 0  -- a kept list that isn't empty
   pub moment : ℕ → Type 0  -- this moment of the clock
   pub source : List ℕ → Type 0  -- a fault of the source of this name
   pub shrank : List ℕ → ℕ → ℕ → Type 0  -- that source, of which so many bytes are kept and only so many were found
@@ -54,7 +52,6 @@ no_causes = record {
   refused = λ kind key. ⊥;
   keeper = ⊥;
   unfit = ⊥;
-  kept = ⊥;
   moment = λ moment. ⊥;
   source = λ name. ⊥;
   shrank = λ name kept found. ⊥;
@@ -78,7 +75,6 @@ IsCaused c SinkFault = c.sink
 IsCaused c TicksSpent = ⊥
 IsCaused c (QueryRefused place kind) = c.query place kind.now
 IsCaused c OutOfMemory = Unit {0}
-IsCaused c (NotBuilt what) = (what ≡ codes "kept") × c.kept
 
 -- the run ended before its session was done
 abbrev pub IsRefusal : Status → Type 0
@@ -86,9 +82,3 @@ IsRefusal Done = ⊥
 IsRefusal Usage = ⊥
 IsRefusal TicksSpent = ⊥
 IsRefusal status = Unit {0}
-
--- the run needs this, which isn't built yet
-abbrev pub NotBuiltYet : List ℕ → Status → Type 0
-NotBuiltYet what (NotBuilt told) = told ≡ what
-NotBuiltYet what OutOfMemory = Unit {0}
-NotBuiltYet what status = ⊥

@@ -1,30 +1,18 @@
 -- What a run of each command does.
-use Rattle.std.specs.Prelude.{◌≡◌, Bool, true, false, Option, None, Some, codes}
+use Rattle.std.specs.Prelude.{Bool, true, false}
 use Rattle.program_words.specs.declared.command.CommandWords.{CommandWords}
 use Rattle.program_words.specs.declared.command.CommandWords.TheVariants.{Replay as AsksReplay, Query as AsksQuery, Check as AsksCheck}
 use Rattle.program_words.specs.declared.command.QueryWords.{QueryWords}
 use Rattle.osq_program.specs.declared.status.Status.{Status}
-use Rattle.osq_program.specs.Answers.{NotBuiltYet}
 use Rattle.osq_program.specs.Checking.{IsCheck}
-use Rattle.osq_program.specs.Commands.{Query, query_in}
 use Rattle.osq_program.specs.Explaining.{IsExplain}
 use Rattle.osq_program.specs.Querying.{IsQuery}
 use Rattle.osq_program.specs.Replaying.{IsReplay}
 use Rattle.osq_program.specs.Told.{Told}
 
--- the words ask for what isn't built yet: nothing is kept, and no result is written
-pub record IsLeft (told : Told) (status : Status) : Type 0 where
-  pub not_built : NotBuiltYet (codes "words") status
-  pub kept : told.keeper_tells → told.kept_after ≡ told.kept_before
-  pub written : told.sink_tells → told.results_after ≡ told.results_before
-
-abbrev pub AnswersBy : Option Query → Told → Status → Type 0
-AnswersBy None told status = IsLeft told status
-AnswersBy (Some query) told status = IsQuery query told status
-
 abbrev pub QueriesBy : Bool → QueryWords → Told → Status → Type 0
 QueriesBy true words told status = IsExplain (record { text = words.text }) told status
-QueriesBy false words told status = AnswersBy (query_in words) told status
+QueriesBy false words told status = IsQuery words told status
 
 abbrev pub DoesQuery : QueryWords → Told → Status → Type 0
 DoesQuery words told status = QueriesBy words.explain words told status

@@ -3,6 +3,8 @@ use Rattle.std.specs.Prelude.{◌≡◌, ◌⊎◌, ℕ, List, Some, slice_get}
 use Rattle.program_words.specs.declared.source.SourceName.{SourceName}
 use Rattle.replay_rounds.specs.declared.refused.RunError.{RunError}
 use Rattle.replay_rounds.specs.declared.refused.RunError.TheVariants as running
+use Rattle.query_rounds.specs.declared.error.AskError.{AskError}
+use Rattle.query_rounds.specs.declared.error.AskError.TheVariants as asking
 use Rattle.osq_program.specs.declared.status.Status.{Status}
 use Rattle.osq_program.specs.declared.status.Status.TheVariants.{KeeperFault, KeeperRefused, MomentTooLarge, SourceFault, SourceShrank, NumbersSpent, SinkFault, OutOfMemory}
 
@@ -25,3 +27,13 @@ IsAnswerTo sources (running.SourceShrank place kept found) status = NamesSource 
 IsAnswerTo sources running.NumbersSpent status = status ≡ NumbersSpent
 IsAnswerTo sources running.SinkFault status = status ≡ SinkFault
 IsAnswerTo sources running.NoMemory status = status ≡ OutOfMemory
+
+-- a question ends for the same reason as a session
+abbrev pub ended_by : AskError → RunError
+ended_by asking.KeeperFault = running.KeeperFault
+ended_by asking.KeeperRefused = running.KeeperRefused
+ended_by (asking.MomentTooLarge moment) = running.MomentTooLarge moment
+ended_by (asking.SourceFault place) = running.SourceFault place
+ended_by (asking.SourceShrank place kept found) = running.SourceShrank place kept found
+ended_by asking.NumbersSpent = running.NumbersSpent
+ended_by asking.NoMemory = running.NoMemory

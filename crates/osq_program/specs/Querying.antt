@@ -1,20 +1,24 @@
 -- What `query` does.
-use Rattle.std.specs.Prelude.{◌≡◌, ◌≢◌, ◌<◌, ◌≤◌, ℕ, List, [], ◌∷◌, ◌++◌, take, flat_map, None, Some, unwrap_or}
-use Rattle.osq_value.specs.declared.reading.Reading.{Reading}
+use Rattle.std.specs.Prelude.{◌≡◌, ◌⊎◌, ◌<◌, ◌≤◌, ℕ, Bool, true, false, List, [], ◌∷◌, ◌++◌, take, flat_map, None, Some}
 use Rattle.osq_value.specs.declared.value.Value.{Value}
-use Rattle.entry_model.specs.Views.{view_of}
+use Rattle.entry_model.specs.Legal.{Legal}
+use Rattle.program_words.specs.declared.command.QueryWords.{QueryWords}
 use Rattle.result_batches.specs.Labels.{labelled}
 use Rattle.result_batches.specs.Lines.{object}
-use Rattle.sql_meaning.specs.Meaning.{meaning, names_of}
+use Rattle.sql_meaning.specs.Meaning.{names_of}
 use Rattle.sql_names.specs.declared.text.TextError.{TextError}
 use Rattle.sql_names.specs.TextFaults.{text_fault, place_of_fault, name_of_fault}
+use Rattle.session_model.specs.Given.{Given}
+use Rattle.query_rounds.specs.Asking.{IsAnswer}
+use Rattle.query_rounds.specs.declared.asking.Asked.{Asked}
 use Rattle.osq_program.specs.declared.status.Status.{Status}
-use Rattle.osq_program.specs.declared.status.Status.TheVariants.{Ok as Done, SinkFault}
-use Rattle.osq_program.specs.Answers.{Causes, IsCaused, IsDoneStatus, IsSpentStatus, IsRefusal, no_causes}
-use Rattle.osq_program.specs.Commands.{Query}
-use Rattle.osq_program.specs.Moments.{IsRead, LAST_MOMENT}
-use Rattle.osq_program.specs.Tables.{IsReadWhole, HasSpentRounds, entries_before}
+use Rattle.osq_program.specs.declared.status.Status.TheVariants.{Ok as Done, SinkFault, TicksSpent, OutOfMemory}
+use Rattle.osq_program.specs.Answers.{Causes, IsCaused, IsRefusal, no_causes}
+use Rattle.osq_program.specs.Moments.{LAST_MOMENT}
+use Rattle.osq_program.specs.Reasons.{HasFailed, HasShrunk, IsUnfit}
+use Rattle.osq_program.specs.Setups.{sources_named}
 use Rattle.osq_program.specs.Told.{Told}
+use Rattle.osq_program.specs.Watching.{IsRefusedIn, Watches}
 
 -- an object and a line feed for each row
 abbrev pub row_lines : List (List ℕ) → List (List Value) → List ℕ
@@ -24,49 +28,73 @@ row_lines names rows = flat_map (λ row. object names row ++ 10 ∷ []) rows
 abbrev pub labelled_lines : List (List ℕ) → List (List Value) → List ℕ
 labelled_lines labels rows = flat_map (λ row. labelled labels row ++ 10 ∷ []) rows
 
--- the text is a query, the kept list is empty, and the clock was read
-pub record HasBegun (w : Query) (told : Told) : Type 0 where
-  pub accepted : text_fault w.text ≡ None
-  pub empty : told.keeper_tells → told.kept_before ≡ []
-  pub read : IsRead told.reads
-
--- these lines answer the text: its meaning over the tables that the source's lines set, at the clock's moment
-pub record IsAnswer (w : Query) (told : Told) (lines : List ℕ) : Type 0 where
-  pub accepted : text_fault w.text ≡ None
-  pub empty : told.keeper_tells → told.kept_before ≡ []
-  pub moment : ℕ
-  pub read : told.reads moment
-  pub early : moment ≤ LAST_MOMENT
-  pub readings : List Reading
-  pub whole : told.source_tells → IsReadWhole told.bytes readings
-  pub are : lines ≡ row_lines (names_of w.text) (meaning w.text (view_of (entries_before (unwrap_or w.tables []) readings) 0 moment))
-
 -- the text's fault is this
 abbrev pub IsRefusedAt : List ℕ → ℕ → List ℕ → Type 0
 IsRefusedAt text place kind =
     (fault : TextError) × (text_fault text ≡ Some fault) × (place ≡ place_of_fault fault) × (kind ≡ name_of_fault fault)
 
--- the causes of a query, in the order in which the run meets them: each carries what was passed before it
-abbrev pub causes_of : Query → Told → Causes
-causes_of w told =
+-- the text is a query, and the configuration, where the words name one, was accepted
+pub record IsPosed (words : QueryWords) (told : Told) : Type 0 where
+  pub accepted : text_fault words.text ≡ None
+  pub watched : Watches told.files_tell told.file words.config
+
+-- A question is over the sources of the words, of each all that its object had to give, and over changes of these paths alone.
+pub record IsGiven (words : QueryWords) (told : Told) (posed : IsPosed words told) (given : Given) : Type 0 where
+  pub sources : given.sources ≡ sources_named words.sources told.all_bytes
+  pub paths : given.config.categories ≡ posed.watched.paths
+  pub records : given.records ≡ words.records
+
+-- The question was answered at the clock's one reading, over the kept list and what the sources have behind it: they were read to their ends, or
+-- one of them had more.
+pub record HasAnswer (words : QueryWords) (told : Told) (is_end : Bool) : Type 0 where
+  pub posed : IsPosed words told
+  pub moment : ℕ
+  pub read : told.reads moment
+  pub early : moment ≤ LAST_MOMENT
+  pub asked : Asked
+  pub end_is : asked.is_end ≡ is_end
+  pub answer : told.keeper_tells → told.source_tells → Legal told.kept_before → (given : Given) → IsGiven words told posed given → IsAnswer given told.kept_before words.text words.ticks moment asked
+
+-- the lines of these rows
+abbrev pub lines_in : QueryWords → Asked → List ℕ
+lines_in words asked = row_lines (names_of words.text) asked.rows
+
+-- The causes of a query. Each carries what was passed before it. What it means that numbers are spent isn't said yet.
+abbrev pub causes_of : QueryWords → Told → Causes
+causes_of words told =
     record no_causes {
-      query = IsRefusedAt w.text;
-      keeper = (text_fault w.text ≡ None) × told.keeper_failed;
-      kept = (text_fault w.text ≡ None) × (told.keeper_tells → told.kept_before ≢ []);
-      moment = λ moment. (text_fault w.text ≡ None) × (told.keeper_tells → told.kept_before ≡ []) × told.reads moment × (LAST_MOMENT < moment);
-      source = λ name. HasBegun w told × (w.tables ≡ Some name) × told.source_failed;
-      sink = HasBegun w told × told.results_failed;
+      query = IsRefusedAt words.text;
+      files = (text_fault words.text ≡ None) × told.files_failed;
+      refused = λ kind key. (text_fault words.text ≡ None) × IsRefusedIn told.files_tell told.file words.config kind key;
+      keeper = IsPosed words told × told.keeper_failed;
+      unfit = IsPosed words told × IsUnfit told;
+      moment = λ moment. IsPosed words told × told.reads moment × (LAST_MOMENT < moment);
+      source = λ name. IsPosed words told × HasFailed words.sources told name;
+      shrank = λ name kept found. IsPosed words told × HasShrunk words.sources told name kept found;
+      numbers = IsPosed words told;
+      sink = IsPosed words told × (told.results_failed ⊎ told.status_failed);
     }
 
--- what each answer leaves in the results: at a fault of the sink a front part of the lines, at any other refusal nothing
-abbrev pub Leaves : Query → Told → Status → Type 0
-Leaves w told Done = (lines : List ℕ) × IsAnswer w told lines × (told.sink_tells → told.results_after ≡ told.results_before ++ lines)
-Leaves w told SinkFault = (lines : List ℕ) × IsAnswer w told lines × (told.sink_tells → (count : ℕ) × (told.results_after ≡ told.results_before ++ take count lines))
-Leaves w told _ = told.sink_tells → told.results_after ≡ told.results_before
+-- What the writing of these lines leaves of a sink: all of them or, at its fault, a front part; and none, where the sources had more.
+abbrev pub Writes : (tells : Type 0) → Bool → (before after lines : List ℕ) → (failed : Type 0) → Status → Type 0
+Writes tells is_end before after lines failed Done = (is_end ≡ true) × (tells → after ≡ before ++ lines)
+Writes tells is_end before after lines failed SinkFault = (is_end ≡ true) × failed × (tells → (count : ℕ) × (after ≡ before ++ take count lines))
+Writes tells is_end before after lines failed TicksSpent = (is_end ≡ false) × (tells → after ≡ before)
+Writes tells is_end before after lines failed OutOfMemory = tells → after ≡ before
+Writes tells is_end before after lines failed _ = ⊥
 
-pub record IsQuery (w : Query) (told : Told) (status : Status) : Type 0 where
-  pub leaves : Leaves w told status
-  pub quiet : IsDoneStatus status → told.sink_tells → told.status_after ≡ told.status_before
-  pub spent : IsSpentStatus status → HasBegun w told × (told.source_tells → HasSpentRounds told.bytes)
-  pub cause : IsRefusal status → IsCaused (causes_of w told) status
+-- What each answer leaves in the results, and where the query is done on the status stream, which then tells of each pack that is left out. At a fault of
+-- the status stream before the question was asked, and at any other refusal, the results are as before; at a fault of theirs they have a front
+-- part of the lines.
+abbrev pub Leaves : QueryWords → Told → Status → Type 0
+Leaves words told Done = (has : HasAnswer words told true)
+    × (told.sink_tells → (told.results_after ≡ told.results_before ++ lines_in words has.asked) × (told.status_after ≡ told.status_before ++ has.posed.watched.notes))
+Leaves words told SinkFault = (told.status_failed × (told.sink_tells → told.results_after ≡ told.results_before))
+    ⊎ ((has : HasAnswer words told true) × told.results_failed × (told.sink_tells → (count : ℕ) × (told.results_after ≡ told.results_before ++ take count (lines_in words has.asked))))
+Leaves words told TicksSpent = HasAnswer words told false × (told.sink_tells → told.results_after ≡ told.results_before)
+Leaves words told _ = told.sink_tells → told.results_after ≡ told.results_before
+
+pub record IsQuery (words : QueryWords) (told : Told) (status : Status) : Type 0 where
+  pub leaves : Leaves words told status
+  pub cause : IsRefusal status → IsCaused (causes_of words told) status
   pub kept : told.keeper_tells → told.kept_after ≡ told.kept_before

@@ -1,20 +1,17 @@
 -- What `replay` does.
-use Rattle.std.specs.Prelude.{◌≡◌, ◌⊎◌, ◌<◌, ℕ, Bool, true, false, List, [], ◌∷◌, ◌++◌, length, Some, slice_get}
+use Rattle.std.specs.Prelude.{◌≡◌, ◌⊎◌, ◌<◌, ℕ, Bool, true, false, List, [], ◌∷◌, ◌++◌}
 use Rattle.config_files.specs.Configurations.{IsConfigured}
-use Rattle.entry_model.specs.Fits.{Fits}
-use Rattle.entry_model.specs.Legal.{Legal}
-use Rattle.entry_model.specs.Summary.{summary}
-use Rattle.entry_model.specs.Values.{taken_from}
 use Rattle.program_words.specs.declared.command.ReplayWords.{ReplayWords}
 use Rattle.session_model.specs.Given.{Given}
 use Rattle.replay_rounds.specs.declared.running.Ended.{Ended}
 use Rattle.replay_rounds.specs.Fixed.{Fixed}
 use Rattle.replay_rounds.specs.Running.{HasRun, IsKept, IsWritten}
+use Rattle.replay_rounds.specs.Spent.{HasSpent}
 use Rattle.osq_program.specs.declared.status.Status.{Status}
 use Rattle.osq_program.specs.Answers.{Causes, IsCaused, IsDoneStatus, IsSpentStatus, IsRefusal, no_causes}
 use Rattle.osq_program.specs.Checking.{IsRefusedFor}
-use Rattle.osq_program.specs.Ending.{IsNamedAt}
 use Rattle.osq_program.specs.Moments.{LAST_MOMENT}
+use Rattle.osq_program.specs.Reasons.{HasFailed, HasShrunk, IsUnfit}
 use Rattle.osq_program.specs.Report.{final_line, spent_line}
 use Rattle.osq_program.specs.Setups.{host_in, sources_named}
 use Rattle.osq_program.specs.Told.{Told}
@@ -52,27 +49,11 @@ pub record Ran (words : ReplayWords) (told : Told) (is_end : Bool) : Type 0 wher
   pub end_is : ended.is_end ≡ is_end
   pub run : HasRun (fixed told given) told.has_read words.ticks told.kept_after told.results_after ended
 
--- no session may go on from the kept list, which a legal one never is
-abbrev pub IsUnfit : Told → Type 0
-IsUnfit told = told.keeper_tells → (¬ Legal told.kept_before) × (¬ Fits (summary told.kept_before))
-
 -- the clock gave this moment, last of all
 abbrev pub IsTooLate : Told → ℕ → Type 0
 IsTooLate told moment = (LAST_MOMENT < moment) × ((readings : List ℕ) × told.has_read (readings ++ moment ∷ []))
 
--- the source of this name failed
-abbrev pub HasFailed : ReplayWords → Told → List ℕ → Type 0
-HasFailed words told name = (place : ℕ) × IsNamedAt words.sources place name × told.failed_at place
-
--- the source of this name ended after `found` bytes, before the `kept` bytes up to which the kept list has it
-pub record HasShrunk (words : ReplayWords) (told : Told) (name : List ℕ) (kept found : ℕ) : Type 0 where
-  pub place : ℕ
-  pub named : IsNamedAt words.sources place name
-  pub short : found < kept
-  pub kept_is : told.keeper_tells → kept ≡ taken_from told.kept_before name
-  pub ended : told.source_tells → (bytes : List ℕ) × (slice_get told.all_bytes place ≡ Some bytes) × (length bytes ≡ found)
-
--- The causes of a replay. Each behind the configuration carries that it was accepted. What it means that numbers are spent isn't said yet.
+-- The causes of a replay. Each behind the configuration carries that it was accepted.
 abbrev pub causes_of : ReplayWords → Told → Causes
 causes_of words told =
     record no_causes {
@@ -81,16 +62,20 @@ causes_of words told =
       keeper = IsAccepted words told × told.keeper_failed;
       unfit = IsAccepted words told × IsUnfit told;
       moment = λ moment. IsAccepted words told × IsTooLate told moment;
-      source = λ name. IsAccepted words told × HasFailed words told name;
-      shrank = λ name kept found. IsAccepted words told × HasShrunk words told name kept found;
-      numbers = IsAccepted words told;
+      source = λ name. IsAccepted words told × HasFailed words.sources told name;
+      shrank = λ name kept found. IsAccepted words told × HasShrunk words.sources told name kept found;
+      numbers = (given : Given) × IsGiven words told given × HasSpent (fixed told given) told.has_read told.kept_after;
       sink = IsAccepted words told × (told.results_failed ⊎ told.status_failed);
     }
 
+-- The status stream has grown by the lines of packs that are left out, by those that the session told, and by these.
+abbrev pub IsToldBy : Told → List ℕ → List ℕ → Type 0
+IsToldBy told notes last = (lines : List ℕ) × (told.status_after ≡ told.status_before ++ (notes ++ (lines ++ last)))
+
 pub record IsReplay (words : ReplayWords) (told : Told) (status : Status) : Type 0 where
-  pub done : IsDoneStatus status → (ran : Ran words told true) × (told.sink_tells → told.status_after ≡ told.status_before ++ (ran.is.notes ++ final_line 0 ran.ended.numbers 0))
+  pub done : IsDoneStatus status → (ran : Ran words told true) × (told.sink_tells → IsToldBy told ran.is.notes (final_line 0 ran.ended.numbers 0))
   pub spent : IsSpentStatus status → (ran : Ran words told false)
-      × (told.sink_tells → (told.status_after ≡ told.status_before ++ (ran.is.notes ++ (spent_line ++ final_line 11 ran.ended.numbers 0))) ⊎ told.status_failed)
+      × (told.sink_tells → IsToldBy told ran.is.notes (spent_line ++ final_line 11 ran.ended.numbers 0) ⊎ told.status_failed)
   pub cause : IsRefusal status → IsCaused (causes_of words told) status
   -- however it ends
   pub kept : told.keeper_tells → (told.kept_after ≡ told.kept_before) ⊎ ((given : Given) × IsGiven words told given × IsKept (fixed told given) told.has_read told.kept_after)

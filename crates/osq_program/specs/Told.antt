@@ -14,8 +14,6 @@ pub record Told : Type 1 where
   pub reads : ℕ → Type 0  -- the clock was read once, and gave this moment
   pub has_read : List ℕ → Type 0  -- the clock was read for each of these readings, one after another
   pub source_tells : Type 0
-  pub bytes : List ℕ  -- what the sources had to give, one behind another
-  pub source_failed : Type 0  -- the one source failed
   pub all_bytes : List (List ℕ)  -- what each source had to give
   pub failed_at : ℕ → Type 0  -- the source at this place failed
   pub sink_tells : Type 0

@@ -1,6 +1,6 @@
 //! The command `check`: the schedule that a configuration gives a host.
 
-ghost use Rattle.std.specs.Prelude.{◌≡◌, ℕ, ◌∷◌, [], true, map, flat_map, IfOk};
+ghost use Rattle.std.specs.Prelude.{◌≡◌, ℕ, ◌∷◌, [], true, map, IfOk};
 ghost use Rattle.osq_config.specs.declared.config.Pack.{Pack};
 ghost use Rattle.osq_outside.specs.Causes.{Rose};
 ghost use Rattle.daemon_rounds.specs.Rounding.{FailsAt};
@@ -67,8 +67,6 @@ pub(crate) fn run_check<S: Source, O: Sink, F: Files, C: Clock, K: Keeper, L: Li
       reads = λ moment. C.reads outside.old.clock moment outside.new.clock;
       has_read = λ readings. ReadsAll C.reads outside.old.clock readings outside.new.clock;
       source_tells = S.tells;
-      bytes = flat_map S.left outside.old.sources.items;
-      source_failed = (before after : S) × (outside.old.sources.items ≡ before ∷ []) × (outside.new.sources.items ≡ after ∷ []) × Rose (S.faults before) (S.faults after);
       all_bytes = map S.left outside.old.sources.items;
       failed_at = λ place. FailsAt S.faults place outside.old.sources.items outside.new.sources.items;
       sink_tells = O.tells;

@@ -1,52 +1,42 @@
 //! What is done for the words of each command.
 
-ghost use Rattle.std.specs.Prelude.{◌≡◌, ℕ, List, [], ◌∷◌, true, vec_len, map, flat_map, length, codes};
+ghost use Rattle.std.specs.Prelude.{◌≡◌, ℕ, List, [], ◌∷◌, true, None, vec_len, map, length};
 ghost use Rattle.osq_outside.specs.Causes.{Rose};
 ghost use Rattle.daemon_rounds.specs.Rounding.{FailsAt};
 ghost use Rattle.replay_rounds.specs.Running.{ReadsAll};
-ghost use Rattle.program_words.specs.Bounds.{IsBounded};
+ghost use Rattle.program_words.specs.Bounds.{IsBounded, RunBounds};
 ghost use Rattle.program_words.specs.declared.command.CheckWords.{CheckWords};
 ghost use Rattle.program_words.specs.declared.command.QueryWords.{QueryWords};
 ghost use Rattle.program_words.specs.declared.command.CommandWords.TheVariants.{Check as AsksCheck, Query as AsksQuery};
 ghost use Rattle.program_words.specs.Commands.{sources_in};
-ghost use Rattle.osq_program.specs.Answers.{IsUsageStatus, NotBuiltYet};
+ghost use Rattle.osq_program.specs.Answers.{IsUsageStatus};
 ghost use Rattle.osq_program.specs.Doing.{Does, DoesQuery};
 
 use crate::check::run_check;
-use crate::checks::not_built;
 use crate::explain::run_explain;
 use crate::link::Link;
 use crate::outside::Outside;
 use crate::query::run_query;
 use crate::replay::run_replay;
 use crate::status::Status;
-use crate::stop::refuse;
-use crate::words::query_path;
 use batch_keeper::Keeper;
 use osq_outside::{Clock, Files, Sink, Source};
 use program_words::{CommandWords, QueryWords};
 use std::alloc::Global;
 
-/// Tells that the words ask for what isn't built yet.
-fn leave<O: Sink>(alloc: Global, status: &mut O) -> Status
-    ensures { NotBuiltYet (codes "words") result }
-{
-    let status_of = not_built(alloc, "words");
-    refuse(alloc, status, status_of)
-}
-
-/// Answers the question of the words, where it can be answered today.
+/// Answers the question of the words, or shows its plan.
 fn do_query<S: Source, O: Sink, F: Files, C: Clock, K: Keeper, L: Link>(
     alloc: Global,
     words: &QueryWords,
     outside: &mut Outside<S, O, F, C, K, L>,
 ) -> Status
-    requires { vec_len outside.old.sources ≡ length words.now.sources }
+    requires sources { vec_len outside.old.sources ≡ length words.now.sources }
+    requires bounded { RunBounds words.now.start words.now.step words.now.ticks words.now.records words.now.sources }
     ensures usage { ¬ IsUsageStatus result }
     ensures link { outside.new.link ≡ outside.old.link }
     ensures ledger { outside.new.ledger ≡ outside.old.ledger }
-    ensures files { outside.new.files ≡ outside.old.files }
     ensures sources { vec_len outside.new.sources ≡ vec_len outside.old.sources }
+    ensures files { words.now.config ≡ None → outside.new.files ≡ outside.old.files }
     ensures unread { words.now.explain ≡ true → outside.new ≡ record outside.old { results = outside.new.results; status = outside.new.status } }
     ensures does { DoesQuery words.now (record {
       files_tell = F.tells;
@@ -59,8 +49,6 @@ fn do_query<S: Source, O: Sink, F: Files, C: Clock, K: Keeper, L: Link>(
       reads = λ moment. C.reads outside.old.clock moment outside.new.clock;
       has_read = λ readings. ReadsAll C.reads outside.old.clock readings outside.new.clock;
       source_tells = S.tells;
-      bytes = flat_map S.left outside.old.sources.items;
-      source_failed = (before after : S) × (outside.old.sources.items ≡ before ∷ []) × (outside.new.sources.items ≡ after ∷ []) × Rose (S.faults before) (S.faults after);
       all_bytes = map S.left outside.old.sources.items;
       failed_at = λ place. FailsAt S.faults place outside.old.sources.items outside.new.sources.items;
       sink_tells = O.tells;
@@ -75,10 +63,7 @@ fn do_query<S: Source, O: Sink, F: Files, C: Clock, K: Keeper, L: Link>(
     if words.explain {
         return run_explain(alloc, words.text.as_str(), outside);
     }
-    match query_path(words) {
-        Some(path) => run_query(alloc, &path, outside),
-        None => leave(alloc, &mut outside.status),
-    }
+    run_query(alloc, words, outside)
 }
 
 /// Does what the words of a command ask for. There are as many sources as they name.
@@ -93,7 +78,7 @@ pub(crate) fn run_command<S: Source, O: Sink, F: Files, C: Clock, K: Keeper, L: 
     ensures link { outside.new.link ≡ outside.old.link }
     ensures ledger { outside.new.ledger ≡ outside.old.ledger }
     ensures sources { vec_len outside.new.sources ≡ vec_len outside.old.sources }
-    ensures query_files { (query : QueryWords) → words.now ≡ AsksQuery query → outside.new.files ≡ outside.old.files }
+    ensures query_files { (query : QueryWords) → words.now ≡ AsksQuery query → query.config ≡ None → outside.new.files ≡ outside.old.files }
     ensures explain_unread { (query : QueryWords) → words.now ≡ AsksQuery query → query.explain ≡ true
         → outside.new ≡ record outside.old { results = outside.new.results; status = outside.new.status } }
     ensures check_unread { (check : CheckWords) → words.now ≡ AsksCheck check
@@ -109,8 +94,6 @@ pub(crate) fn run_command<S: Source, O: Sink, F: Files, C: Clock, K: Keeper, L: 
       reads = λ moment. C.reads outside.old.clock moment outside.new.clock;
       has_read = λ readings. ReadsAll C.reads outside.old.clock readings outside.new.clock;
       source_tells = S.tells;
-      bytes = flat_map S.left outside.old.sources.items;
-      source_failed = (before after : S) × (outside.old.sources.items ≡ before ∷ []) × (outside.new.sources.items ≡ after ∷ []) × Rose (S.faults before) (S.faults after);
       all_bytes = map S.left outside.old.sources.items;
       failed_at = λ place. FailsAt S.faults place outside.old.sources.items outside.new.sources.items;
       sink_tells = O.tells;

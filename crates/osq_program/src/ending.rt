@@ -3,7 +3,7 @@
 ghost use Rattle.std.specs.Prelude.{◌≡◌, ◌≤◌, ◌<◌, ◌⊎◌, ◌++◌, ℕ, true, false, length, IfOk};
 ghost use Rattle.osq_outside.specs.Causes.{Rose};
 ghost use Rattle.osq_program.specs.Answers.{no_causes, IsCaused, IsDoneStatus, IsSpentStatus, IsUsageStatus, IsRefusal};
-ghost use Rattle.osq_program.specs.Ending.{IsAnswerTo, IsNamedAt};
+ghost use Rattle.osq_program.specs.Ending.{IsAnswerTo, IsNamedAt, ended_by};
 ghost use Rattle.osq_program.specs.Report.{final_line, spent_line};
 
 use crate::report::{SPENT, final_line};
@@ -11,6 +11,7 @@ use crate::status::Status;
 use osq_outside::{Sink, write_all};
 use osq_value::{Bytes, Copied, NoMemory, Str};
 use program_words::SourceName;
+use query_rounds::AskError;
 use replay_rounds::{Ended, Numbers, RunError};
 use std::alloc::Global;
 
@@ -47,6 +48,23 @@ pub(crate) fn answer_to(alloc: Global, sources: &[SourceName], error: RunError) 
         RunError::NumbersSpent => Status::NumbersSpent,
         RunError::SinkFault => Status::SinkFault,
         RunError::NoMemory => Status::OutOfMemory,
+    }
+}
+
+/// The same refusal of a question as that of a session.
+pub(crate) fn ended(error: AskError) -> RunError
+    ensures { result ≡ ended_by error }
+{
+    match error {
+        AskError::KeeperFault => RunError::KeeperFault,
+        AskError::KeeperRefused => RunError::KeeperRefused,
+        AskError::MomentTooLarge { moment } => RunError::MomentTooLarge { moment },
+        AskError::SourceFault { place } => RunError::SourceFault { place },
+        AskError::SourceShrank { place, kept, found } => {
+            RunError::SourceShrank { place, kept, found }
+        }
+        AskError::NumbersSpent => RunError::NumbersSpent,
+        AskError::NoMemory => RunError::NoMemory,
     }
 }
 

@@ -1,6 +1,6 @@
 //! The flag `--explain` of `query`: the text that shows the plan of a query.
 
-ghost use Rattle.std.specs.Prelude.{◌≡◌, ℕ, List, [], ◌∷◌, map, flat_map, IfOk};
+ghost use Rattle.std.specs.Prelude.{◌≡◌, ℕ, List, [], ◌∷◌, map, IfOk};
 ghost use Rattle.osq_outside.specs.Causes.{Rose};
 ghost use Rattle.daemon_rounds.specs.Rounding.{FailsAt};
 ghost use Rattle.replay_rounds.specs.Running.{ReadsAll};
@@ -49,8 +49,6 @@ pub(crate) fn run_explain<S: Source, O: Sink, F: Files, C: Clock, K: Keeper, L: 
       reads = λ moment. C.reads outside.old.clock moment outside.new.clock;
       has_read = λ readings. ReadsAll C.reads outside.old.clock readings outside.new.clock;
       source_tells = S.tells;
-      bytes = flat_map S.left outside.old.sources.items;
-      source_failed = (before after : S) × (outside.old.sources.items ≡ before ∷ []) × (outside.new.sources.items ≡ after ∷ []) × Rose (S.faults before) (S.faults after);
       all_bytes = map S.left outside.old.sources.items;
       failed_at = λ place. FailsAt S.faults place outside.old.sources.items outside.new.sources.items;
       sink_tells = O.tells;

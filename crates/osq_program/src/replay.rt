@@ -1,6 +1,6 @@
 //! The command `replay`: a whole session.
 
-ghost use Rattle.std.specs.Prelude.{◌≡◌, ℕ, List, [], ◌∷◌, vec_len, map, flat_map, length};
+ghost use Rattle.std.specs.Prelude.{◌≡◌, ℕ, List, [], ◌∷◌, vec_len, map, length};
 ghost use Rattle.osq_outside.specs.Causes.{Rose};
 ghost use Rattle.program_words.specs.Bounds.{RunBounds};
 ghost use Rattle.daemon_rounds.specs.Rounding.{FailsAt};
@@ -21,7 +21,7 @@ use program_words::ReplayWords;
 use replay_rounds::run_session;
 use std::alloc::Global;
 
-/// Runs the session that the words ask for, and tells on the status stream which packs are left out and how the session ended.
+/// Runs the session that the words ask for, and tells on the status stream which packs are left out, what the session tells, and how it ended.
 pub(crate) fn run_replay<S: Source, O: Sink, F: Files, C: Clock, K: Keeper, L: Link>(
     alloc: Global,
     words: &ReplayWords,
@@ -44,8 +44,6 @@ pub(crate) fn run_replay<S: Source, O: Sink, F: Files, C: Clock, K: Keeper, L: L
       reads = λ moment. C.reads outside.old.clock moment outside.new.clock;
       has_read = λ readings. ReadsAll C.reads outside.old.clock readings outside.new.clock;
       source_tells = S.tells;
-      bytes = flat_map S.left outside.old.sources.items;
-      source_failed = (before after : S) × (outside.old.sources.items ≡ before ∷ []) × (outside.new.sources.items ≡ after ∷ []) × Rose (S.faults before) (S.faults after);
       all_bytes = map S.left outside.old.sources.items;
       failed_at = λ place. FailsAt S.faults place outside.old.sources.items outside.new.sources.items;
       sink_tells = O.tells;
@@ -75,6 +73,7 @@ pub(crate) fn run_replay<S: Source, O: Sink, F: Files, C: Clock, K: Keeper, L: L
         outside.sources.as_mut_slice(),
         &mut outside.keeper,
         &mut outside.results,
+        &mut outside.status,
     ) {
         Ok(ended) => finish(alloc, &mut outside.status, ended),
         Err(refused) => {

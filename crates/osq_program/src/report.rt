@@ -73,7 +73,6 @@ fn name_of(status: &Status) -> &'static str {
         Status::TicksSpent => "TicksSpent",
         Status::QueryRefused { place: _, kind: _ } => "QueryRefused",
         Status::OutOfMemory => "OutOfMemory",
-        Status::NotBuilt { what: _ } => "NotBuilt",
     }
 }
 
@@ -113,20 +112,15 @@ fn push_fields(alloc: Global, line: &mut Bytes, status: &Status) -> Result<(), N
 /// The line that tells a refusal: its number, its name and its fields.
 pub(crate) fn refusal_line(alloc: Global, status: &Status) -> Result<Bytes, NoMemory> {
     let mut line = Bytes::new(alloc);
-    if let Status::NotBuilt { what } = status {
-        line.extend(b"osqd: not built: ")?;
-        line.extend(what.as_str().as_bytes())?;
-    } else {
-        push_field(
-            alloc,
-            &mut line,
-            "osqd: status ",
-            u64::from(status.number()),
-        )?;
-        line.extend(b" ")?;
-        line.extend(name_of(status).as_bytes())?;
-        push_fields(alloc, &mut line, status)?;
-    }
+    push_field(
+        alloc,
+        &mut line,
+        "osqd: status ",
+        u64::from(status.number()),
+    )?;
+    line.extend(b" ")?;
+    line.extend(name_of(status).as_bytes())?;
+    push_fields(alloc, &mut line, status)?;
     line.extend(b"\n")?;
     Ok(line)
 }

@@ -48,7 +48,7 @@ fn source_of(alloc: Global, source: &NamedSource) -> Result<SourceName, NoMemory
 }
 
 /// The sources that the words name, in their order.
-fn sources_of(alloc: Global, sources: &[NamedSource]) -> Result<SourceNameList, NoMemory>
+pub(crate) fn sources_of(alloc: Global, sources: &[NamedSource]) -> Result<SourceNameList, NoMemory>
     ensures { IfOk result (λ made. made ≡ map source_in sources.now) }
 {
     let mut made = SourceNameList::new(alloc);

@@ -1,6 +1,6 @@
 //! Runs that end before their command is done, and what the status stream then has.
 
-ghost use Rattle.std.specs.Prelude.{◌≡◌};
+ghost use Rattle.std.specs.Prelude.{◌≡◌, ◌≤◌};
 
 use crate::report::{final_line, refusal_line};
 use crate::status::Status;
@@ -9,7 +9,9 @@ use replay_rounds::Numbers;
 use std::alloc::Global;
 
 /// Writes the lines that tell a refusal, as far as the sink and memory allow: its own line, and behind a loaded kept list the final line.
-fn tell<O: Sink>(alloc: Global, sink: &mut O, status: &Status, kept: Option<Numbers>) {
+fn tell<O: Sink>(alloc: Global, sink: &mut O, status: &Status, kept: Option<Numbers>)
+    ensures { O.faults sink.old ≤ O.faults sink.new }
+{
     let Ok(line) = refusal_line(alloc, status) else {
         return;
     };
@@ -30,7 +32,8 @@ pub(crate) fn stop<O: Sink>(
     status: Status,
     kept: Option<Numbers>,
 ) -> Status
-    ensures { result ≡ status }
+    ensures same { result ≡ status }
+    ensures later { O.faults sink.old ≤ O.faults sink.new }
 {
     tell(alloc, sink, &status, kept);
     status

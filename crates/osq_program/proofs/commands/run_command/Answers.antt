@@ -5,3 +5,7 @@ use Rattle.osq_program.proofs.commands.run_command.Goals as goal
 pub run_replay-requires-clause-bounded : goal.run_replay-requires-clause-bounded
 unfolding IsBounded
 run_replay-requires-clause-bounded g c κs within = (subst IsBounded c.in-Replay.is c.requires.bounded).0
+
+pub do_query-requires-clause-bounded : goal.do_query-requires-clause-bounded
+unfolding IsBounded
+do_query-requires-clause-bounded g c κs within = subst IsBounded c.in-Query.is c.requires.bounded

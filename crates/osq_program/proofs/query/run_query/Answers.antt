@@ -1,55 +1,87 @@
-use Rattle.std.proofs.Common.{◌≡◌, ◌++◌, [], ℕ, List, ap, set, take, ◌∙◌, refl, rules}
-use Rattle.std.specs.Prelude.{true, unwrap_or}
-use Rattle.event_store.specs.Contents.{cut_above}
+use Rattle.std.proofs.Common.{Err, refl, ℕ, List, ap, sym, subst, ◌∙◌, ◌++◌, map, length}
+use Rattle.program_words.specs.declared.source.SourceName.{SourceName}
 use Rattle.sql_names.specs.Resolved.{query_of}
-use Rattle.osq_program.specs.Asked.{query_asked}
-use Rattle.osq_program.specs.Tables.{count_rows, time_rows}
-use Rattle.osq_program.proofs.Queries.{answers, by_not, partly_written, refused_kept, refused_moment, refused_source, refused_text, written}
-use Rattle.osq_program.proofs.QueryViews.{seen}
+use Rattle.sql_names.specs.TextFaults.{text_fault}
+use Rattle.sql_names.specs.Texts.{query_in}
+use Rattle.query_rounds.specs.Asking.{IsAnswer}
+use Rattle.osq_program.specs.Ending.{IsAnswerTo}
+use Rattle.osq_program.specs.Setups.{source_in}
+use Rattle.osq_program.proofs.Questions.{accepted_by, answered, as_fault, as_keeper, as_late, as_refused, as_shrank, given_for, no_memory, no_sink, of_text, posed_by, refused_config, refused_text, same_lines, unanswered, untold}
+use Rattle.osq_program.proofs.Replays.{answered as caused, fails_there, is_within, shrank_by}
+use Rattle.osq_program.proofs.Setups.{names_distinct}
 use Rattle.osq_program.proofs.query.run_query.Goals as goal
 
 pub returns-in-Err-clause-does : goal.returns-in-Err-clause-does
-returns-in-Err-clause-does g c = refused_text _ _ c.in-Err.status _ c.refuse.ensures c.in-Err.ensures.cause (λ told. refl) (λ told. refl)
+returns-in-Err-clause-does g c =
+    refused_text _ _ c.in-Err.status _ c.refuse.ensures (of_text _ _ c.in-Err.status c.as_str-text.ensures c.in-Err.ensures.cause) (λ tells. refl) (λ tells. refl)
 
-pub returns-in-Err-check_kept-clause-does : goal.returns-in-Err-check_kept-clause-does
-returns-in-Err-check_kept-clause-does g c =
-    refused_kept _ _ c.in-Err-check_kept.status _ c.refuse-in-Err-check_kept.ensures c.in-Ok.ensures.accepted c.in-Err-check_kept.ensures.cause (λ told. refl) c.check_kept.ensures.same
+pub returns-in-Err-watched_by-clause-does : goal.returns-in-Err-watched_by-clause-does
+returns-in-Err-watched_by-clause-does g c =
+    refused_config _ _ c.in-Err-watched_by.status _ c.refuse-in-Err-watched_by.ensures (ap text_fault (sym c.as_str-text.ensures) ∙ c.in-Ok.ensures.accepted) c.in-Err-watched_by.ensures.cause (λ tells. refl) (λ tells. refl)
 
-pub returns-in-Err-read_clock-clause-does : goal.returns-in-Err-read_clock-clause-does
-returns-in-Err-read_clock-clause-does g c =
-    refused_moment _ _ c.in-Err-read_clock.status _ c.refuse-in-Err-read_clock.ensures c.in-Ok.ensures.accepted c.in_default.ensures.empty c.in-Err-read_clock.ensures.cause (λ told. refl) c.check_kept.ensures.same
+pub returns-in_default-clause-does : goal.returns-in_default-clause-does
+returns-in_default-clause-does g c = no_memory _ _ _ c.refuse-in_default.ensures (λ tells. refl) (λ tells. refl)
 
-pub returns-in-Err-tables_of-clause-does : goal.returns-in-Err-tables_of-clause-does
-returns-in-Err-tables_of-clause-does g c =
-    refused_source _ _ c.in-Err-tables_of.status _ c.refuse-in-Err-tables_of.ensures
-    (record { accepted = c.in-Ok.ensures.accepted; empty = c.in_default.ensures.empty; read = (c.in-Ok-read_clock.moment, c.in-Ok-read_clock.ensures.moment.0, c.in-Ok-read_clock.ensures.moment.1) })
-    c.in-Err-tables_of.ensures.cause (λ told. refl) c.check_kept.ensures.same
+pub returns-in_default-write_all-clause-does : goal.returns-in_default-write_all-clause-does
+returns-in_default-write_all-clause-does g c =
+    let watched = c.in-Ok-watched_by.watched in
+    untold _ _ _ refl (posed_by _ _ _ watched.paths watched.notes c.as_str-text.ensures c.in-Ok.ensures.accepted c.in-Ok-watched_by.ensures.watched) c.in_default-write_all.ensures.cause.failed (λ tells. refl) (λ tells. refl)
 
-pub returns-in-Ok-write_all-clause-does : goal.returns-in-Ok-write_all-clause-does
-returns-in-Ok-write_all-clause-does g c =
-    let words = query_asked c.args.words.now in
-    let tables = c.in-Ok-tables_of.ensures.tables in
-    let moment = c.in-Ok-read_clock.moment in
-    let image = c.in-Ok-tables_of.taken.image in
-    let view = set (set (set (cut_above 0 image) 12 (time_rows moment)) 13 []) 14 count_rows in
-    let over : c.in-Ok-tables_of.taken.is_end ≡ true = (let test = c.if-not-taken.false in search (rules, by_not, test)) in
-    written _ _ c.in-Ok-answer.lines
-    (answers c.shows.ensures _ _ (query_of c.in-Ok.query) image view moment tables.0 c.in-Ok-answer.lines c.in-Ok.ensures.accepted c.in-Ok.ensures.query c.in_default.ensures.empty
-    c.in-Ok-read_clock.ensures.moment.0 c.in-Ok-read_clock.ensures.moment.1 (λ told. tables.2 told over)
-    (seen c.shows.ensures (unwrap_or words.tables []) tables.0 image moment view tables.1 refl) c.in-Ok-answer.ensures)
-    (λ told. c.in-Ok-write_all.ensures.bytes told ∙ ap (λ (l : List ℕ). g.O.Sink.written c.args.outside.now.results ++ l) c.as_slice.ensures) (λ told. refl) c.check_kept.ensures.same
+pub ask_kept-requires-clause-accepted : goal.ask_kept-requires-clause-accepted
+ask_kept-requires-clause-accepted g c κs within = accepted_by _ _ c.in-Ok.ensures.query
+
+pub ask_kept-requires-clause-distinct : goal.ask_kept-requires-clause-distinct
+ask_kept-requires-clause-distinct g c κs within =
+    names_distinct _ c.args.words.now.sources (c.as_slice-3.ensures ∙ c.in-Ok-sources_of.ensures ∙ ap (map source_in) c.as_slice.ensures) c.requires.bounded.sources_in.own_paths
+
+pub returns-in-Ok-ask_kept-clause-does : goal.returns-in-Ok-ask_kept-clause-does
+returns-in-Ok-ask_kept-clause-does g c =
+    let left = g.S.Source.left in
+    let watched = c.in-Ok-watched_by.watched in
+    let asked = c.in-Ok-ask_kept.asked in
+    let names = c.as_slice-3.ensures ∙ c.in-Ok-sources_of.ensures ∙ ap (map source_in) c.as_slice.ensures in
+    let bytes = sym (ap (map left) c.as_mut_slice.ensures.value) in
+    let (moment, read, early, answer) = c.in-Ok-ask_kept.ensures.answer in
+    answered _ _ (posed_by _ _ _ watched.paths watched.notes c.as_str-text.ensures c.in-Ok.ensures.accepted c.in-Ok-watched_by.ensures.watched) moment read early asked
+    (λ kept_told source_told legal given is. subst (λ (text : List ℕ). IsAnswer given (g.K.Keeper.kept c.args.outside.now.keeper) text c.args.words.now.ticks moment asked) c.as_str-text.ensures
+    (answer kept_told source_told legal given (given_for left _ _ _ _ _ given names bytes is)))
+    _ (same_lines c.args.words.now.text (query_of c.in-Ok.query) asked.rows (ap query_in (sym c.as_str-text.ensures) ∙ c.in-Ok.ensures.query)) c.in-Ok-ask_kept.ensures.same _ c.write_answer.ensures.writes
+    (λ done tells. ap g.O.Sink.written (c.write_answer.ensures.quiet done) ∙ c.in-Ok-write_all.ensures.bytes tells ∙ ap (λ (notes : List ℕ). g.O.Sink.written c.args.outside.now.status ++ notes) c.as_slice-2.ensures)
+
+pub answer_to-status-requires-clause-fault : goal.answer_to-status-requires-clause-fault
+answer_to-status-requires-clause-fault g c = λ place is.
+    let why = as_fault c.in-Err-ask_kept.error place (sym c.ended.ensures ∙ is) in
+    let fails = c.in-Err-ask_kept.ensures.fault place (ap Err why) in
+    is_within c.as_mut_slice.result.now _ place fails.source
+    (c.as_mut_slice.ensures.len ∙ c.requires.sources ∙ sym (ap (λ (sources : List SourceName). length sources) c.as_slice-in-Err-ask_kept.ensures)) fails.was
+
+pub answer_to-status-requires-clause-shrank : goal.answer_to-status-requires-clause-shrank
+answer_to-status-requires-clause-shrank g c = λ place kept found is.
+    let why = as_shrank c.in-Err-ask_kept.error place kept found (sym c.ended.ensures ∙ is) in
+    let h = c.in-Err-ask_kept.ensures.shrank place kept found (ap Err why) in
+    is_within c.as_mut_slice.result.now _ place h.2.source
+    (c.as_mut_slice.ensures.len ∙ c.requires.sources ∙ sym (ap (λ (sources : List SourceName). length sources) c.as_slice-in-Err-ask_kept.ensures)) h.2.source_there
 
 pub returns-clause-does : goal.returns-clause-does
 returns-clause-does g c =
-    let words = query_asked c.args.words.now in
-    let tables = c.in-Ok-tables_of.ensures.tables in
-    let moment = c.in-Ok-read_clock.moment in
-    let image = c.in-Ok-tables_of.taken.image in
-    let view = set (set (set (cut_above 0 image) 12 (time_rows moment)) 13 []) 14 count_rows in
-    let over : c.in-Ok-tables_of.taken.is_end ≡ true = (let test = c.if-not-taken.false in search (rules, by_not, test)) in
-    partly_written _ _ c.in-Ok-answer.lines
-    (answers c.shows.ensures _ _ (query_of c.in-Ok.query) image view moment tables.0 c.in-Ok-answer.lines c.in-Ok.ensures.accepted c.in-Ok.ensures.query c.in_default.ensures.empty
-    c.in-Ok-read_clock.ensures.moment.0 c.in-Ok-read_clock.ensures.moment.1 (λ told. tables.2 told over)
-    (seen c.shows.ensures (unwrap_or words.tables []) tables.0 image moment view tables.1 refl) c.in-Ok-answer.ensures)
-    (λ told. let f = c.in-Err-write_all.ensures.bytes told in (f.0, f.1 ∙ ap (λ (l : List ℕ). g.O.Sink.written c.args.outside.now.results ++ take f.0 l) c.as_slice.ensures))
-    c.in-Err-write_all.ensures.cause.failed c.check_kept.ensures.same _ c.refuse-in-Err-write_all.ensures
+    let left = g.S.Source.left in
+    let watched = c.in-Ok-watched_by.watched in
+    let e = c.in-Err-ask_kept.error in
+    let s = c.in-Err-ask_kept.ensures in
+    let by = sym c.ended.ensures in
+    let names = c.as_slice-3.ensures ∙ c.in-Ok-sources_of.ensures ∙ ap (map source_in) c.as_slice.ensures in
+    let bytes = sym (ap (map left) c.as_mut_slice.ensures.value) in
+    let posed = posed_by c.args.words.now _ _ watched.paths watched.notes c.as_str-text.ensures c.in-Ok.ensures.accepted c.in-Ok-watched_by.ensures.watched in
+    let answer = subst (λ (sources : List SourceName). IsAnswerTo sources c.ended.result c.answer_to-status.result) c.as_slice-in-Err-ask_kept.ensures c.answer_to-status.ensures in
+    unanswered _ _ c.answer_to-status.result _ c.refuse-in-Err-ask_kept.ensures
+    (caused _ c.args.words.now.sources c.ended.result _ answer
+    (λ is. (posed, s.keeper_cause (ap Err (as_keeper e (by ∙ is)))))
+    (λ is. (posed, λ tells. (s.illegal tells (ap Err (as_refused e (by ∙ is))), s.refused tells (ap Err (as_refused e (by ∙ is))))))
+    (λ moment is. let late = s.moment moment (ap Err (as_late e moment (by ∙ is))) in (posed, late.0, late.1))
+    (λ place name is named. (posed, (place, named, fails_there g.S.Source.faults place _ _ _ _ _ c.as_mut_slice.ensures.value c.as_mut_slice.ensures.len (s.fault place (ap Err (as_fault e place (by ∙ is)))))))
+    (λ place kept found name is named.
+    let h = s.shrank place kept found (ap Err (as_shrank e place kept found (by ∙ is))) in
+    (posed, shrank_by left _ _ _ _ h.0 place kept found name names bytes h.1 h.2 named))
+    (λ is. posed)
+    (λ is. no_sink e (by ∙ is)))
+    (λ tells. refl) s.same

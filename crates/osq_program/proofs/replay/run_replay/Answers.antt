@@ -1,7 +1,8 @@
-use Rattle.std.proofs.Common.{refl, inl, inr, ℕ, List, ap, sym, subst, ◌∙◌, ◌++◌, map, length}
+use Rattle.std.proofs.Common.{refl, inr, ℕ, List, ap, sym, subst, ◌∙◌, ◌++◌, map, length}
 use Rattle.program_words.specs.declared.source.SourceName.{SourceName}
+use Rattle.daemon_rounds.specs.declared.setup.Setup.{Setup}
 use Rattle.osq_program.specs.Ending.{IsAnswerTo}
-use Rattle.osq_program.proofs.Ended.{rose_behind}
+use Rattle.osq_program.proofs.Ended.{failed_between, later_then, rose_behind}
 use Rattle.osq_program.proofs.Replays.{answered, fails_there, given_is, is_within, no_memory, ran, refused_config, shrank_by, stopped, untold}
 use Rattle.osq_program.proofs.Setups.{for_ticks, setup_distinct, setup_paired, setup_ticks}
 use Rattle.osq_program.proofs.replay.run_replay.Goals as goal
@@ -39,9 +40,9 @@ returns-in-Ok-run_session-clause-does g c =
     let left = g.S.Source.left in
     let bytes = sym (ap (map left) c.as_mut_slice.ensures.value) in
     let is = given_is left _ _ c.in-Ok-setup_of.setup c.in-Ok.configured.config c.in-Ok.configured.documents c.in-Ok.configured.notes _ c.in-Ok-setup_of.ensures bytes c.in-Ok.ensures.config in
-    ran _ _ _ _ is c.in-Ok-run_session.ended (for_ticks c.in-Ok-setup_of.setup c.args.words.now _ _ _ _ _ c.in-Ok-setup_of.ensures s.done) _
-    (λ tells. c.in-Ok-write_all.ensures.bytes tells ∙ ap (λ (notes : List ℕ). g.O.Sink.written c.args.outside.now.status ++ notes) c.as_slice.ensures) _
-    (rose_behind _ _ _ c.in-Ok-write_all.ensures.cause.later) c.finish.ensures.done c.finish.ensures.spent c.finish.ensures.cause s.kept s.written
+    ran _ _ _ _ is c.in-Ok-run_session.ended (for_ticks c.in-Ok-setup_of.setup c.args.words.now _ _ _ _ _ c.in-Ok-setup_of.ensures s.done) _ _
+    (λ tells. c.in-Ok-write_all.ensures.bytes tells ∙ ap (λ (notes : List ℕ). g.O.Sink.written c.args.outside.now.status ++ notes) c.as_slice.ensures) s.notes _
+    (rose_behind _ _ _ (later_then _ _ _ c.in-Ok-write_all.ensures.cause.later s.later.2)) c.finish.ensures.done c.finish.ensures.spent c.finish.ensures.cause s.kept s.written
 
 pub answer_to-status-requires-clause-fault : goal.answer_to-status-requires-clause-fault
 answer_to-status-requires-clause-fault g c = λ place is.
@@ -64,7 +65,7 @@ returns-clause-does g c =
     let bytes = sym (ap (map left) c.as_mut_slice.ensures.value) in
     let is = given_is left _ _ setup c.in-Ok.configured.config c.in-Ok.configured.documents c.in-Ok.configured.notes _ c.in-Ok-setup_of.ensures bytes c.in-Ok.ensures.config in
     let answer = subst (λ (sources : List SourceName). IsAnswerTo sources r.error c.answer_to-status.result) c.as_slice-in-Err-run_session.ensures c.answer_to-status.ensures in
-    stopped _ _ c.answer_to-status.result _ c.stop.ensures
+    stopped _ _ c.answer_to-status.result _ c.stop.ensures.same
     (answered _ c.args.words.now.sources r.error _ answer
     (λ e. ((_, is), s.keeper_cause r refl e))
     (λ e. ((_, is), λ tells. (s.illegal tells r refl e, s.refused tells r refl e)))
@@ -72,7 +73,7 @@ returns-clause-does g c =
     (λ place name e named. ((_, is), (place, named, fails_there g.S.Source.faults place _ _ _ _ _ c.as_mut_slice.ensures.value c.as_mut_slice.ensures.len (s.fault r place refl e))))
     (λ place kept found name e named.
     let h = s.shrank r place kept found refl e in
-    ((_, is), shrank_by left _ _ setup _ h.0 place kept found name c.in-Ok-setup_of.ensures bytes h.1 h.2 named))
-    (λ e. (_, is))
-    (λ e. ((_, is), inl (s.sink_cause r refl e))))
+    ((_, is), shrank_by left _ _ setup.sources _ h.0 place kept found name (ap (λ (s : Setup). s.sources) c.in-Ok-setup_of.ensures) bytes h.1 h.2 named))
+    (λ e. (_, is, s.spent r refl e))
+    (λ e. ((_, is), failed_between _ _ _ _ _ c.in-Ok-write_all.ensures.cause.later c.stop.ensures.later (s.sink_cause r refl e))))
     (λ tells. inr (_, is, s.kept tells)) (λ tells. inr (_, is, s.written tells))

@@ -1,0 +1,274 @@
+-- From what the parts of a query ensure to what `query` does.
+use Rattle.std.proofs.Common.{◌≡◌, inl, inr, ◌≤◌, ℕ, Bool, true, false, List, ◌++◌, map, take, refl, sym, ap, ◌∙◌, subst, Some, None}
+use Rattle.osq_value.specs.declared.reading.Category.{Category}
+use Rattle.osq_value.specs.declared.value.Value.{Value}
+use Rattle.entry_model.specs.Legal.{Legal}
+use Rattle.program_words.specs.declared.command.QueryWords.{QueryWords}
+use Rattle.sql_meaning.specs.Meaning.{is_accepted, names_of}
+use Rattle.sql_names.specs.Answers.{result_names}
+use Rattle.sql_names.specs.Resolved.{QueryTree}
+use Rattle.sql_names.specs.TextFaults.{text_fault}
+use Rattle.sql_names.specs.Texts.{query_in}
+use Rattle.session_model.specs.Given.{Given}
+use Rattle.daemon_rounds.specs.declared.setup.SourceName.{SourceName as SessionSource}
+use Rattle.replay_rounds.specs.Sources.{sources_of}
+use Rattle.replay_rounds.specs.declared.refused.RunError.TheVariants as running
+use Rattle.query_rounds.specs.Asking as asking
+use Rattle.query_rounds.specs.declared.asking.Asked.{Asked}
+use Rattle.query_rounds.specs.declared.error.AskError.{AskError}
+use Rattle.query_rounds.specs.declared.error.AskError.TheVariants as ask
+use Rattle.osq_program.specs.declared.status.Status.{Status}
+use Rattle.osq_program.specs.declared.status.Status.TheVariants.{Ok as Done, Usage, FilesFault, ConfigRefused, KeeperFault, KeeperRefused, MomentTooLarge, SourceFault, SourceShrank, NumbersSpent, SinkFault, TicksSpent, QueryRefused, OutOfMemory}
+use Rattle.osq_program.specs.Answers.{Causes, IsCaused, IsDoneStatus, IsRefusal, no_causes}
+use Rattle.osq_program.specs.Ending.{ended_by}
+use Rattle.osq_program.specs.Moments.{LAST_MOMENT}
+use Rattle.osq_program.specs.Querying.{HasAnswer, IsGiven, IsPosed, IsQuery, IsRefusedAt, Leaves, Writes, causes_of, lines_in, row_lines}
+use Rattle.osq_program.specs.Setups.{source_in, sources_named}
+use Rattle.osq_program.specs.Told.{Told}
+use Rattle.osq_program.specs.Watching.{AreWatched, IsRefusedIn}
+use Rattle.osq_program.proofs.Setups.{sources_are}
+
+-- each of these causes is one of those
+pub record Within (c d : Causes) : Type 0 where
+  pub query : (place : ℕ) (kind : List ℕ) → c.query place kind → d.query place kind
+  pub files : c.files → d.files
+  pub refused : (kind key : List ℕ) → c.refused kind key → d.refused kind key
+  pub keeper : c.keeper → d.keeper
+  pub unfit : c.unfit → d.unfit
+  pub moment : (moment : ℕ) → c.moment moment → d.moment moment
+  pub source : (name : List ℕ) → c.source name → d.source name
+  pub shrank : (name : List ℕ) (kept found : ℕ) → c.shrank name kept found → d.shrank name kept found
+  pub numbers : c.numbers → d.numbers
+  pub sink : c.sink → d.sink
+
+caused_by_more : (c d : Causes) → Within c d → (s : Status) → IsCaused c s → IsCaused d s
+caused_by_more c d more Done caused = caused
+caused_by_more c d more Usage caused = caused
+caused_by_more c d more FilesFault caused = more.files caused
+caused_by_more c d more (ConfigRefused kind key) caused = more.refused kind.now key caused
+caused_by_more c d more KeeperFault caused = more.keeper caused
+caused_by_more c d more KeeperRefused caused = more.unfit caused
+caused_by_more c d more (MomentTooLarge moment) caused = more.moment moment caused
+caused_by_more c d more (SourceFault name) caused = more.source name caused
+caused_by_more c d more (SourceShrank name kept found) caused = more.shrank name kept found caused
+caused_by_more c d more NumbersSpent caused = more.numbers caused
+caused_by_more c d more SinkFault caused = more.sink caused
+caused_by_more c d more TicksSpent caused = caused
+caused_by_more c d more (QueryRefused place kind) caused = more.query place kind.now caused
+caused_by_more c d more OutOfMemory caused = tt
+
+-- a refusal leaves the results as they were, where a fault of a sink was one of the status stream
+leaves_same : (words : QueryWords) (told : Told) (c : Causes) (s : Status) → IsCaused c s → (c.sink → told.status_failed) → (told.sink_tells → told.results_after ≡ told.results_before) → Leaves words told s
+leaves_same words told c Done caused sink same = absurd caused
+leaves_same words told c Usage caused sink same = absurd caused
+leaves_same words told c FilesFault caused sink same = same
+leaves_same words told c (ConfigRefused kind key) caused sink same = same
+leaves_same words told c KeeperFault caused sink same = same
+leaves_same words told c KeeperRefused caused sink same = same
+leaves_same words told c (MomentTooLarge moment) caused sink same = same
+leaves_same words told c (SourceFault name) caused sink same = same
+leaves_same words told c (SourceShrank name kept found) caused sink same = same
+leaves_same words told c NumbersSpent caused sink same = same
+leaves_same words told c SinkFault caused sink same = inl (sink caused, same)
+leaves_same words told c TicksSpent caused sink same = absurd caused
+leaves_same words told c (QueryRefused place kind) caused sink same = same
+leaves_same words told c OutOfMemory caused sink same = same
+
+-- a question that has no answer, by one of these causes
+pub stopped : (words : QueryWords) (told : Told) (c : Causes) (s r : Status) → r ≡ s → Within c (causes_of words told) → (c.sink → told.status_failed) → IsCaused c s
+    → (told.sink_tells → told.results_after ≡ told.results_before) → (told.keeper_tells → told.kept_after ≡ told.kept_before) → IsQuery words told r
+stopped words told c s r is more sink caused same kept =
+    subst (IsQuery words told) (sym is) (record {
+      leaves = leaves_same words told c s caused sink same;
+      cause = λ refusal. caused_by_more c (causes_of words told) more s caused;
+      kept = kept;
+    })
+
+-- by the text
+pub refused_text : (words : QueryWords) (told : Told) (s r : Status) → r ≡ s → IsCaused (record no_causes { query = IsRefusedAt words.text }) s
+    → (told.sink_tells → told.results_after ≡ told.results_before) → (told.keeper_tells → told.kept_after ≡ told.kept_before) → IsQuery words told r
+refused_text words told s r is caused same kept =
+    stopped words told (record no_causes { query = IsRefusedAt words.text }) s r is (record {
+      query = λ place kind x. x;
+      files = λ x. absurd x;
+      refused = λ kind key x. absurd x;
+      keeper = λ x. absurd x;
+      unfit = λ x. absurd x;
+      moment = λ moment x. absurd x;
+      source = λ name x. absurd x;
+      shrank = λ name kept found x. absurd x;
+      numbers = λ x. absurd x;
+      sink = λ x. absurd x;
+    }) (λ x. absurd x) caused same kept
+
+-- a refusal of a text is one of the same text
+pub of_text : (text same : List ℕ) (s : Status) → text ≡ same → IsCaused (record no_causes { query = IsRefusedAt text }) s → IsCaused (record no_causes { query = IsRefusedAt same }) s
+of_text text same s is caused = subst (λ (t : List ℕ). IsCaused (record no_causes { query = IsRefusedAt t }) s) is caused
+
+-- by the configuration
+pub refused_config : (words : QueryWords) (told : Told) (s r : Status) → r ≡ s → text_fault words.text ≡ None
+    → IsCaused (record no_causes { files = told.files_failed; refused = IsRefusedIn told.files_tell told.file words.config }) s
+    → (told.sink_tells → told.results_after ≡ told.results_before) → (told.keeper_tells → told.kept_after ≡ told.kept_before) → IsQuery words told r
+refused_config words told s r is accepted caused same kept =
+    stopped words told (record no_causes { files = told.files_failed; refused = IsRefusedIn told.files_tell told.file words.config }) s r is (record {
+      query = λ place kind x. absurd x;
+      files = λ x. (accepted, x);
+      refused = λ kind key x. (accepted, x);
+      keeper = λ x. absurd x;
+      unfit = λ x. absurd x;
+      moment = λ moment x. absurd x;
+      source = λ name x. absurd x;
+      shrank = λ name kept found x. absurd x;
+      numbers = λ x. absurd x;
+      sink = λ x. absurd x;
+    }) (λ x. absurd x) caused same kept
+
+pub no_memory : (words : QueryWords) (told : Told) (r : Status) → r ≡ OutOfMemory → (told.sink_tells → told.results_after ≡ told.results_before)
+    → (told.keeper_tells → told.kept_after ≡ told.kept_before) → IsQuery words told r
+no_memory words told r is same kept = subst (IsQuery words told) (sym is) (record { leaves = same; cause = λ refusal. tt; kept = kept })
+
+-- the lines of packs that are left out could not be written
+pub untold : (words : QueryWords) (told : Told) (r : Status) → r ≡ SinkFault → IsPosed words told → told.status_failed → (told.sink_tells → told.results_after ≡ told.results_before)
+    → (told.keeper_tells → told.kept_after ≡ told.kept_before) → IsQuery words told r
+untold words told r is posed failed same kept =
+    subst (IsQuery words told) (sym is) (record { leaves = inl (failed, same); cause = λ refusal. (posed, inr failed); kept = kept })
+
+-- behind the question, by anything but a sink
+pub unanswered : (words : QueryWords) (told : Told) (s r : Status) → r ≡ s → IsCaused (record (causes_of words told) { sink = ⊥ }) s
+    → (told.sink_tells → told.results_after ≡ told.results_before) → (told.keeper_tells → told.kept_after ≡ told.kept_before) → IsQuery words told r
+unanswered words told s r is caused same kept =
+    stopped words told (record (causes_of words told) { sink = ⊥ }) s r is (record {
+      query = λ place kind x. x;
+      files = λ x. x;
+      refused = λ kind key x. x;
+      keeper = λ x. x;
+      unfit = λ x. x;
+      moment = λ moment x. x;
+      source = λ name x. x;
+      shrank = λ name kept found x. x;
+      numbers = λ x. x;
+      sink = λ x. absurd x;
+    }) (λ x. absurd x) caused same kept
+
+-- a text that has a query is accepted, and its rows are shown under the query's names
+pub accepted_by : (text : List ℕ) (query : QueryTree) → query_in text ≡ Some query → is_accepted text ≡ true
+unfolding is_accepted
+accepted_by text query is = rw is refl
+
+pub same_lines : (text : List ℕ) (query : QueryTree) (rows : List (List Value)) → query_in text ≡ Some query → row_lines (result_names query) rows ≡ row_lines (names_of text) rows
+unfolding names_of
+same_lines text query rows is = rw is refl
+
+-- a question whose text is accepted, and whose configuration was read, is posed
+abbrev pub posed_by : (words : QueryWords) (told : Told) (text : List ℕ) (paths : List Category) (notes : List ℕ) → text ≡ words.text → text_fault text ≡ None → AreWatched told.files_tell told.file words.config paths notes → IsPosed words told
+posed_by words told text paths notes is accepted are = record { accepted = ap text_fault (sym is) ∙ accepted; watched = record { paths = paths; notes = notes; are = are } }
+
+-- what a session is given is what the question is over
+pub given_for : {S : Type 0} (left : S → List ℕ) (words : QueryWords) (told : Told) (posed : IsPosed words told) (names : List SessionSource) (objects : List S) (given : Given) → names ≡ map source_in words.sources
+    → told.all_bytes ≡ map left objects → IsGiven words told posed given → asking.IsGiven left names objects posed.watched.paths words.records given
+given_for left words told posed names objects given is bytes g = record {
+  sources_are = g.sources ∙ sym (ap (λ (ns : List SessionSource). sources_of left ns objects) is ∙ sources_are left words.sources objects ∙ ap (sources_named words.sources) (sym bytes));
+  paths_are = g.paths;
+  records_are = g.records;
+}
+
+-- the question was answered, and what was then written
+module _ (words : QueryWords) (told : Told) (posed : IsPosed words told) (moment : ℕ) (read : told.reads moment) (early : moment ≤ LAST_MOMENT) (asked : Asked)
+    (answer : told.keeper_tells → told.source_tells → Legal told.kept_before → (given : Given) → IsGiven words told posed given → asking.IsAnswer given told.kept_before words.text words.ticks moment asked)
+    (lines : List ℕ) (same : lines ≡ lines_in words asked) (kept : told.keeper_tells → told.kept_after ≡ told.kept_before) where
+  abbrev has : (is_end : Bool) → asked.is_end ≡ is_end → HasAnswer words told is_end
+  has is_end end_is = record { posed = posed; moment = moment; read = read; early = early; asked = asked; end_is = end_is; answer = answer }
+
+  leaves_written : (s : Status) → Writes told.sink_tells asked.is_end told.results_before told.results_after lines told.results_failed s
+      → (IsDoneStatus s → told.sink_tells → told.status_after ≡ told.status_before ++ posed.watched.notes) → Leaves words told s
+  leaves_written Done writes quiet =
+      (has true writes.0, λ tells. (writes.1 tells ∙ ap (λ (ls : List ℕ). told.results_before ++ ls) same, quiet tt tells))
+  leaves_written Usage writes quiet = absurd writes
+  leaves_written FilesFault writes quiet = absurd writes
+  leaves_written (ConfigRefused kind key) writes quiet = absurd writes
+  leaves_written KeeperFault writes quiet = absurd writes
+  leaves_written KeeperRefused writes quiet = absurd writes
+  leaves_written (MomentTooLarge moment) writes quiet = absurd writes
+  leaves_written (SourceFault name) writes quiet = absurd writes
+  leaves_written (SourceShrank name kept found) writes quiet = absurd writes
+  leaves_written NumbersSpent writes quiet = absurd writes
+  leaves_written SinkFault writes quiet =
+      inr (has true writes.0, writes.1, λ tells. let front = writes.2 tells in (front.0, front.1 ∙ ap (λ (ls : List ℕ). told.results_before ++ take front.0 ls) same))
+  leaves_written TicksSpent writes quiet = (has false writes.0, writes.1)
+  leaves_written (QueryRefused place kind) writes quiet = absurd writes
+  leaves_written OutOfMemory writes quiet = writes
+
+  caused_written : (s : Status) → Writes told.sink_tells asked.is_end told.results_before told.results_after lines told.results_failed s → IsRefusal s → IsCaused (causes_of words told) s
+  caused_written Done writes refusal = absurd refusal
+  caused_written Usage writes refusal = absurd refusal
+  caused_written FilesFault writes refusal = absurd writes
+  caused_written (ConfigRefused kind key) writes refusal = absurd writes
+  caused_written KeeperFault writes refusal = absurd writes
+  caused_written KeeperRefused writes refusal = absurd writes
+  caused_written (MomentTooLarge moment) writes refusal = absurd writes
+  caused_written (SourceFault name) writes refusal = absurd writes
+  caused_written (SourceShrank name kept found) writes refusal = absurd writes
+  caused_written NumbersSpent writes refusal = absurd writes
+  caused_written SinkFault writes refusal = (posed, inl writes.1)
+  caused_written TicksSpent writes refusal = absurd refusal
+  caused_written (QueryRefused place kind) writes refusal = absurd writes
+  caused_written OutOfMemory writes refusal = tt
+
+  pub answered : (s : Status) → Writes told.sink_tells asked.is_end told.results_before told.results_after lines told.results_failed s
+      → (IsDoneStatus s → told.sink_tells → told.status_after ≡ told.status_before ++ posed.watched.notes) → IsQuery words told s
+  answered s writes quiet = record { leaves = leaves_written s writes quiet; cause = caused_written s writes; kept = kept }
+
+-- a question ends as a session does, where it is for the same reason
+pub as_keeper : (e : AskError) → ended_by e ≡ running.KeeperFault → e ≡ ask.KeeperFault
+as_keeper ask.KeeperFault is = refl
+as_keeper ask.KeeperRefused is = absurd cc
+as_keeper (ask.MomentTooLarge moment) is = absurd cc
+as_keeper (ask.SourceFault place) is = absurd cc
+as_keeper (ask.SourceShrank place kept found) is = absurd cc
+as_keeper ask.NumbersSpent is = absurd cc
+as_keeper ask.NoMemory is = absurd cc
+
+pub as_refused : (e : AskError) → ended_by e ≡ running.KeeperRefused → e ≡ ask.KeeperRefused
+as_refused ask.KeeperFault is = absurd cc
+as_refused ask.KeeperRefused is = refl
+as_refused (ask.MomentTooLarge moment) is = absurd cc
+as_refused (ask.SourceFault place) is = absurd cc
+as_refused (ask.SourceShrank place kept found) is = absurd cc
+as_refused ask.NumbersSpent is = absurd cc
+as_refused ask.NoMemory is = absurd cc
+
+pub as_late : (e : AskError) (at : ℕ) → ended_by e ≡ running.MomentTooLarge at → e ≡ ask.MomentTooLarge at
+as_late ask.KeeperFault at is = absurd cc
+as_late ask.KeeperRefused at is = absurd cc
+as_late (ask.MomentTooLarge moment) at is = cc
+as_late (ask.SourceFault place) at is = absurd cc
+as_late (ask.SourceShrank place kept found) at is = absurd cc
+as_late ask.NumbersSpent at is = absurd cc
+as_late ask.NoMemory at is = absurd cc
+
+pub as_fault : (e : AskError) (at : ℕ) → ended_by e ≡ running.SourceFault at → e ≡ ask.SourceFault at
+as_fault ask.KeeperFault at is = absurd cc
+as_fault ask.KeeperRefused at is = absurd cc
+as_fault (ask.MomentTooLarge moment) at is = absurd cc
+as_fault (ask.SourceFault place) at is = cc
+as_fault (ask.SourceShrank place kept found) at is = absurd cc
+as_fault ask.NumbersSpent at is = absurd cc
+as_fault ask.NoMemory at is = absurd cc
+
+pub as_shrank : (e : AskError) (at had was : ℕ) → ended_by e ≡ running.SourceShrank at had was → e ≡ ask.SourceShrank at had was
+as_shrank ask.KeeperFault at had was is = absurd cc
+as_shrank ask.KeeperRefused at had was is = absurd cc
+as_shrank (ask.MomentTooLarge moment) at had was is = absurd cc
+as_shrank (ask.SourceFault place) at had was is = absurd cc
+as_shrank (ask.SourceShrank place kept found) at had was is = cc
+as_shrank ask.NumbersSpent at had was is = absurd cc
+as_shrank ask.NoMemory at had was is = absurd cc
+
+pub no_sink : (e : AskError) → ended_by e ≡ running.SinkFault → ⊥
+no_sink ask.KeeperFault is = cc
+no_sink ask.KeeperRefused is = cc
+no_sink (ask.MomentTooLarge moment) is = cc
+no_sink (ask.SourceFault place) is = cc
+no_sink (ask.SourceShrank place kept found) is = cc
+no_sink ask.NumbersSpent is = cc
+no_sink ask.NoMemory is = cc
