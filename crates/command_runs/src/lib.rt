@@ -18,4 +18,6 @@ pub type Memory = Outside<
 #[cfg(test)]
 mod check_tests;
 #[cfg(test)]
+mod kept_tests;
+#[cfg(test)]
 mod query_tests;

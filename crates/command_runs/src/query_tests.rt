@@ -329,8 +329,8 @@ fn refused_queries(rt: HostRuntime) -> Result<(), Failed> {
                 start: 253_402_300_800,
                 ..PLAIN
             },
-            30,
-            "osqd: not built: kept\n",
+            9,
+            "osqd: status 9 MomentTooLarge moment=253402300800\n",
         ),
         (
             Case {

@@ -1,4 +1,4 @@
-//! Whole sessions over the forms in memory, and what every command refuses: a crate of tests, so that the crates below stay quick to check.
+//! Whole sessions of `replay` over the forms in memory, and what it refuses: a crate of tests, so that the crates below stay quick to check.
 #![tactic(auto)]
 
 use batch_keeper::MemoryKeeper;
@@ -15,6 +15,12 @@ pub type Memory = Outside<
     MemoryLink,
 >;
 
+#[cfg(test)]
+mod length_tests;
+#[cfg(test)]
+mod link_tests;
+#[cfg(test)]
+mod refusal_tests;
 #[cfg(test)]
 mod runs;
 #[cfg(test)]

@@ -223,6 +223,27 @@ fn are_shown(
     Ok(entries.len().checked_sub(before) == Some(texts.len()))
 }
 
+/// The number of the status of a run by these words over what there is.
+pub(crate) fn number_of(alloc: Global, outside: &mut Memory, words: &str) -> Result<u8, NoMemory> {
+    let words = words_of(alloc, words)?;
+    Ok(run_plain(alloc, words.as_slice(), outside).number())
+}
+
+/// Whether a run by these words over what there is leaves this behind the kept list.
+pub(crate) fn leaves_over(
+    alloc: Global,
+    outside: &mut Memory,
+    words: &str,
+    left: &Left<'_>,
+) -> Result<bool, NoMemory> {
+    let before = outside.keeper.entries().len();
+    let is_same = number_of(alloc, outside, words)? == left.number;
+    let has_kept = are_shown(alloc, outside.keeper.entries(), before, left.kept)?;
+    let has_lines = outside.results.written().as_slice() == left.results.as_bytes();
+    let has_status = outside.status.written().as_slice() == left.status.as_bytes();
+    Ok(is_same & has_kept & has_lines & has_status)
+}
+
 /// Whether the run leaves this behind the kept list that there is.
 pub(crate) fn leaves(
     alloc: Global,
@@ -230,15 +251,8 @@ pub(crate) fn leaves(
     run: &Run<'_>,
     left: &Left<'_>,
 ) -> Result<bool, NoMemory> {
-    let before = outside.keeper.entries().len();
     prepare(alloc, outside, run)?;
-    let words = words_of(alloc, run.words)?;
-    let status = run_plain(alloc, words.as_slice(), outside);
-    let is_same = status.number() == left.number;
-    let has_kept = are_shown(alloc, outside.keeper.entries(), before, left.kept)?;
-    let has_lines = outside.results.written().as_slice() == left.results.as_bytes();
-    let has_status = outside.status.written().as_slice() == left.status.as_bytes();
-    Ok(is_same & has_kept & has_lines & has_status)
+    leaves_over(alloc, outside, run.words, left)
 }
 
 /// The place of the first run of a story that leaves something else.
