@@ -264,6 +264,15 @@ as_shrank (ask.SourceShrank place kept found) at had was is = cc
 as_shrank ask.NumbersSpent at had was is = absurd cc
 as_shrank ask.NoMemory at had was is = absurd cc
 
+pub as_spent : (e : AskError) → ended_by e ≡ running.NumbersSpent → e ≡ ask.NumbersSpent
+as_spent ask.KeeperFault is = absurd cc
+as_spent ask.KeeperRefused is = absurd cc
+as_spent (ask.MomentTooLarge moment) is = absurd cc
+as_spent (ask.SourceFault place) is = absurd cc
+as_spent (ask.SourceShrank place kept found) is = absurd cc
+as_spent ask.NumbersSpent is = refl
+as_spent ask.NoMemory is = absurd cc
+
 pub no_sink : (e : AskError) → ended_by e ≡ running.SinkFault → ⊥
 no_sink ask.KeeperFault is = cc
 no_sink ask.KeeperRefused is = cc

@@ -9,7 +9,7 @@ use Rattle.sql_meaning.specs.Meaning.{names_of}
 use Rattle.sql_names.specs.declared.text.TextError.{TextError}
 use Rattle.sql_names.specs.TextFaults.{text_fault, place_of_fault, name_of_fault}
 use Rattle.session_model.specs.Given.{Given}
-use Rattle.query_rounds.specs.Asking.{IsAnswer}
+use Rattle.query_rounds.specs.Asking.{IsAnswer, Spends}
 use Rattle.query_rounds.specs.declared.asking.Asked.{Asked}
 use Rattle.osq_program.specs.declared.status.Status.{Status}
 use Rattle.osq_program.specs.declared.status.Status.TheVariants.{Ok as Done, SinkFault, TicksSpent, OutOfMemory}
@@ -59,7 +59,7 @@ pub record HasAnswer (words : QueryWords) (told : Told) (is_end : Bool) : Type 0
 abbrev pub lines_in : QueryWords → Asked → List ℕ
 lines_in words asked = row_lines (names_of words.text) asked.rows
 
--- The causes of a query. Each carries what was passed before it. What it means that numbers are spent isn't said yet.
+-- The causes of a query. Each carries what was passed before it.
 abbrev pub causes_of : QueryWords → Told → Causes
 causes_of words told =
     record no_causes {
@@ -71,7 +71,7 @@ causes_of words told =
       moment = λ moment. IsPosed words told × told.reads moment × (LAST_MOMENT < moment);
       source = λ name. IsPosed words told × HasFailed words.sources told name;
       shrank = λ name kept found. IsPosed words told × HasShrunk words.sources told name kept found;
-      numbers = IsPosed words told;
+      numbers = (posed : IsPosed words told) × (told.keeper_tells → told.source_tells → Legal told.kept_before → (given : Given) → IsGiven words told posed given → Spends given told.kept_before words.ticks);
       sink = IsPosed words told × (told.results_failed ⊎ told.status_failed);
     }
 

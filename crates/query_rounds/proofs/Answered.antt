@@ -1,5 +1,5 @@
 -- The answer to a question.
-use Rattle.std.proofs.Common.{◌≡◌, ℕ, ◌+◌, ◌≤◌, Bool, false, List, [], ◌∷◌, ◌++◌, Some, map, sym, ap, ◌∙◌, subst, append_assoc, arith}
+use Rattle.std.proofs.Common.{◌≡◌, ℕ, ◌+◌, ◌≤◌, Bool, false, List, [], ◌∷◌, ◌++◌, Some, sym, ap, ◌∙◌, subst, append_assoc, arith}
 use Rattle.std.specs.Prelude.{Option, bytes_eq}
 use Rattle.osq_value.specs.declared.reading.Category.{Category}
 use Rattle.osq_value.specs.declared.value.Value.{Value}
@@ -13,20 +13,18 @@ use Rattle.entry_model.specs.Legal.{Legal}
 use Rattle.entry_model.specs.Summary.{summary}
 use Rattle.entry_model.specs.Values.{sessions}
 use Rattle.entry_model.specs.Views.{view_of}
-use Rattle.session_model.specs.Given.{Given, Source}
+use Rattle.session_model.specs.Given.{Given}
 use Rattle.session_state.specs.Kept.{Kept}
 use Rattle.kept_queries.specs.Asking.{MeansBehind}
 use Rattle.daemon_rounds.specs.declared.setup.SourceName.{SourceName}
 use Rattle.daemon_rounds.specs.Starting.{source_names}
-use Rattle.daemon_rounds.proofs.Started.{all_going}
 use Rattle.replay_rounds.specs.Sources.{sources_of}
 use Rattle.replay_rounds.proofs.Endings.{all_present, all_whole}
-use Rattle.replay_rounds.proofs.Feeds.{fed_names}
 use Rattle.query_rounds.specs.Asking.{AnswersBehind, IsAnswer, IsGiven, opened_behind}
 use Rattle.query_rounds.specs.Reading.{HasRead}
 use Rattle.query_rounds.specs.Rounds.{HasMore}
 use Rattle.query_rounds.specs.Running.{Place, place_of}
-use Rattle.query_rounds.proofs.Taken.{EndsFull, HasTaken, all_taken, begun_taken, has_more}
+use Rattle.query_rounds.proofs.Taken.{EndsFull, HasTaken, all_taken, begun_taken, has_more, sources_distinct}
 
 -- what the text's query means is what the text means
 pub text_means : (text : List ℕ) (query : QueryTree) (state : Kept) (moment : ℕ) (rows : List (List Value)) → query_in text ≡ Some query → MeansBehind state query moment rows → AnswersBehind state text moment rows
@@ -43,12 +41,8 @@ module _ {S : Type 0} (tells : Type 0) (left : S → List ℕ) (faults : S → �
     start_taken : HasTaken tells left given kept 0 [] read.start
     start_taken = begun_taken tells left faults given kept names objects read.start are read.begun
 
-    sources_distinct : IsDistinct bytes_eq (map (λ (source : Source). source.name) given.sources)
-    sources_distinct =
-        subst (λ (names : List (List ℕ)). IsDistinct bytes_eq names) (fed_names tells left given.config.categories kept (opened_behind kept ++ []) given.sources read.start.feeds read.start.sources start_taken.fed) (all_going tells left faults (summary kept).taken given.config.categories names read.begun.starts.opened read.start.feeds objects read.start.sources read.begun.starts.of_sources read.begun.starts.starts distinct).distinct
-
     all_read : (entries : List Entry) × HasTaken tells left given kept read.runs.count entries end × EndsFull given (opened_behind kept) read.runs.count entries end.feeds
-    all_read = all_taken tells left faults given kept told legal sources_distinct read.runs.count read.start end start_taken read.runs.turns
+    all_read = all_taken tells left faults given kept told legal (sources_distinct tells left faults given kept names objects read.start are read.begun distinct) read.runs.count read.start end start_taken read.runs.turns
 
     abbrev entries : List Entry
     entries = all_read.0

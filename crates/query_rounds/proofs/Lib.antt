@@ -1,5 +1,6 @@
 pub mod Answered
 pub mod Refused
 pub mod Rounded
+pub mod Spent
 pub mod Taken
 pub mod Turned

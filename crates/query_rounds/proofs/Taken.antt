@@ -13,15 +13,20 @@ use Rattle.entry_model.proofs.Summaries.{taken_is}
 use Rattle.session_model.specs.Given.{Given, Source}
 use Rattle.session_model.specs.Taking.{TakesSteps}
 use Rattle.session_state.specs.Kept.{Counts}
-use Rattle.session_state.specs.Stands.{Stands}
+use Rattle.session_state.specs.Stands.{HasValues, Stands}
 use Rattle.daemon_rounds.specs.declared.setup.SourceName.{SourceName}
-use Rattle.daemon_rounds.specs.Rounding.{names_of, round_entries}
+use Rattle.daemon_rounds.specs.Rounding.{Overflows, names_of, round_entries}
+use Rattle.daemon_rounds.specs.Starting.{source_names}
+use Rattle.daemon_rounds.specs.declared.turning.Which.TheVariants as which
+use Rattle.daemon_rounds.proofs.Started.{all_going}
 use Rattle.replay_rounds.specs.Sources.{AreFed, AreFullOrOver, all_over, sources_of}
+use Rattle.replay_rounds.specs.Spent.{StepsSpend}
 use Rattle.replay_rounds.proofs.Begun.{started_fed}
 use Rattle.replay_rounds.proofs.Endings.{one_full}
 use Rattle.replay_rounds.proofs.Feeds.{fed_names, fed_on}
 use Rattle.replay_rounds.proofs.Nothing.{nothing_behind, opened_nothing}
-use Rattle.replay_rounds.proofs.Stepped.{rounds_taken}
+use Rattle.replay_rounds.proofs.Overrun.{overflow_brings, overflow_entries, overflow_spends}
+use Rattle.replay_rounds.proofs.Stepped.{every_source, rounds_taken}
 use Rattle.query_rounds.specs.Asking.{opened_behind}
 use Rattle.query_rounds.specs.Reading.{IsBegun}
 use Rattle.query_rounds.specs.Rounds.{HasMore, TakesRounds}
@@ -60,14 +65,16 @@ begun_taken {S} tells left faults given kept names objects start are begun = rec
     same name =
         ap (λ (list : List Entry). taken_from list name) (append-nil (opened_behind kept)) ∙ nothing_behind kept (Opened (sessions kept + 1) ∷ []) (opened_nothing (sessions kept + 1)) name
 
+-- no two sources have one name
+pub sources_distinct : {S : Type 0} (tells : Type 0) (left : S → List ℕ) (faults : S → ℕ) (given : Given) (kept : List Entry) (names : List SourceName) (objects : List S) (start : Place S) → given.sources ≡ sources_of left names objects → IsBegun tells left faults names given.config.categories (summary kept) objects start → IsDistinct bytes_eq (source_names names) → IsDistinct bytes_eq (map (λ (source : Source). source.name) given.sources)
+sources_distinct tells left faults given kept names objects start are begun distinct =
+    subst (λ (names : List (List ℕ)). IsDistinct bytes_eq names) (fed_names tells left given.config.categories kept (opened_behind kept ++ []) given.sources start.feeds start.sources (begun_taken tells left faults given kept names objects start are begun).fed) (all_going tells left faults (summary kept).taken given.config.categories names begun.starts.opened start.feeds objects start.sources begun.starts.of_sources begun.starts.starts distinct).distinct
+
 module _ {S : Type 0} (tells : Type 0) (left : S → List ℕ) (faults : S → ℕ) (given : Given) (kept : List Entry) (told : tells) (legal : Legal kept) (distinct : IsDistinct bytes_eq (map (λ (source : Source). source.name) given.sources)) where
-  -- a round more
-  module _ (count : ℕ) (entries : List Entry) (from to : Place S) (taken : HasTaken tells left given kept count entries from) (turns : Turns tells left faults given.records from to) where
+  -- where a round begins
+  module _ (count : ℕ) (entries : List Entry) (from : Place S) (taken : HasTaken tells left given kept count entries from) where
     abbrev now : List Entry
     now = opened_behind kept ++ entries
-
-    abbrev own : List Entry
-    own = round_entries from.state.counts.moment turns.turns
 
     at_moment : from.state.counts.moment ≡ moment_of now
     at_moment =
@@ -77,8 +84,16 @@ module _ {S : Type 0} (tells : Type 0) (left : S → List ℕ) (faults : S → �
     feeds_distinct =
         subst (λ (names : List (List ℕ)). IsDistinct bytes_eq names) (sym (fed_names tells left given.config.categories kept now given.sources from.feeds from.sources taken.fed)) distinct
 
-    of_round : TakesSteps given now given.sources own × AreFed tells left given.config.categories kept (now ++ own) given.sources to.feeds to.sources × AreFullOrOver given now given.sources to.feeds
-    of_round = rounds_taken tells left faults given kept now from.state.counts.moment from.feeds to.feeds from.sources to.sources turns.turns told at_moment taken.fed feeds_distinct turns.whole turns.each
+  -- a round more
+  module _ (count : ℕ) (entries : List Entry) (from to : Place S) (taken : HasTaken tells left given kept count entries from) (turns : Turns tells left faults given.records from to) where
+    abbrev before : List Entry
+    before = opened_behind kept ++ entries
+
+    abbrev own : List Entry
+    own = round_entries from.state.counts.moment turns.turns
+
+    of_round : TakesSteps given before given.sources own × AreFed tells left given.config.categories kept (before ++ own) given.sources to.feeds to.sources × AreFullOrOver given before given.sources to.feeds
+    of_round = rounds_taken tells left faults given kept before from.state.counts.moment from.feeds to.feeds from.sources to.sources turns.turns told (at_moment count entries from taken) taken.fed (feeds_distinct count entries from taken) turns.whole turns.each
 
     one_taken : HasTaken tells left given kept (suc count) (entries ++ own) to
     one_taken = record {
@@ -89,6 +104,24 @@ module _ {S : Type 0} (tells : Type 0) (left : S → List ℕ) (faults : S → �
 
     one_full_end : EndsFull given (opened_behind kept) (suc count) (entries ++ own) to.feeds
     one_full_end = (entries, own, refl, taken.takes, of_round.0, of_round.2)
+
+  -- a round in which a source gives too much
+  module _ (count : ℕ) (entries : List Entry) (from to : Place S) (taken : HasTaken tells left given kept count entries from) (o : Overflows tells left faults which.Every given.records from.feeds to.feeds from.sources to.sources from.state to.state) where
+    abbrev pub spent : List Entry
+    spent = overflow_entries tells left faults which.Every given from.feeds to.feeds from.sources to.sources from.state to.state o
+
+    stands_spent : Stands (summary kept) (Opened (sessions kept + 1) ∷ (entries ++ spent)) to.state
+    stands_spent =
+        (overflow_brings tells left faults which.Every given from.feeds to.feeds from.sources to.sources from.state to.state o).stands (summary kept) (Opened (sessions kept + 1) ∷ entries) taken.stands
+
+    has_spent : HasValues ((opened_behind kept ++ entries) ++ spent) to.state
+    has_spent =
+        subst (λ (list : List Entry). HasValues list to.state) (sym (append_assoc (opened_behind kept) entries spent ∙ behind_opening kept (entries ++ spent) (Opened (sessions kept + 1)))) (stands_spent.values kept legal refl)
+
+    pub one_spends : StepsSpend given (opened_behind kept ++ entries) given.sources spent
+    one_spends =
+        subst (λ (sources : List Source). StepsSpend given (opened_behind kept ++ entries) sources spent) (every_source given.sources)
+        (overflow_spends tells left faults which.Every given from.feeds to.feeds from.sources to.sources from.state to.state o kept (opened_behind kept ++ entries) told (at_moment count entries from taken) (feeds_distinct count entries from taken) taken.fed has_spent)
 
   -- all of them
   pub all_taken : (count : ℕ) (from to : Place S) → HasTaken tells left given kept 0 [] from → TurnsOften tells left faults given.records count from to → (entries : List Entry) × HasTaken tells left given kept count entries to × EndsFull given (opened_behind kept) count entries to.feeds

@@ -1,5 +1,5 @@
 -- What a text answers over a kept list and what the sources have behind it.
-use Rattle.std.specs.Prelude.{◌≡◌, ℕ, ◌+◌, ◌≤◌, true, false, All, List, [], ◌∷◌, ◌++◌, length}
+use Rattle.std.specs.Prelude.{◌≡◌, ℕ, ◌+◌, ◌<◌, ◌≤◌, true, false, All, List, [], ◌∷◌, ◌++◌, length}
 use Rattle.osq_value.specs.declared.reading.Category.{Category}
 use Rattle.osq_value.specs.declared.value.Value.{Value}
 use Rattle.sql_meaning.specs.Meaning.{meaning}
@@ -15,6 +15,7 @@ use Rattle.session_state.specs.Kept.{Kept}
 use Rattle.session_state.specs.Stands.{Stands}
 use Rattle.daemon_rounds.specs.declared.setup.SourceName.{SourceName}
 use Rattle.replay_rounds.specs.Sources.{sources_of}
+use Rattle.replay_rounds.specs.Spent.{StepsSpend}
 use Rattle.query_rounds.specs.Rounds.{HasMore, TakesRounds}
 use Rattle.query_rounds.specs.declared.asking.Asked.{Asked}
 
@@ -40,6 +41,16 @@ pub record IsAnswer (given : Given) (kept : List Entry) (text : List ℕ) (round
   pub means : asked.rows ≡ meaning text (view_of (opened_behind kept ++ entries) 0 moment)
   pub whole : asked.is_end ≡ true → All (IsReadWhole kept (opened_behind kept ++ entries)) given.sources
   pub more : asked.is_end ≡ false → (count ≡ rounds) × (1 ≤ rounds → HasMore given (opened_behind kept) count entries)
+
+-- Behind the opening some rounds were taken, fewer than may be, and in the next one a source's step gave a reading whose events would have
+-- numbers beyond 2^62.
+pub record Spends (given : Given) (kept : List Entry) (rounds : ℕ) : Type 0 where
+  pub count : ℕ
+  pub few : count < rounds
+  pub entries : List Entry
+  pub takes : TakesRounds given (opened_behind kept) count entries
+  pub own : List Entry
+  pub spends : StepsSpend given (opened_behind kept ++ entries) given.sources own
 
 -- where the state stands for entries behind a legal list, the rows are those that the text means over all live events and the tables of that
 -- list with these entries behind it, at this moment

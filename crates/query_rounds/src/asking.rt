@@ -11,7 +11,7 @@ ghost use Rattle.entry_model.specs.declared.restored.Taken.{Taken};
 ghost use Rattle.session_model.specs.Given.{Given};
 ghost use Rattle.daemon_rounds.specs.Rounding.{FailsAt};
 ghost use Rattle.daemon_rounds.specs.Starting.{HasShrunk, source_names};
-ghost use Rattle.query_rounds.specs.Asking.{IsAnswer, IsGiven};
+ghost use Rattle.query_rounds.specs.Asking.{IsAnswer, IsGiven, Spends};
 ghost use Rattle.query_rounds.specs.Reading.{IsOverfull};
 ghost use Rattle.query_rounds.specs.declared.error.AskError.{AskError};
 
@@ -61,6 +61,7 @@ pub fn ask_kept<S: Source, K: Keeper, C: Clock>(
     ensures fault { (place : ℕ) → result ≡ Err (AskError.SourceFault place) → FailsAt S.faults place sources.old sources.new }
     ensures shrank { (place kept found : ℕ) → result ≡ Err (AskError.SourceShrank place kept found) → (taken : List Taken) × (K.tells → taken ≡ (summary (K.kept keeper.old)).taken) × HasShrunk S.tells S.left taken names.now place kept found sources.old }
     ensures over { result ≡ Err AskError.NumbersSpent → (restored : Restored) × (K.tells → restored ≡ summary (K.kept keeper.old)) × IsOverfull S.tells S.left S.faults names.now paths.now records rounds restored sources.old sources.new }
+    ensures spent { result ≡ Err AskError.NumbersSpent → K.tells → S.tells → Legal (K.kept keeper.old) → (given : Given) → IsGiven S.left names.now sources.old paths.now records given → Spends given (K.kept keeper.old) rounds }
     ensures later { K.faults keeper.old ≤ K.faults keeper.new }
 {
     let restored = match load_values(alloc, keeper) {

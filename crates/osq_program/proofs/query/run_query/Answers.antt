@@ -6,7 +6,7 @@ use Rattle.sql_names.specs.Texts.{query_in}
 use Rattle.query_rounds.specs.Asking.{IsAnswer}
 use Rattle.osq_program.specs.Ending.{IsAnswerTo}
 use Rattle.osq_program.specs.Setups.{source_in}
-use Rattle.osq_program.proofs.Questions.{accepted_by, answered, as_fault, as_keeper, as_late, as_refused, as_shrank, given_for, no_memory, no_sink, of_text, posed_by, refused_config, refused_text, same_lines, unanswered, untold}
+use Rattle.osq_program.proofs.Questions.{accepted_by, answered, as_fault, as_keeper, as_late, as_refused, as_shrank, as_spent, given_for, no_memory, no_sink, of_text, posed_by, refused_config, refused_text, same_lines, unanswered, untold}
 use Rattle.osq_program.proofs.Replays.{answered as caused, fails_there, is_within, shrank_by}
 use Rattle.osq_program.proofs.Setups.{names_distinct}
 use Rattle.osq_program.proofs.query.run_query.Goals as goal
@@ -82,6 +82,6 @@ returns-clause-does g c =
     (λ place kept found name is named.
     let h = s.shrank place kept found (ap Err (as_shrank e place kept found (by ∙ is))) in
     (posed, shrank_by left _ _ _ _ h.0 place kept found name names bytes h.1 h.2 named))
-    (λ is. posed)
+    (λ is. (posed, λ kept_told source_told legal given over. s.spent (ap Err (as_spent e (by ∙ is))) kept_told source_told legal given (given_for left _ _ _ _ _ given names bytes over)))
     (λ is. no_sink e (by ∙ is)))
     (λ tells. refl) s.same

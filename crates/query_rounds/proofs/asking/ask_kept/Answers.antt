@@ -1,7 +1,9 @@
-use Rattle.std.proofs.Common.{◌≡◌, ◌≤◌, ℕ, max, sym, ◌∙◌, subst, arith}
+use Rattle.std.proofs.Common.{◌≡◌, ◌≤◌, ℕ, Err, ap, max, sym, ◌∙◌, subst, arith}
 use Rattle.entry_model.specs.declared.restored.Restored.{Restored}
-use Rattle.query_rounds.specs.Reading.{HasRead}
+use Rattle.query_rounds.specs.Reading.{HasRead, IsOverfull}
+use Rattle.query_rounds.specs.declared.error.AskError.TheVariants.{NumbersSpent}
 use Rattle.query_rounds.proofs.Answered.{answered}
+use Rattle.query_rounds.proofs.Spent.{has_spent}
 use Rattle.query_rounds.proofs.asking.ask_kept.Goals as goal
 
 none_later : (reading : ℕ) → max reading 0 ≡ reading
@@ -20,3 +22,9 @@ returns-clause-answer g c =
           (subst (λ (restored : Restored). HasRead g.S.Source.tells g.S.Source.left g.S.Source.faults c.args.names.now c.args.paths.now c.args.records c.args.rounds restored c.args.sources.now c.read_behind.new.sources behind.state behind.is_end) (c.in-Ok.ensures.value told) c.in-Ok-read_behind.ensures.read)
           c.args.text.now c.in-Ok-read_moment.moment c.in-Ok-answer_behind.rows c.in-Ok-answer_behind.ensures,
     )
+
+pub returns-in-Err-read_behind-clause-spent : goal.returns-in-Err-read_behind-clause-spent
+returns-in-Err-read_behind-clause-spent g c = λ is told sources_told legal given over.
+    let why : c.in-Err-read_behind.error ≡ NumbersSpent = cc in
+    has_spent g.S.Source.tells g.S.Source.left g.S.Source.faults c.args.names.now c.args.sources.now c.read_behind.new.sources c.args.rounds given (g.K.Keeper.kept c.args.keeper.now) sources_told legal c.requires.distinct c.args.paths.now c.args.records over
+    (subst (λ (restored : Restored). IsOverfull g.S.Source.tells g.S.Source.left g.S.Source.faults c.args.names.now c.args.paths.now c.args.records c.args.rounds restored c.args.sources.now c.read_behind.new.sources) (c.in-Ok.ensures.value told) (c.in-Err-read_behind.ensures.over (ap Err why)))
