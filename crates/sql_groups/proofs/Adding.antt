@@ -1,7 +1,7 @@
 -- The rows with different values of a column, one row after another.
-use Rattle.std.proofs.Common.{◌≡◌, ℕ, refl, sym, ap, subst, ◌∙◌, Bool, true, false, cond, not, ◌&&◌, ◌||◌, List, [], ◌∷◌, ◌++◌, map, filter, Bor, is_eq}
+use Rattle.std.proofs.Common.{◌≡◌, ◌+◌, ℕ, refl, sym, ap, subst, ◌∙◌, Bool, true, false, cond, not, ◌&&◌, ◌||◌, List, [], ◌∷◌, ◌++◌, map, filter, Bor, is_eq}
 use Rattle.std.specs.Prelude.{if◌then◌else◌}
-use Rattle.std.specs.List.{list_any}
+use Rattle.std.specs.List.{list_any, position_or_len}
 use Rattle.std.proofs.lemmas.List.{append-nil, map-append}
 use Rattle.std.proofs.lemmas.List.Elements.{filter-append}
 use Rattle.indexmap.specs.IndexSet.{insert_key}
@@ -26,6 +26,10 @@ same_places left right = equal left.now right.now
 any-now : (value : Bor Value) (values : List (Bor Value)) → list_any (same_places value) values ≡ list_any (equal value.now) (map value_in_place values)
 any-now value [] = refl
 any-now value (first ∷ rest) = ap (λ (b : Bool). equal value.now first.now || b) (any-now value rest)
+
+pub placed-now : (value : Bor Value) (values : List (Bor Value)) → position_or_len (same_places value) values ≡ position_or_len (equal value.now) (map value_in_place values)
+placed-now value [] = refl
+placed-now value (first ∷ rest) = λ i. cond (not (equal value.now first.now)) (1 + placed-now value rest i) 0
 
 inserted-if : (values : List (Bor Value)) (value : Bor Value) (b : Bool) → map value_in_place (if b then values else values ++ value ∷ []) ≡ (if b then map value_in_place values else map value_in_place values ++ value.now ∷ [])
 inserted-if values value true = refl
@@ -52,7 +56,7 @@ and-true true = refl
 and-true false = refl
 
 module _ (place : ℕ) where
-  alike : (x y : Joined) → equal (held place x) (held place y) ≡ same_values (held_alone place x) (held_alone place y)
+  pub alike : (x y : Joined) → equal (held place x) (held place y) ≡ same_values (held_alone place x) (held_alone place y)
   alike x y = same_value (held place x) (held place y) ∙ sym (and-true (is_eq (order_of (held place x) (held place y))))
 
   added : (before : List Joined) (row : Joined) (value : Value) (old new : FoundRows) → value ≡ held place row → old.rows ≡ firsts_by (held_alone place) before → values_of old ≡ map (held place) old.rows → Adds old row value new
@@ -71,7 +75,7 @@ module _ (place : ℕ) where
             ∙ insert_key-made equal (held_alone place) (held place) alike before row ∙ ap (map (held place)) (sym now),
       )
 
-  kept-one : (p : Joined → Bool) (rows : List Joined) (row : Joined) (b : Bool) → p row ≡ b → filter p (rows ++ row ∷ []) ≡ filter p rows ++ cond b (row ∷ []) []
+  pub kept-one : (p : Joined → Bool) (rows : List Joined) (row : Joined) (b : Bool) → p row ≡ b → filter p (rows ++ row ∷ []) ≡ filter p rows ++ cond b (row ∷ []) []
   kept-one p rows row b kept = filter-append p rows (row ∷ []) ∙ ap (λ (s : Bool). filter p rows ++ cond s (row ∷ []) []) kept
 
   -- one more row for which the condition holds

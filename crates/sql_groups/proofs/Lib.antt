@@ -3,6 +3,9 @@ mod Backward
 mod Climbing
 mod Comparing
 mod Cutting
+mod Gathered
 mod Passing
 mod Placing
+mod Standing
 mod Taken
+mod Zipped

@@ -1,5 +1,7 @@
 pub mod Columns
 pub mod Different
+pub mod Folding
+pub mod Grouping
 pub mod Kept
 pub mod Leading
 pub mod Wanted

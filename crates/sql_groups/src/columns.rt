@@ -51,8 +51,18 @@ pub(crate) fn only_column(items: &[QueryItem]) -> Option<u32>
     }
 }
 
+/// The place of the only expression, where that is a column.
+pub(crate) fn only_key(keys: &[Expr]) -> Option<u32>
+    ensures { IfSome result (λ place. (row : List Value) → map (value_of (alone row)) (map expr_of keys.now) ≡ value_at row place ∷ []) }
+{
+    match keys {
+        [key] => place_of(key),
+        _ => None,
+    }
+}
+
 /// The place of a column in a row.
-fn place_of(expr: &Expr) -> Option<u32>
+pub(crate) fn place_of(expr: &Expr) -> Option<u32>
     ensures { IfSome result (λ place. (row : List Value) → value_of (alone row) (expr_of expr.now) ≡ value_at row place) }
 {
     match expr {

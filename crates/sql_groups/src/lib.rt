@@ -3,10 +3,13 @@
 
 mod columns;
 mod different;
+mod grouped;
+mod items;
 mod kept;
 mod leading;
 mod order;
 mod place;
+mod so_far;
 mod steps;
 mod wanted;
 

@@ -2,17 +2,21 @@
 ghost use Rattle.std.specs.Prelude.{◌≡◌, ◌∷◌, [], IfOk, List, false, map, true};
 ghost use Rattle.osq_value.specs.declared.value.Value.{Value};
 ghost use Rattle.sql_names.specs.Resolved.{query_of, result_of};
+ghost use Rattle.sql_names.specs.View.{expr_of};
 ghost use Rattle.sql_meaning.specs.Expressions.{alone, value_at, value_of};
 ghost use Rattle.sql_meaning.specs.Lent.{values_in};
-ghost use Rattle.sql_meaning.specs.Steps.{behind_from};
+ghost use Rattle.sql_meaning.specs.Steps.{behind_from, result_row, together};
+ghost use Rattle.sql_groups.specs.Folding.{item_over};
 ghost use Rattle.sql_groups.specs.Wanted.{IsCut};
 
-use crate::columns::{only_column, sort_columns};
+use crate::columns::{only_column, only_key, sort_columns};
 use crate::different::different;
+use crate::grouped::{groups_by_column, result_rows};
+use crate::items::{GroupItem, group_items};
 use crate::leading::leading;
 use crate::wanted::wanted;
 use osq_value::{NoMemory, RowList};
-use sql_meaning::{Joined, rows_behind_from};
+use sql_meaning::{Joined, finished, rows_behind_from};
 use sql_names::query::Query;
 use std::alloc::Global;
 
@@ -22,11 +26,50 @@ pub fn rows_behind(alloc: Global, query: &Query, rows: &[Joined]) -> Result<RowL
     ensures { IfOk result (λ made. made ≡ behind_from (query_of query.now) (map values_in rows.now)) }
 {
     if query.is_grouped {
-        rows_behind_from(alloc, query, rows)
+        grouped_rows(alloc, query, rows)
     } else if query.is_distinct {
         different_rows(alloc, query, rows)
     } else {
         cut_rows(alloc, query, rows)
+    }
+}
+
+/// The rows of a query with groups.
+fn grouped_rows(alloc: Global, query: &Query, rows: &[Joined]) -> Result<RowList, NoMemory>
+    requires { query.now.is_grouped ≡ true }
+    ensures { IfOk result (λ made. made ≡ behind_from (query_of query.now) (map values_in rows.now)) }
+{
+    let Some(place) = only_key(query.keys.as_slice()) else {
+        return rows_behind_from(alloc, query, rows);
+    };
+    match group_items(alloc, query)? {
+        None => rows_behind_from(alloc, query, rows),
+        Some(items) => folded_rows(alloc, query, rows, place, items.as_slice()),
+    }
+}
+
+/// The same, where GROUP BY is the column at a place of the rows, and the columns of the result can be folded.
+fn folded_rows(
+    alloc: Global,
+    query: &Query,
+    rows: &[Joined],
+    place: u32,
+    items: &[GroupItem],
+) -> Result<RowList, NoMemory>
+    requires grouped { query.now.is_grouped ≡ true }
+    requires key { (row : List Value) → map (value_of (alone row)) (map expr_of query.now.keys) ≡ value_at row place ∷ [] }
+    requires items { (rows : List (List Value)) → result_row (query_of query.now) (together rows) ≡ map (λ item. item_over item rows) items.now }
+    ensures { IfOk result (λ made. made ≡ behind_from (query_of query.now) (map values_in rows.now)) }
+{
+    if query.having.parts.len() > 0 {
+        return rows_behind_from(alloc, query, rows);
+    }
+    let Some(groups) = groups_by_column(alloc, place, items, &query.filter, rows)? else {
+        return rows_behind_from(alloc, query, rows);
+    };
+    match result_rows(alloc, groups.as_slice())? {
+        None => rows_behind_from(alloc, query, rows),
+        Some(made) => finished(alloc, query, made),
     }
 }
 

@@ -1,5 +1,5 @@
 -- Queries of one table: what is tested where it is read.
-use Rattle.std.proofs.Common.{◌≡◌, ℕ, ◌+◌, ◌<◌, length, take, arith, refl, sym, ap, subst, ◌∙◌, Bool, true, false, cond, ◌&&◌, true≢false, List, [], ◌∷◌, ◌++◌, filter, map, get_or, Option, Some, None, IfSome, unwrap_or}
+use Rattle.std.proofs.Common.{◌≡◌, ℕ, ◌+◌, ◌<◌, length, drop, take, arith, refl, sym, ap, ◌∙◌, Bool, true, false, cond, ◌&&◌, true≢false, List, [], ◌∷◌, ◌++◌, filter, map, get_or, Option, Some, None, unwrap_or}
 use Rattle.std.proofs.lemmas.List.{take_more, map-append}
 use Rattle.osq_value.specs.declared.value.Value.{Value}
 use Rattle.osq_value.specs.declared.value.Value.TheVariants.{Null}
@@ -15,12 +15,11 @@ use Rattle.sql_names.specs.declared.tree.Expr.{Expr}
 use Rattle.sql_names.specs.declared.scope.Place.{Place}
 use Rattle.sql_meaning.specs.Expressions.{alone, holds, is_true, is_true_truth, value_of}
 use Rattle.sql_meaning.specs.Finished.{seen}
-use Rattle.sql_meaning.specs.Joins.{View, product}
-use Rattle.sql_meaning.specs.Steps.{behind_from, environments, filtered}
+use Rattle.sql_meaning.specs.Joins.{View, joins, product}
+use Rattle.sql_meaning.specs.Steps.{behind_from, environments}
 use Rattle.sql_scalar.specs.Operators.{apply_of}
 use Rattle.sql_scalar.specs.Truth.{truth_of}
-use Rattle.virtual_tables.specs.Constraints.{affinity_at, comparison, is_met, meets, operator_of}
-use Rattle.virtual_tables.specs.declared.constraint.Constraint.{Constraint}
+use Rattle.virtual_tables.specs.Constraints.{affinity_at, comparison, is_met, operator_of}
 use Rattle.virtual_tables.specs.declared.constraint.ConstraintOp.{ConstraintOp}
 use Rattle.virtual_tables.specs.declared.constraint.ConstraintOp.TheVariants.{Eq, Lt, Le, Gt, Ge}
 use Rattle.sql_planner.specs.Comparisons.{column_in, compares_by}
@@ -46,12 +45,11 @@ filter-first h m implies (row ∷ rows) = by (filter-first h m implies rows) (m 
     by left false e false f =
         ap (λ (a : Bool). filter h (cond a (row ∷ filter m rows) (filter m rows))) e ∙ left ∙ ap (λ (b : Bool). cond b (row ∷ filter h rows) (filter h rows)) (sym f)
 
-pub behind-tested : (query : QueryTree) (table : ℕ) (tests : List Constraint) (rows : List (List Value)) → ((row : List Value) → holds (alone row) query.filter ≡ true → meets table tests row ≡ true)
-    → behind_from query (filter (meets table tests) rows) ≡ behind_from query rows
-behind-tested query table tests rows implies =
-    ap (λ (kept : List (List Value)). seen query (environments query kept)) (filter-first (λ row. holds (alone row) query.filter) (meets table tests) implies rows)
+-- WHERE is asked of fewer rows
+pub behind-tested : (query : QueryTree) (test : List Value → Bool) (rows : List (List Value)) → ((row : List Value) → holds (alone row) query.filter ≡ true → test row ≡ true) → behind_from query (filter test rows) ≡ behind_from query rows
+behind-tested query test rows implies = ap (λ (kept : List (List Value)). seen query (environments query kept)) (filter-first (λ row. holds (alone row) query.filter) test implies rows)
 
-truth-met : (truth : Option Bool) → unwrap_or truth false ≡ is_true_truth truth
+pub truth-met : (truth : Option Bool) → unwrap_or truth false ≡ is_true_truth truth
 truth-met None = refl
 truth-met (Some b) = refl
 
@@ -135,3 +133,11 @@ only-one view [] source one is inner none = absurd (omega (arith, one))
 only-one view (first ∷ []) source one is inner none =
     ap (λ (s : QuerySource). product view (source_of s ∷ [])) (sym is) ∙ product-one view (source_of source) inner (ap (map expr_of) none)
 only-one view (first ∷ second ∷ rest) source one is inner none = absurd (omega (arith, one))
+
+-- a first table, whose rows the others are joined to
+pub plain-first : (view : View) (sources : List QuerySource) (source : QuerySource) → 0 < length sources → source ≡ get_or sources 0 source → source.is_outer ≡ false → source.on.parts ≡ []
+    → product view (map source_of sources) ≡ joins view (view source.table.0) (map source_of (drop 1 sources))
+plain-first view [] source some is inner none = absurd (omega (arith, some))
+plain-first view (first ∷ rest) source some is inner none =
+    ap (λ (s : QuerySource). product view (source_of s ∷ map source_of rest)) (sym is)
+    ∙ ap (λ (rows : List (List Value)). joins view rows (map source_of rest)) (product-one view (source_of source) inner (ap (map expr_of) none))

@@ -1,6 +1,7 @@
 pub mod Comparisons
 pub mod Explained
 pub mod Joining
+pub mod Likes
 pub mod Literals
 pub mod Plans
 pub mod Pushed

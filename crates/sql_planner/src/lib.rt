@@ -1,15 +1,18 @@
 //! How a query is run: what is tested where a table is read, and how each table is joined.
 #![tactic(auto)]
 
+mod column_test;
 mod comparison;
 mod explaining;
 mod joining;
+mod likes;
 pub mod plan;
 mod planning;
 mod running;
 #[cfg(test)]
 mod running_tests;
 mod single;
+mod tables;
 #[cfg(test)]
 mod tests;
 

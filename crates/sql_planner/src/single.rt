@@ -1,22 +1,22 @@
 //! Queries of one table, whose rows are those of FROM.
-ghost use Rattle.std.specs.Prelude.{◌≡◌, [], IfOk, IfSome, List, OnOk, false, map, true};
+ghost use Rattle.std.specs.Prelude.{◌≡◌, [], IfOk, IfSome, List, OnOk, drop, false, map, true};
 ghost use Rattle.osq_value.specs.declared.value.Value.{Value};
 ghost use Rattle.sql_names.specs.Resolved.{query_of, source_of};
-ghost use Rattle.sql_names.specs.Exprs.{binary, chain, literal, no_steps, then};
-ghost use Rattle.sql_names.specs.View.{expr_of, step_of, steps_of};
+ghost use Rattle.sql_names.specs.View.{expr_of};
 ghost use Rattle.sql_meaning.specs.Expressions.{alone, holds, is_true, value_of};
-ghost use Rattle.sql_meaning.specs.Joins.{View, product as product_of};
+ghost use Rattle.sql_meaning.specs.Joins.{View, joins as joins_of, product as product_of};
 ghost use Rattle.sql_meaning.specs.Steps.{behind_from};
 ghost use Rattle.sql_planner.specs.Pushed.{IsComparison};
 ghost use Rattle.virtual_tables.specs.Constraints.{affinity_at, is_met, meets};
 
-use crate::comparison::{column_in, compares_by};
+use crate::column_test::column_test;
+use crate::comparison::compares_by;
+use crate::likes::like_rows;
 use osq_value::{Affinity, Copied, NoMemory, RowList, TableId, Tables, Value, column_of};
 use sql_groups::rows_behind;
 use sql_meaning::singles;
 use sql_names::query::{Query, QuerySource};
-use sql_names::tree::{Expr, ExprStep};
-use sql_parser::tree::Operator;
+use sql_names::tree::Expr;
 use std::alloc::Global;
 use virtual_tables::{Constraint, ConstraintList, ConstraintOp, scan};
 
@@ -25,6 +25,16 @@ pub(crate) fn only_table(sources: &[QuerySource]) -> Option<&QuerySource>
     ensures { IfSome result (λ source. (view : View) → product_of view (map source_of sources.now) ≡ view source.now.table.0) }
 {
     let [source] = sources else {
+        return None;
+    };
+    if is_plain(source) { Some(source) } else { None }
+}
+
+/// The first table of FROM, where it is an inner one without a condition. Its rows are then those that the others are joined to.
+pub(crate) fn first_plain(sources: &[QuerySource]) -> Option<&QuerySource>
+    ensures { IfSome result (λ source. (view : View) → product_of view (map source_of sources.now) ≡ joins_of view (view source.now.table.0) (map source_of (drop 1 sources.now))) }
+{
+    let [source, ..] = sources else {
         return None;
     };
     if is_plain(source) { Some(source) } else { None }
@@ -42,7 +52,7 @@ fn is_plain(source: &QuerySource) -> bool
 }
 
 /// The rows of a query whose FROM gives the rows of one table. The conjuncts of WHERE that compare a column of it with a literal are
-/// tested where the table is read.
+/// tested where the table is read, and those that ask whether a column is like a literal before WHERE is.
 pub(crate) fn table_rows<V: Tables>(
     alloc: Global,
     query: &Query,
@@ -52,7 +62,8 @@ pub(crate) fn table_rows<V: Tables>(
     ensures { IfOk result (λ rows. rows ≡ behind_from (query_of query.now) (V.rows_of view.now source.now.table.0)) }
 {
     let tests = pushed(alloc, source.table, query.filter.parts.as_slice())?;
-    let rows = scan(alloc, view, source.table, &tests)?;
+    let read = scan(alloc, view, source.table, &tests)?;
+    let rows = like_rows(alloc, read, query.filter.parts.as_slice())?;
     let joined = singles(alloc, rows.as_slice())?;
     rows_behind(alloc, query, joined.as_slice())
 }
@@ -116,62 +127,18 @@ struct Compared<'a> {
 fn comparison_of(part: &Expr) -> Option<Compared>
     ensures { IfSome result (IsComparison (expr_of part.now)) }
 {
-    match part {
-        Expr::Chain { first, steps } => comparison_by_steps(first, steps.as_slice()),
-        _ => None,
-    }
-}
-
-fn comparison_by_steps<'a>(first: &Expr, steps: &'a [ExprStep]) -> Option<Compared<'a>>
-    ensures { IfSome result (IsComparison (chain (expr_of first.now) (steps_of steps.entry.now))) }
-{
-    if steps.len() == 1 {
-        comparison_by_step(first, &steps[0])
-    } else {
-        None
-    }
-}
-
-fn comparison_by_step<'a>(first: &Expr, step: &'a ExprStep) -> Option<Compared<'a>>
-    ensures { IfSome result (IsComparison (chain (expr_of first.now) (then no_steps (step_of step.entry.now)))) }
-{
-    let Some(place) = column_in(first) else {
+    let Some(found) = column_test(part) else {
         return None;
     };
-    let Some((op, right)) = binary(step) else {
-        return None;
-    };
-    let Some(op) = compares_by(op) else {
-        return None;
-    };
-    let Some(value) = literal(right) else {
+    let Some(op) = compares_by(found.op) else {
         return None;
     };
     Some(Compared {
-        at: place.at,
-        affinity: place.affinity,
+        at: found.at,
+        affinity: found.affinity,
         op,
-        value,
+        value: found.value,
     })
-}
-
-/// An operator with its right side, if the step is one.
-fn binary(step: &ExprStep) -> Option<(Operator, &Expr)>
-    ensures { IfSome result (λ found. step_of step.now ≡ binary found.0 (expr_of found.1.now)) }
-{
-    match step {
-        ExprStep::Binary { op, right } => Some((*op, right)),
-        _ => None,
-    }
-}
-
-fn literal(expr: &Expr) -> Option<&Value>
-    ensures { IfSome result (λ value. expr_of expr.now ≡ literal value.now) }
-{
-    match expr {
-        Expr::Literal { value } => Some(value),
-        _ => None,
-    }
 }
 
 /// Whether the column of a table has that affinity.

@@ -1,0 +1,138 @@
+-- Groups by the values of a column, one row after another, and what they come to.
+use Rattle.std.proofs.Common.{◌≡◌, ℕ, ◌+◌, ◌≤◌, refl, sym, ap, ap₂, subst, ◌∙◌, Bool, true, false, cond, not, List, [], ◌∷◌, ◌++◌, append-nil, drop, filter, get_or, length, map, set, take, Option, Some, None, arith}
+use Rattle.std.specs.Prelude.{if◌then◌else◌}
+use Rattle.std.specs.List.{list_any, position_or_len}
+use Rattle.std.proofs.lemmas.List.{drop_all, take_all}
+use Rattle.indexmap.specs.IndexSet.{insert_key}
+use Rattle.osq_value.specs.declared.value.Value.{Value}
+use Rattle.sql_names.specs.Exprs.{ExprTree}
+use Rattle.sql_names.specs.Resolved.{QueryTree}
+use Rattle.sql_meaning.specs.declared.joined.Joined.{Joined}
+use Rattle.sql_meaning.specs.Expressions.{Environment, alone, holds, value_at, value_of}
+use Rattle.sql_meaning.specs.Finished.{finished}
+use Rattle.sql_meaning.specs.Firsts.{firsts_by, same_values}
+use Rattle.sql_meaning.specs.Groups.{groups_by}
+use Rattle.sql_meaning.specs.Lent.{values_in}
+use Rattle.sql_meaning.specs.Steps.{behind_from, filtered, groups, kept_groups, result_row, together}
+use Rattle.sql_meaning.proofs.FirstsLaws.{has_key}
+use Rattle.sql_meaning.proofs.GroupsLaws.{added-one, groups-are, grown-one, lists_of, place_in}
+use Rattle.sql_meaning.proofs.HashedLaws.{any_made, insert_key-made}
+use Rattle.sql_meaning.proofs.Mapped.{filter_mapped, groups_mapped, map_twice}
+use Rattle.sql_groups.specs.declared.grouped.FoundGroups.{FoundGroups}
+use Rattle.sql_groups.specs.declared.items.GroupItem.{GroupItem}
+use Rattle.sql_groups.specs.declared.so_far.SoFar.{SoFar}
+use Rattle.sql_groups.specs.Different.{equal, held, held_alone}
+use Rattle.sql_groups.specs.Folding.{item_over, lists}
+use Rattle.sql_groups.specs.Grouping.{Adds, AreKnown, Folds, IsFolded, Puts, place_of, values_of}
+use Rattle.sql_groups.specs.Kept.{is_kept}
+use Rattle.sql_groups.proofs.Adding.{alike, kept-one}
+use Rattle.sql_groups.proofs.Zipped.{zip-long, zip-nth, zip-push, zip-set}
+
+-- what a list of the same length replaced
+pub replaced : {X : Type 0} (old new : List X) → length new ≡ length old → take (length old) (new ++ drop (length new) old) ≡ new
+replaced old new long =
+    let within : length old ≡ length new = sym long in
+    ap (λ (rest : List _). take (length old) (new ++ rest)) (drop_all (length new) old (omega (arith, within)))
+    ∙ ap (take (length old)) (append-nil new)
+    ∙ take_all (length old) new (omega (arith, within))
+
+module _ (place : ℕ) (condition : List ExprTree) (items : List GroupItem) where
+  abbrev key : Joined → List Value
+  key = held_alone place
+
+  abbrev kept : List Joined → List Joined
+  kept rows = filter (is_kept condition) rows
+
+  abbrev firsts : List Joined → List Joined
+  firsts rows = firsts_by key (kept rows)
+
+  abbrev gathered : List Joined → List (List (List Value))
+  gathered some = map (map values_in) (groups_by key some)
+
+  any-known : (rows : List Joined) (row : Joined) (values : List Value) → values ≡ map (held place) (firsts rows) → list_any (equal (held place row)) values ≡ list_any (has_key key (key row)) (firsts rows)
+  any-known rows row values are = ap (list_any (equal (held place row))) are ∙ any_made equal key (held place) (alike place) row (firsts rows)
+
+  places-alike : (row : Joined) (some : List Joined) → position_or_len (equal (held place row)) (map (held place) some) ≡ position_or_len (same_values (key row)) (map key some)
+  places-alike row [] = refl
+  places-alike row (first ∷ rest) = λ i. cond (not (alike place row first i)) (1 + places-alike row rest i) 0
+
+  place-known : (rows : List Joined) (row : Joined) (values : List Value) → values ≡ map (held place) (firsts rows) → (known : Bool) → list_any (has_key key (key row)) (firsts rows) ≡ known
+      → place_of (held place row) values ≡ (if known then Some (place_in key values_in row (firsts rows)) else None)
+  place-known rows row values are known at =
+      ap₂ (λ (b : Bool) (n : ℕ). if b then Some n else None) (any-known rows row values are ∙ at)
+      (ap (position_or_len (equal (held place row))) are ∙ places-alike row (firsts rows))
+
+  -- one more row in the groups
+  put-more : (rows : List Joined) (row : Joined) (old new : List (List SoFar)) (known : Bool) → list_any (has_key key (key row)) (firsts rows) ≡ known
+      → Puts items old (if known then Some (place_in key values_in row (firsts rows)) else None) (values_in row) new → IsFolded items (gathered (kept rows)) old → IsFolded items (gathered (kept rows ++ row ∷ [])) new
+  put-more rows row old new true there puts was =
+      let some = kept rows in
+      let before = lists_of key values_in some in
+      let at = place_in key values_in row (firsts rows) in
+      let grown = grown-one key values_in some row there in
+      let folded : IsFolded items before old = subst (λ (ls : List (List (List Value))). IsFolded items ls old) (groups-are key values_in some) was in
+      let long : length before ≡ length old = zip-long (AreKnown items) before old folded in
+      let group : AreKnown items (get_or before at []) (get_or old at []) =
+      zip-nth (AreKnown items) before old at [] [] folded (let h = grown.below in omega (arith, h, long)) in
+      subst (λ (ls : List (List (List Value))). IsFolded items ls new) (sym (groups-are key values_in (some ++ row ∷ []) ∙ grown.lists))
+      (subst (λ (gs : List (List SoFar)). IsFolded items (set before at (get_or before at [] ++ values_in row ∷ [])) gs) (sym puts.1)
+      (zip-set (AreKnown items) before old at (get_or before at [] ++ values_in row ∷ []) puts.0 folded (puts.2 items (get_or before at []) group)))
+  put-more rows row old new false there puts was =
+      let some = kept rows in
+      let folded : IsFolded items (lists_of key values_in some) old = subst (λ (ls : List (List (List Value))). IsFolded items ls old) (groups-are key values_in some) was in
+      subst (λ (ls : List (List (List Value))). IsFolded items ls new) (sym (groups-are key values_in (some ++ row ∷ []) ∙ added-one key values_in some row there))
+      (subst (λ (gs : List (List SoFar)). IsFolded items (lists_of key values_in some ++ (values_in row ∷ []) ∷ []) gs) (sym puts.1)
+      (zip-push (AreKnown items) (lists_of key values_in some) old (values_in row ∷ []) puts.0 folded puts.2))
+
+  -- one more row for which the condition holds
+  pub folds-more : (rows : List Joined) (row : Joined) (value : Value) (old new : FoundGroups) → is_kept condition row ≡ true → value ≡ held place row → Adds items old row value new
+      → Folds place condition items rows old → Folds place condition items (rows ++ row ∷ []) new
+  folds-more rows row value old new keeps is adds was =
+      let known = list_any (has_key key (key row)) (firsts rows) in
+      let puts = subst (λ (o : Option ℕ). Puts items old.groups.items o (values_in row) new.groups.items)
+      (ap (λ (v : Value). place_of v (values_of old)) is ∙ place-known rows row (values_of old) was.0 known refl) adds.1 in
+      subst (λ (some : List Joined). (values_of new ≡ map (held place) (firsts_by key some)) × IsFolded items (gathered some) new.groups.items) (sym (kept-one place (is_kept condition) rows row true keeps)) (
+        adds.0 ∙ ap (insert_key equal (values_of old)) is ∙ ap (λ vs. insert_key equal vs (held place row)) was.0 ∙ insert_key-made equal key (held place) (alike place) (kept rows) row,
+        put-more rows row old.groups.items new.groups.items known refl puts was.1,
+      )
+
+  -- one for which it doesn't
+  pub folds-still : (rows : List Joined) (row : Joined) (found : FoundGroups) → is_kept condition row ≡ false → Folds place condition items rows found → Folds place condition items (rows ++ row ∷ []) found
+  folds-still rows row found left was =
+      subst (λ (some : List Joined). (values_of found ≡ map (held place) (firsts_by key some)) × IsFolded items (gathered some) found.groups.items)
+      (sym (kept-one place (is_kept condition) rows row false left ∙ append-nil (kept rows))) was
+
+pub no-items : {X : Type 0} (xs : List X) → length xs ≤ 0 → xs ≡ []
+no-items [] h = refl
+no-items (x ∷ xs) h = absurd (omega arith)
+
+every-environment : (envs : List Environment) → filter (λ env. holds env []) envs ≡ envs
+every-environment [] = refl
+every-environment (env ∷ envs) = ap (λ (rest : List Environment). env ∷ rest) (every-environment envs)
+
+by-column : (place : ℕ) (keys : List ExprTree) (rows : List (List Value)) → ((row : List Value) → map (value_of (alone row)) keys ≡ value_at row place ∷ []) → groups keys rows ≡ groups_by (λ row. value_at row place ∷ []) rows
+by-column place [] rows is = absurd (empty (is []))
+  where
+    empty : {v : Value} → [] ≡ v ∷ [] → ⊥
+    empty e = cc
+by-column place (key ∷ keys) rows is = λ i. groups_by (λ row. is row i) rows
+
+module _ (query : QueryTree) (place : ℕ) (items : List GroupItem) where
+  -- the groups by a column are what the meaning makes of the rows
+  pub gathered-mean : query.is_grouped ≡ true → query.having ≡ [] → ((row : List Value) → map (value_of (alone row)) query.keys ≡ value_at row place ∷ [])
+      → ((rows : List (List Value)) → result_row query (together rows) ≡ map (λ item. item_over item rows) items) → (rows : List Joined)
+      → finished query (map (λ rows. map (λ item. item_over item rows) items) (lists place query.filter rows)) ≡ behind_from query (map values_in rows)
+  gathered-mean grouped none by is rows =
+      let some = filtered query (map values_in rows) in
+      let made : groups query.keys some ≡ lists place query.filter rows =
+      by-column place query.keys some by
+      ∙ ap (groups_by (λ row. value_at row place ∷ [])) (filter_mapped values_in (λ row. holds (alone row) query.filter) rows)
+      ∙ groups_mapped values_in (λ row. value_at row place ∷ []) (filter (is_kept query.filter) rows) in
+      ap (finished query)
+      ((λ i. map (λ rows. sym (is rows) i) (lists place query.filter rows))
+      ∙ sym (map_twice (result_row query) together (lists place query.filter rows))
+      ∙ ap (map (result_row query))
+      (ap (map together) (sym made)
+      ∙ sym (every-environment (map together (groups query.keys some)))
+      ∙ ap (λ (having : List ExprTree). filter (λ env. holds env having) (map together (groups query.keys some))) (sym none)
+      ∙ ap (λ (b : Bool). if b then kept_groups query some else map alone some) (sym grouped)))

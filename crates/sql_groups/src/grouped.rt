@@ -1,0 +1,175 @@
+//! Groups by a column whose rows are folded as they come.
+ghost use Rattle.std.specs.Prelude.{◌≡◌, ◌++◌, ◌∷◌, [], IfOk, IfSome, List, length, map, true};
+ghost use Rattle.osq_value.specs.declared.value.Value.{Value as ValueOf};
+ghost use Rattle.sql_names.specs.View.{expr_of};
+ghost use Rattle.sql_meaning.specs.declared.joined.Joined.{Joined as JoinedOf};
+ghost use Rattle.sql_meaning.specs.Lent.{values_in};
+ghost use Rattle.sql_meaning.specs.Worths.{worths};
+ghost use Rattle.sql_groups.specs.declared.items.GroupItem.{GroupItem as GroupItemOf};
+ghost use Rattle.sql_groups.specs.Folding.{item_over, lists};
+ghost use Rattle.sql_groups.specs.Grouping.{Adds, AreKnown, Begins, Folds, Grows, IsFolded};
+
+use crate::items::GroupItem;
+use crate::kept::is_kept;
+use crate::so_far::SoFar;
+use indexmap::IndexSet;
+use osq_value::{NoMemory, Sequence, Value};
+use sql_meaning::worth::{ResultRow, ResultRowList};
+use sql_meaning::{Joined, value_in};
+use sql_names::query::Condition;
+use std::alloc::Global;
+
+/// The columns of the result of one group, so far.
+pub(crate) type GroupSoFar<'a> = Sequence<SoFar<'a>>;
+
+/// Groups by different values, so far.
+#[derive(Drop)]
+pub(crate) struct FoundGroups<'a> {
+    pub values: IndexSet<&'a Value>,
+    pub groups: Vec<GroupSoFar<'a>>,
+}
+
+/// The groups of the rows for which the condition holds, by their values at a place, in the order of their first rows. Null is equal to
+/// Null, and no number to a text. Each value is hashed once, where it stands, and each row is looked at once. None where a row doesn't
+/// have the place, or a number leaves its bounds.
+pub(crate) fn groups_by_column<'a>(
+    alloc: Global,
+    place: u32,
+    items: &[GroupItem],
+    condition: &Condition,
+    rows: &[Joined<'a>],
+) -> Result<Option<Vec<GroupSoFar<'a>>>, NoMemory>
+    ensures { IfOk result (λ found. IfSome found (λ groups. IsFolded items.now (lists place (map expr_of condition.now.parts) rows.now) groups.items)) }
+{
+    let mut found = FoundGroups {
+        values: IndexSet::new(alloc),
+        groups: Vec::new(alloc),
+    };
+    for row in rows {
+        if !look_at(alloc, place, items, condition, &mut found, *row)? {
+            return Ok(None);
+        }
+    }
+    Ok(Some(found.groups))
+}
+
+/// Adds a row for which the condition holds to its group. The answer is false where it doesn't have the place, or a number leaves its
+/// bounds.
+fn look_at<'a>(
+    alloc: Global,
+    place: u32,
+    items: &[GroupItem],
+    condition: &Condition,
+    found: &mut FoundGroups<'a>,
+    row: Joined<'a>,
+) -> Result<bool, NoMemory>
+    ensures { IfOk result (λ is_told. is_told ≡ true → (rows : List JoinedOf) → Folds place (map expr_of condition.now.parts) items.now rows found.old → Folds place (map expr_of condition.now.parts) items.now (rows ++ row.entry ∷ []) found.new) }
+{
+    if !is_kept(alloc, condition, row)? {
+        return Ok(true);
+    }
+    match value_in(row, place) {
+        None => Ok(false),
+        Some(value) => add(alloc, items, found, row, value),
+    }
+}
+
+/// Adds a row to the group of its value, which begins with it where no earlier row has that value.
+fn add<'a>(
+    alloc: Global,
+    items: &[GroupItem],
+    found: &mut FoundGroups<'a>,
+    row: Joined<'a>,
+    value: &'a Value,
+) -> Result<bool, NoMemory>
+    ensures { IfOk result (λ is_told. is_told ≡ true → Adds items.now found.old row.entry value.entry.now found.new) }
+{
+    let (at, is_new) = found.values.insert_full(value)?;
+    if is_new {
+        push_begun(alloc, items, &mut found.groups, row)
+    } else if at < found.groups.len() {
+        Ok(add_row(found.groups[at].as_mut_slice(), row))
+    } else {
+        Ok(false)
+    }
+}
+
+/// Adds a group that begins with a row.
+fn push_begun<'a>(
+    alloc: Global,
+    items: &[GroupItem],
+    groups: &mut Vec<GroupSoFar<'a>>,
+    row: Joined<'a>,
+) -> Result<bool, NoMemory>
+    ensures { IfOk result (λ is_told. is_told ≡ true → Begins items.now groups.old.items (values_in row.entry) groups.new.items) }
+{
+    match begun(alloc, items, row)? {
+        None => Ok(false),
+        Some(group) => {
+            groups.push(group)?;
+            Ok(true)
+        }
+    }
+}
+
+/// The columns of the result after the first row of a group.
+fn begun<'a>(
+    alloc: Global,
+    items: &[GroupItem],
+    row: Joined<'a>,
+) -> Result<Option<GroupSoFar<'a>>, NoMemory>
+    ensures { IfOk result (λ begun. IfSome begun (λ group. AreKnown items.now (values_in row.entry ∷ []) group)) }
+{
+    let mut group = GroupSoFar::with_capacity(alloc, items.len())?;
+    for item in items {
+        let Some(so_far) = SoFar::begun(*item, row) else {
+            return Ok(None);
+        };
+        group.push(so_far)?;
+    }
+    Ok(Some(group))
+}
+
+/// Adds a row to a group. The answer is false where a number leaves its bounds.
+fn add_row<'a>(group: &mut [SoFar<'a>], row: Joined<'a>) -> bool
+    ensures long { length group.new ≡ length group.old }
+    ensures grows { result ≡ true → Grows (values_in row.entry) group.old group.new }
+{
+    for at in 0..group.len() {
+        match group[at].with_row(row) {
+            None => return false,
+            Some(more) => group[at] = more,
+        }
+    }
+    true
+}
+
+/// A row of the result for each group, none where a count leaves 64 bits.
+pub(crate) fn result_rows<'a>(
+    alloc: Global,
+    groups: &[GroupSoFar<'a>],
+) -> Result<Option<ResultRowList<'a>>, NoMemory>
+    ensures { IfOk result (λ made. IfSome made (λ rows. (items : List GroupItemOf) (lists : List (List (List ValueOf))) → IsFolded items lists groups.now → map worths rows ≡ map (λ rows. map (λ item. item_over item rows) items) lists)) }
+{
+    let mut rows = ResultRowList::with_capacity(alloc, groups.len())?;
+    for group in groups {
+        let Some(row) = result_row(alloc, group.as_slice())? else {
+            return Ok(None);
+        };
+        rows.push(row)?;
+    }
+    Ok(Some(rows))
+}
+
+fn result_row<'a>(alloc: Global, group: &[SoFar<'a>]) -> Result<Option<ResultRow<'a>>, NoMemory>
+    ensures { IfOk result (λ made. IfSome made (λ row. (items : List GroupItemOf) (rows : List (List ValueOf)) → AreKnown items rows group.now → worths row ≡ map (λ item. item_over item rows) items)) }
+{
+    let mut row = ResultRow::with_capacity(alloc, group.len())?;
+    for so_far in group {
+        let Some(worth) = so_far.worth() else {
+            return Ok(None);
+        };
+        row.push(worth)?;
+    }
+    Ok(Some(row))
+}

@@ -1,0 +1,101 @@
+//! Columns of the result of a query with groups that can be folded row by row.
+ghost use Rattle.std.specs.Prelude.{◌≡◌, ◌++◌, ◌∷◌, [], IfOk, IfSome, List, length, map, true};
+ghost use Rattle.osq_value.specs.declared.value.Value.{Value};
+ghost use Rattle.sql_names.specs.Resolved.{order_of, query_of, result_of};
+ghost use Rattle.sql_names.specs.View.{aggregate_of, expr_of};
+ghost use Rattle.sql_meaning.specs.Expressions.{value_of};
+ghost use Rattle.sql_meaning.specs.Folds.{counted_rows};
+ghost use Rattle.sql_meaning.specs.Steps.{result_row, together};
+ghost use Rattle.sql_groups.specs.Folding.{item_over};
+
+use crate::columns::place_of;
+use osq_value::{NoMemory, Sequence};
+use sql_names::query::Query;
+use sql_names::tree::{Aggregate, Expr};
+use sql_parser::token::Fold;
+use std::alloc::Global;
+
+/// What a column of the result is of the rows of a group.
+#[derive(Clone, Copy, Drop)]
+pub(crate) enum GroupItem {
+    /// The value at a place of the first row.
+    First { place: u32 },
+    /// The number of rows.
+    Rows,
+    /// An aggregate of the values at a place, without DISTINCT.
+    Folded { fold: Fold, place: u32 },
+}
+
+/// Columns of the result, in order.
+pub(crate) type GroupItemList = Sequence<GroupItem>;
+
+/// The columns of the result and behind them what a row is sorted by, where each can be folded row by row.
+pub(crate) fn group_items(alloc: Global, query: &Query) -> Result<Option<GroupItemList>, NoMemory>
+    ensures { IfOk result (λ found. IfSome found (λ items. (rows : List (List Value)) → result_row (query_of query.now) (together rows) ≡ map (λ item. item_over item rows) items)) }
+{
+    let mut items = GroupItemList::with_capacity(alloc, query.items.len())?;
+    for item in query.items.as_slice() {
+        if !push_item(&mut items, &item.expr)? {
+            return Ok(None);
+        }
+    }
+    for term in query.terms.as_slice() {
+        if !push_item(&mut items, &term.expr)? {
+            return Ok(None);
+        }
+    }
+    Ok(Some(items))
+}
+
+/// Adds the column that an expression is, where it can be folded.
+fn push_item(items: &mut GroupItemList, expr: &Expr) -> Result<bool, NoMemory>
+    ensures { IfOk result (λ is_pushed. is_pushed ≡ true → (rows : List (List Value)) → map (λ item. item_over item rows) items.new ≡ map (λ item. item_over item rows) items.old ++ value_of (together rows) (expr_of expr.now) ∷ []) }
+{
+    match item_of(expr) {
+        None => Ok(false),
+        Some(item) => {
+            items.push(item)?;
+            Ok(true)
+        }
+    }
+}
+
+fn item_of(expr: &Expr) -> Option<GroupItem>
+    ensures { IfSome result (λ item. (rows : List (List Value)) → value_of (together rows) (expr_of expr.now) ≡ item_over item rows) }
+{
+    match expr {
+        Expr::Column { at, .. } => Some(GroupItem::First { place: *at }),
+        Expr::Folded { aggregate } => folded_item(aggregate),
+        _ => None,
+    }
+}
+
+fn folded_item(aggregate: &Aggregate) -> Option<GroupItem>
+    ensures { IfSome result (λ item. (rows : List (List Value)) → value_of (together rows) (aggregate_of aggregate.now) ≡ item_over item rows) }
+{
+    match &aggregate.argument {
+        None => rows_item(aggregate.fold),
+        Some(argument) => {
+            if aggregate.is_distinct {
+                return None;
+            }
+            let Some(place) = place_of(argument) else {
+                return None;
+            };
+            Some(GroupItem::Folded {
+                fold: aggregate.fold,
+                place,
+            })
+        }
+    }
+}
+
+/// An aggregate without an argument, where it counts the rows.
+fn rows_item(fold: Fold) -> Option<GroupItem>
+    ensures { IfSome result (λ item. (rows : List (List Value)) → counted_rows fold (length rows) ≡ item_over item rows) }
+{
+    match fold {
+        Fold::Count => Some(GroupItem::Rows),
+        Fold::Sum | Fold::Min | Fold::Max => None,
+    }
+}
