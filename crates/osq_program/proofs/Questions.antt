@@ -2,6 +2,7 @@
 use Rattle.std.proofs.Common.{◌≡◌, inl, inr, ◌≤◌, ℕ, Bool, true, false, List, ◌++◌, map, take, refl, sym, ap, ◌∙◌, subst, Some, None}
 use Rattle.osq_value.specs.declared.reading.Category.{Category}
 use Rattle.osq_value.specs.declared.value.Value.{Value}
+use Rattle.entry_model.specs.declared.entry.Entry.{Entry}
 use Rattle.entry_model.specs.Legal.{Legal}
 use Rattle.program_words.specs.declared.command.QueryWords.{QueryWords}
 use Rattle.sql_meaning.specs.Meaning.{is_accepted, names_of}
@@ -172,12 +173,19 @@ given_for left words told posed names objects given is bytes g = record {
   records_are = g.records;
 }
 
+-- the rows of a question mean what the words ask for
+pub meant_for : (words : QueryWords) (tells : Type 0) (kept : List Entry) (names : List SessionSource) (text : List ℕ) (moment : ℕ) (rows : List (List Value)) → names ≡ map source_in words.sources → text ≡ words.text → asking.IsMeant tells kept names text moment rows
+    → asking.IsMeant tells kept (map source_in words.sources) words.text moment rows
+meant_for words tells kept names text moment rows named is meant =
+    subst (λ (text : List ℕ). asking.IsMeant tells kept (map source_in words.sources) text moment rows) is (subst (λ (names : List SessionSource). asking.IsMeant tells kept names text moment rows) named meant)
+
 -- the question was answered, and what was then written
 module _ (words : QueryWords) (told : Told) (posed : IsPosed words told) (moment : ℕ) (read : told.reads moment) (early : moment ≤ LAST_MOMENT) (asked : Asked)
+    (meant : asking.IsMeant told.keeper_tells told.kept_before (map source_in words.sources) words.text moment asked.rows)
     (answer : told.keeper_tells → told.source_tells → Legal told.kept_before → (given : Given) → IsGiven words told posed given → asking.IsAnswer given told.kept_before words.text words.ticks moment asked)
     (lines : List ℕ) (same : lines ≡ lines_in words asked) (kept : told.keeper_tells → told.kept_after ≡ told.kept_before) where
   abbrev has : (is_end : Bool) → asked.is_end ≡ is_end → HasAnswer words told is_end
-  has is_end end_is = record { posed = posed; moment = moment; read = read; early = early; asked = asked; end_is = end_is; answer = answer }
+  has is_end end_is = record { posed = posed; moment = moment; read = read; early = early; asked = asked; end_is = end_is; meant = meant; answer = answer }
 
   leaves_written : (s : Status) → Writes told.sink_tells asked.is_end told.results_before told.results_after lines told.results_failed s
       → (IsDoneStatus s → told.sink_tells → told.status_after ≡ told.status_before ++ posed.watched.notes) → Leaves words told s

@@ -1,5 +1,5 @@
 -- What `query` does.
-use Rattle.std.specs.Prelude.{◌≡◌, ◌⊎◌, ◌<◌, ◌≤◌, ℕ, Bool, true, false, List, [], ◌∷◌, ◌++◌, take, flat_map, None, Some}
+use Rattle.std.specs.Prelude.{◌≡◌, ◌⊎◌, ◌<◌, ◌≤◌, ℕ, Bool, true, false, List, [], ◌∷◌, ◌++◌, map, take, flat_map, None, Some}
 use Rattle.osq_value.specs.declared.value.Value.{Value}
 use Rattle.entry_model.specs.Legal.{Legal}
 use Rattle.program_words.specs.declared.command.QueryWords.{QueryWords}
@@ -9,14 +9,14 @@ use Rattle.sql_meaning.specs.Meaning.{names_of}
 use Rattle.sql_names.specs.declared.text.TextError.{TextError}
 use Rattle.sql_names.specs.TextFaults.{text_fault, place_of_fault, name_of_fault}
 use Rattle.session_model.specs.Given.{Given}
-use Rattle.query_rounds.specs.Asking.{IsAnswer, Spends}
+use Rattle.query_rounds.specs.Asking.{IsAnswer, IsMeant, Spends}
 use Rattle.query_rounds.specs.declared.asking.Asked.{Asked}
 use Rattle.osq_program.specs.declared.status.Status.{Status}
 use Rattle.osq_program.specs.declared.status.Status.TheVariants.{Ok as Done, SinkFault, TicksSpent, OutOfMemory}
 use Rattle.osq_program.specs.Answers.{Causes, IsCaused, IsRefusal, no_causes}
 use Rattle.osq_program.specs.Moments.{LAST_MOMENT}
 use Rattle.osq_program.specs.Reasons.{HasFailed, HasShrunk, IsUnfit}
-use Rattle.osq_program.specs.Setups.{sources_named}
+use Rattle.osq_program.specs.Setups.{source_in, sources_named}
 use Rattle.osq_program.specs.Told.{Told}
 use Rattle.osq_program.specs.Watching.{IsRefusedIn, Watches}
 
@@ -45,7 +45,7 @@ pub record IsGiven (words : QueryWords) (told : Told) (posed : IsPosed words tol
   pub records : given.records ≡ words.records
 
 -- The question was answered at the clock's one reading, over the kept list and what the sources have behind it: they were read to their ends, or
--- one of them had more.
+-- one of them had more. Whatever the sources tell, the rows are those that the text means over the kept list, an opening, and entries for what they gave.
 pub record HasAnswer (words : QueryWords) (told : Told) (is_end : Bool) : Type 0 where
   pub posed : IsPosed words told
   pub moment : ℕ
@@ -53,6 +53,7 @@ pub record HasAnswer (words : QueryWords) (told : Told) (is_end : Bool) : Type 0
   pub early : moment ≤ LAST_MOMENT
   pub asked : Asked
   pub end_is : asked.is_end ≡ is_end
+  pub meant : IsMeant told.keeper_tells told.kept_before (map source_in words.sources) words.text moment asked.rows
   pub answer : told.keeper_tells → told.source_tells → Legal told.kept_before → (given : Given) → IsGiven words told posed given → IsAnswer given told.kept_before words.text words.ticks moment asked
 
 -- the lines of these rows

@@ -1,4 +1,5 @@
 pub mod Answered
+pub mod Meant
 pub mod Refused
 pub mod Rounded
 pub mod Spent

@@ -1,18 +1,20 @@
 -- What a text answers over a kept list and what the sources have behind it.
-use Rattle.std.specs.Prelude.{◌≡◌, ℕ, ◌+◌, ◌<◌, ◌≤◌, true, false, All, List, [], ◌∷◌, ◌++◌, length}
+use Rattle.std.specs.Prelude.{◌≡◌, ℕ, ◌+◌, ◌<◌, ◌≤◌, true, false, All, Contains, List, [], ◌∷◌, ◌++◌, length, Some}
 use Rattle.osq_value.specs.declared.reading.Category.{Category}
 use Rattle.osq_value.specs.declared.value.Value.{Value}
 use Rattle.sql_meaning.specs.Meaning.{meaning}
 use Rattle.entry_model.specs.declared.entry.Entry.{Entry}
 use Rattle.entry_model.specs.declared.entry.Entry.TheVariants.{Opened}
+use Rattle.entry_model.specs.declared.restored.Restored.{Restored}
 use Rattle.entry_model.specs.Legal.{Legal}
-use Rattle.entry_model.specs.Summary.{summary}
+use Rattle.entry_model.specs.Summary.{source_in, summary}
 use Rattle.entry_model.specs.Values.{sessions, taken_from}
 use Rattle.entry_model.specs.Views.{view_of}
 use Rattle.session_model.specs.Given.{Given, Source}
 use Rattle.session_model.specs.Taking.{IsReadWhole}
 use Rattle.session_state.specs.Kept.{Kept}
 use Rattle.session_state.specs.Stands.{Stands}
+use Rattle.daemon_rounds.specs.Starting.{source_names}
 use Rattle.daemon_rounds.specs.declared.setup.SourceName.{SourceName}
 use Rattle.replay_rounds.specs.Sources.{sources_of}
 use Rattle.replay_rounds.specs.Spent.{StepsSpend}
@@ -57,3 +59,18 @@ pub record Spends (given : Given) (kept : List Entry) (rounds : ℕ) : Type 0 wh
 abbrev pub AnswersBehind : Kept → List ℕ → ℕ → List (List Value) → Type 0
 AnswersBehind state text moment rows =
     (before added : List Entry) → Legal before → Stands (summary before) added state → rows ≡ meaning text (view_of (before ++ added) 0 moment)
+
+-- an entry for what a source of one of these names gave
+abbrev pub IsFrom : List (List ℕ) → Entry → Type 0
+IsFrom names entry = (name : List ℕ) × Contains names name × (source_in entry ≡ Some name)
+
+-- Whatever the keeper and the sources tell: the session began over these values, which where the keeper tells are those of its list. Behind each legal list
+-- with these values there may be the opening, and then these entries for what the sources gave, the same for each such list; and the rows are those that
+-- the text means at this moment over all live events and the tables of the list with all of that behind it.
+pub record IsMeant (tells : Type 0) (kept : List Entry) (names : List SourceName) (text : List ℕ) (moment : ℕ) (rows : List (List Value)) : Type 0 where
+  pub restored : Restored
+  pub restored_is : tells → restored ≡ summary kept
+  pub entries : List Entry
+  pub given : All (IsFrom (source_names names)) entries
+  pub legal : (before : List Entry) → Legal before → summary before ≡ restored → Legal (opened_behind before ++ entries)
+  pub means : (before : List Entry) → Legal before → summary before ≡ restored → rows ≡ meaning text (view_of (opened_behind before ++ entries) 0 moment)

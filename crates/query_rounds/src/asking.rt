@@ -11,7 +11,7 @@ ghost use Rattle.entry_model.specs.declared.restored.Taken.{Taken};
 ghost use Rattle.session_model.specs.Given.{Given};
 ghost use Rattle.daemon_rounds.specs.Rounding.{FailsAt};
 ghost use Rattle.daemon_rounds.specs.Starting.{HasShrunk, source_names};
-ghost use Rattle.query_rounds.specs.Asking.{IsAnswer, IsGiven, Spends};
+ghost use Rattle.query_rounds.specs.Asking.{IsAnswer, IsGiven, IsMeant, Spends};
 ghost use Rattle.query_rounds.specs.Reading.{IsOverfull};
 ghost use Rattle.query_rounds.specs.declared.error.AskError.{AskError};
 
@@ -52,7 +52,7 @@ pub fn ask_kept<S: Source, K: Keeper, C: Clock>(
     requires accepted { is_accepted text.now ≡ true }
     requires paired { length sources.old ≡ length names.now }
     requires distinct { IsDistinct bytes_eq (source_names names.now) }
-    ensures answer { IfOk result (λ asked. (moment : ℕ) × C.reads clock.old moment clock.new × (moment ≤ 253402300799) × (K.tells → S.tells → Legal (K.kept keeper.old) → (given : Given) → IsGiven S.left names.now sources.old paths.now records given → IsAnswer given (K.kept keeper.old) text.now rounds moment asked)) }
+    ensures answer { IfOk result (λ asked. (moment : ℕ) × C.reads clock.old moment clock.new × (moment ≤ 253402300799) × IsMeant K.tells (K.kept keeper.old) names.now text.now moment asked.rows × (K.tells → S.tells → Legal (K.kept keeper.old) → (given : Given) → IsGiven S.left names.now sources.old paths.now records given → IsAnswer given (K.kept keeper.old) text.now rounds moment asked)) }
     ensures same { K.tells → K.kept keeper.new ≡ K.kept keeper.old }
     ensures keeper_cause { result ≡ Err AskError.KeeperFault → Rose (K.faults keeper.old) (K.faults keeper.new) }
     ensures refused { K.tells → result ≡ Err AskError.KeeperRefused → ¬ Fits (summary (K.kept keeper.old)) }

@@ -97,22 +97,12 @@ unopened_late (opening.SourceShrank place kept found) moment h = cc
 unopened_late opening.NumbersSpent moment h = cc
 unopened_late opening.NoMemory moment h = cc
 
-pub unopened_fault : (e : OpenError) (place : ℕ) → unopened_by e ≡ run.SourceFault place → e ≡ opening.SourceFault place
-unopened_fault (opening.MomentTooLarge moment) place h = cc
-unopened_fault (opening.SourceFault other) place h = cc
-unopened_fault (opening.SourceShrank other kept found) place h = cc
-unopened_fault opening.NumbersSpent place h = cc
-unopened_fault opening.NoMemory place h = cc
-
 pub unopened_spent : (e : OpenError) → unopened_by e ≡ run.NumbersSpent → e ≡ opening.NumbersSpent
 unopened_spent (opening.MomentTooLarge moment) h = cc
 unopened_spent (opening.SourceFault place) h = cc
 unopened_spent (opening.SourceShrank place kept found) h = cc
 unopened_spent opening.NumbersSpent h = refl
 unopened_spent opening.NoMemory h = cc
-
-pub one_moment : (a b : ℕ) → run.MomentTooLarge a ≡ run.MomentTooLarge b → a ≡ b
-one_moment a b h = cc
 
 -- what was written is told apart by whether the sink failed
 pub by_sink : (e : RunError) (x : Fixed) (kept : List Entry) (written : List ℕ) → (e ≡ run.SinkFault → IsWritten x kept written) → (e ≢ run.SinkFault → IsWritten x kept written) → IsWritten x kept written

@@ -6,7 +6,7 @@ use Rattle.sql_names.specs.Texts.{query_in}
 use Rattle.query_rounds.specs.Asking.{IsAnswer}
 use Rattle.osq_program.specs.Ending.{IsAnswerTo}
 use Rattle.osq_program.specs.Setups.{source_in}
-use Rattle.osq_program.proofs.Questions.{accepted_by, answered, as_fault, as_keeper, as_late, as_refused, as_shrank, as_spent, given_for, no_memory, no_sink, of_text, posed_by, refused_config, refused_text, same_lines, unanswered, untold}
+use Rattle.osq_program.proofs.Questions.{accepted_by, answered, as_fault, as_keeper, as_late, as_refused, as_shrank, as_spent, given_for, meant_for, no_memory, no_sink, of_text, posed_by, refused_config, refused_text, same_lines, unanswered, untold}
 use Rattle.osq_program.proofs.Replays.{answered as caused, fails_there, is_within, shrank_by}
 use Rattle.osq_program.proofs.Setups.{names_distinct}
 use Rattle.osq_program.proofs.query.run_query.Goals as goal
@@ -41,8 +41,9 @@ returns-in-Ok-ask_kept-clause-does g c =
     let asked = c.in-Ok-ask_kept.asked in
     let names = c.as_slice-3.ensures ∙ c.in-Ok-sources_of.ensures ∙ ap (map source_in) c.as_slice.ensures in
     let bytes = sym (ap (map left) c.as_mut_slice.ensures.value) in
-    let (moment, read, early, answer) = c.in-Ok-ask_kept.ensures.answer in
+    let (moment, read, early, meant, answer) = c.in-Ok-ask_kept.ensures.answer in
     answered _ _ (posed_by _ _ _ watched.paths watched.notes c.as_str-text.ensures c.in-Ok.ensures.accepted c.in-Ok-watched_by.ensures.watched) moment read early asked
+    (meant_for c.args.words.now _ _ _ _ moment asked.rows names c.as_str-text.ensures meant)
     (λ kept_told source_told legal given is. subst (λ (text : List ℕ). IsAnswer given (g.K.Keeper.kept c.args.outside.now.keeper) text c.args.words.now.ticks moment asked) c.as_str-text.ensures
     (answer kept_told source_told legal given (given_for left _ _ _ _ _ given names bytes is)))
     _ (same_lines c.args.words.now.text (query_of c.in-Ok.query) asked.rows (ap query_in (sym c.as_str-text.ensures) ∙ c.in-Ok.ensures.query)) c.in-Ok-ask_kept.ensures.same _ c.write_answer.ensures.writes

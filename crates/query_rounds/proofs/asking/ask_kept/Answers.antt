@@ -3,6 +3,7 @@ use Rattle.entry_model.specs.declared.restored.Restored.{Restored}
 use Rattle.query_rounds.specs.Reading.{HasRead, IsOverfull}
 use Rattle.query_rounds.specs.declared.error.AskError.TheVariants.{NumbersSpent}
 use Rattle.query_rounds.proofs.Answered.{answered}
+use Rattle.query_rounds.proofs.Meant.{meant}
 use Rattle.query_rounds.proofs.Spent.{has_spent}
 use Rattle.query_rounds.proofs.asking.ask_kept.Goals as goal
 
@@ -17,6 +18,9 @@ returns-clause-answer g c =
       c.in-Ok-read_moment.moment,
       subst (λ (moment : ℕ). g.C.Clock.reads c.args.clock.now moment c.read_moment.new.clock) same read.reads_it,
       subst (λ (moment : ℕ). moment ≤ 253402300799) same read.calendar,
+      meant g.S.Source.tells g.S.Source.left g.S.Source.faults c.args.names.now c.args.paths.now c.args.records c.args.rounds c.in-Ok.restored c.args.sources.now c.read_behind.new.sources behind.state behind.is_end c.in-Ok-read_behind.ensures.read
+          g.K.Keeper.tells (g.K.Keeper.kept c.args.keeper.now) c.in-Ok.ensures.value
+          c.args.text.now c.in-Ok-read_moment.moment c.in-Ok-answer_behind.rows c.in-Ok-answer_behind.ensures,
       λ told sources_told legal given is.
           answered g.S.Source.tells g.S.Source.left g.S.Source.faults c.args.names.now c.args.sources.now c.read_behind.new.sources c.args.rounds given (g.K.Keeper.kept c.args.keeper.now) behind.state behind.is_end sources_told legal c.requires.distinct c.args.paths.now c.args.records is
           (subst (λ (restored : Restored). HasRead g.S.Source.tells g.S.Source.left g.S.Source.faults c.args.names.now c.args.paths.now c.args.records c.args.rounds restored c.args.sources.now c.read_behind.new.sources behind.state behind.is_end) (c.in-Ok.ensures.value told) c.in-Ok-read_behind.ensures.read)
