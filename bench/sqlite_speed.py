@@ -1,18 +1,19 @@
 #!/usr/bin/env python3
-"""The time of joins, groups and sorts by `osqd query` beside SQLite, in one run.
+"""The time of joins, groups and sorts by `plan_of` and `run_plan` beside SQLite, in one run.
 
-Usage: bench/sqlite_speed.py [ROWS [ROUNDS [PROGRAM]]]: tables of so many rows (default 100000), the least of so many
-rounds (default 3), by the built program (default crates/osqd/out/osqd, which `rt run` in crates/osqd makes). SQLite holds
-the same tables in memory, without an index of its own making. Of the program's processor time the time of `SELECT 1` over
-the same file is taken away, which is what reading the tables costs; SQLite's is that of the query and of fetching its
-rows. Each query is asked over a tenth of the rows too, and the exponent tells how its time grows: 1.0 is in step with the
-rows. Skipped where the program isn't built.
+Usage: bench/sqlite_speed.py [ROUNDS [ROWS ..]]: the least of so many rounds (default 5) over tables of so many rows
+(default 10000, 100000 and 1000000). The program in bench/plan_speed.txt is built by `rt run` over the crates of this
+checkout, in a folder of its own, which proves it and what of those isn't built yet. It makes the tables and plans and runs
+each text over them, so that its time is that of a query without reading the tables. SQLite holds the same tables in memory,
+without an index of its own making, and its time is that of the query and of fetching its rows. Both take turns, three times.
+The exponent tells how our time grows from the size before: 1.0 is in step with the rows. `bench/sqlite_queries.py` compares
+rows; here only their number is. Skipped where there is no `rt`.
 """
 
-import json
 import math
 import os
 import pathlib
+import shutil
 import sqlite3
 import subprocess
 import sys
@@ -20,6 +21,10 @@ import tempfile
 import time
 
 TOP = pathlib.Path(__file__).resolve().parent.parent
+
+# The crates that the program uses, and the kit's.
+LIBRARIES = ["osq_value", "sql_parser", "sql_scalar", "sql_names", "sql_meaning", "virtual_tables", "sql_joins", "sql_groups", "sql_planner"]
+TURNS = 3
 
 COLUMNS = {
     "users": ["uid INTEGER", "gid INTEGER", "username TEXT", "description TEXT", "directory TEXT", "shell TEXT"],
@@ -56,15 +61,6 @@ def tables_of(rows: int) -> dict[str, list[tuple[int | str, ...]]]:
     }
 
 
-def written(folder: pathlib.Path, tables: dict[str, list[tuple[int | str, ...]]]) -> pathlib.Path:
-    lines = folder / "tables.jsonl"
-    with lines.open("w") as file:
-        for table, rows in tables.items():
-            names = [column.split()[0] for column in COLUMNS[table]]
-            file.write(json.dumps({"table": table, "rows": [dict(zip(names, row)) for row in rows]}) + "\n")
-    return lines
-
-
 def held(tables: dict[str, list[tuple[int | str, ...]]]) -> sqlite3.Connection:
     base = sqlite3.connect(":memory:")
     for table, rows in tables.items():
@@ -73,19 +69,29 @@ def held(tables: dict[str, list[tuple[int | str, ...]]]) -> sqlite3.Connection:
     return base
 
 
-def spent(program: str, text: str, lines: pathlib.Path) -> tuple[float, int, list[str]]:
-    """The processor time of the program, its peak memory in KB, and what it wrote."""
+def built(folder: pathlib.Path) -> str:
+    """The program, built in that folder over copies of this checkout's crates."""
+    lines = [line for line in (TOP / "crates.txt").read_text().splitlines() if line.split(":")[0].split(" ")[0] in LIBRARIES]
+    (folder / "crates.txt").write_text("\n".join([*lines, f"plan_speed: anyhow {' '.join(LIBRARIES)}"]) + "\n")
+    shutil.copy(TOP / "HANDLES", folder)
+    for crate in LIBRARIES:
+        shutil.copytree(TOP / "crates" / crate, folder / "crates" / crate, symlinks=True)
+    own = folder / "crates" / "plan_speed"
+    (own / "src").mkdir(parents=True)
+    shutil.copy(TOP / "bench" / "plan_speed.txt", own / "src" / "main.rt")
+    subprocess.run(["rt", "fmt"], cwd=own, stdout=subprocess.DEVNULL, check=True)
+    subprocess.run(["rt", "run", "--", "1", "1", "SELECT 1"], cwd=own, stdout=subprocess.DEVNULL, stderr=subprocess.DEVNULL, check=True)
+    return str(own / "out" / "plan_speed")
+
+
+def ours(program: str, rows: int, rounds: int, texts: list[str]) -> tuple[list[tuple[float, int]], int]:
+    """For each text the least time in seconds and the number of rows, and the peak memory in KB."""
     with tempfile.TemporaryFile() as out:
-        started = subprocess.Popen(
-            [program, "query", "--text", text, "--start", "1000", "--tables", str(lines)], stdout=out, stderr=subprocess.DEVNULL
-        )
-        _, status, used = os.wait4(started.pid, 0)
+        started = subprocess.Popen([program, str(rows), str(rounds), *texts], stdout=out)
+        _, _, used = os.wait4(started.pid, 0)
         out.seek(0)
-        return used.ru_utime + used.ru_stime, used.ru_maxrss, [f"status {status}"] if status else out.read().decode().splitlines()
-
-
-def least_spent(program: str, text: str, lines: pathlib.Path, rounds: int) -> tuple[float, int, list[str]]:
-    return min((spent(program, text, lines) for _ in range(rounds)), key=lambda it: it[0])
+        found = [line.split() for line in out.read().decode().splitlines()]
+        return [(int(least) / 1e9, int(count)) for least, count in found], used.ru_maxrss
 
 
 def least_theirs(base: sqlite3.Connection, text: str, rounds: int) -> tuple[float, list[tuple[int | str | None, ...]]]:
@@ -97,38 +103,41 @@ def least_theirs(base: sqlite3.Connection, text: str, rounds: int) -> tuple[floa
     return best, rows
 
 
-def measured(program: str, rows: int, rounds: int) -> dict[str, tuple[float, float, bool]]:
-    """For each query our time, SQLite's, and whether both gave the same rows."""
-    tables = tables_of(rows)
-    base = held(tables)
-    found = {}
-    with tempfile.TemporaryDirectory() as folder:
-        lines = written(pathlib.Path(folder), tables)
-        reading, memory, _ = least_spent(program, "SELECT 1", lines, rounds)
-        print(f"{rows} rows: reading {reading:.2f} s, {memory / 1024:.0f} MB for {lines.stat().st_size / 2**20:.0f} MB of table lines")
-        for name, text, _ in QUERIES:
-            ours, memory, answer = least_spent(program, text, lines, rounds)
-            theirs, wanted = least_theirs(base, text, rounds)
-            same = answer and [list(json.loads(line).values()) for line in answer] == [["" if v is None else str(v) for v in row] for row in wanted]
-            print(f"  {name}: {max(ours - reading, 0.0):.3f} s beside {theirs:.3f} s, {memory / 1024:.0f} MB", flush=True)
-            found[name] = (max(ours - reading, 0.001), theirs, bool(same))
-    return found
+def measured(program: str, rows: int, rounds: int) -> list[tuple[float, float, bool]]:
+    """For each query our time, SQLite's, and whether both gave so many rows."""
+    texts = [text for _, text, _ in QUERIES]
+    base = held(tables_of(rows))
+    best = [(math.inf, math.inf, True)] * len(QUERIES)
+    _, tables = ours(program, rows, rounds, [])
+    for _ in range(TURNS):
+        times, memory = ours(program, rows, rounds, texts)
+        for at, (text, (mine, count)) in enumerate(zip(texts, times)):
+            theirs, wanted = least_theirs(base, text, 1)
+            best[at] = (min(best[at][0], mine), min(best[at][1], theirs), best[at][2] and count == len(wanted))
+    print(f"{rows} rows: at most {memory / 1024:.0f} MB, of which the tables are {tables / 1024:.0f} MB")
+    return best
 
 
 def main() -> None:
-    rows = int(sys.argv[1]) if len(sys.argv) > 1 else 100_000
-    rounds = int(sys.argv[2]) if len(sys.argv) > 2 else 3
-    program = sys.argv[3] if len(sys.argv) > 3 else str(TOP / "crates" / "osqd" / "out" / "osqd")
-    if not pathlib.Path(program).exists():
-        print(f"skipped: {program} isn't built")
+    if not shutil.which("rt"):
+        print("skipped: there is no rt")
         return
-    few, many = measured(program, rows // 10, rounds), measured(program, rows, rounds)
-    print(f"{'query':30} {'ours/SQLite':>12} {'goal':>6} {'exponent':>9}  rows")
-    for name, _, goal in QUERIES:
-        ours, theirs, same = many[name]
-        exponent = math.log10(ours / few[name][0])
-        print(f"{name:30} {ours / theirs:12.2f} {goal:6.1f} {exponent:9.2f}  {'the same' if same else 'DIFFERENT'}")
-    sys.exit(0 if all(same for _, _, same in many.values()) else 1)
+    rounds = int(sys.argv[1]) if len(sys.argv) > 1 else 5
+    sizes = [int(word) for word in sys.argv[2:]] or [10_000, 100_000, 1_000_000]
+    with tempfile.TemporaryDirectory() as folder:
+        program = built(pathlib.Path(folder))
+        before: list[tuple[float, float, bool]] = []
+        is_same = True
+        for number, rows in enumerate(sizes):
+            found = measured(program, rows, rounds)
+            print(f"{'query':30} {'ours':>10} {'SQLite':>10} {'ratio':>6} {'goal':>5} {'exponent':>9}  rows")
+            for at, (name, _, goal) in enumerate(QUERIES):
+                mine, theirs, same = found[at]
+                exponent = f"{math.log(mine / before[at][0], rows / sizes[number - 1]):9.2f}" if before else f"{'':9}"
+                print(f"{name:30} {mine * 1e3:7.2f} ms {theirs * 1e3:7.2f} ms {mine / theirs:6.2f} {goal:5.1f} {exponent}  {'as many' if same else 'DIFFERENT'}")
+                is_same = is_same and same
+            before = found
+    sys.exit(0 if is_same else 1)
 
 
 if __name__ == "__main__":
