@@ -1,0 +1,8 @@
+//! What programs of rows share: values, rows and members of JSON lines as osqd's values, and osqd's values as text.
+#![tactic(auto)]
+
+mod given;
+mod shown;
+
+pub use given::{items_of, member_text, row_of, rows_of, value_of};
+pub use shown::{push_row, push_rows, push_value};
