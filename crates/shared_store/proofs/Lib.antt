@@ -3,4 +3,3 @@ pub mod Goes
 pub mod Shares
 pub mod Turning
 pub mod Seats
-pub mod Owners

@@ -10,6 +10,3 @@ mod store;
 pub use noted::Noted;
 pub use shared::Shared;
 pub use store::{Store, StoreSeat};
-
-#[cfg(test)]
-mod tests;

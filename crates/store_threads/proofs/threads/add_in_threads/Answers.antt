@@ -1,7 +1,7 @@
 use Rattle.std.proofs.Common.{rules, ◌≡◌, length}
 use Rattle.shared_store.specs.Seats.{HasAdded}
-use Rattle.shared_store.proofs.Owners.{zip_of}
-use Rattle.shared_store.proofs.tests.add_in_threads.Goals as goal
+use Rattle.store_threads.proofs.Owners.{zip_of}
+use Rattle.store_threads.proofs.threads.add_in_threads.Goals as goal
 
 pub returns : goal.returns
 returns g c =

@@ -2,7 +2,7 @@ use Rattle.std.proofs.Common.{rules, ◌≡◌, ◌+◌, ◌<◌, ◌∷◌, ◌
 use Rattle.std.specs.Vec.Iter.{into_iter_items}
 use mathlib.Core.List.{map-append}
 use Rattle.turn_lock.proofs.Lists.{total_snoc}
-use Rattle.shared_store.proofs.tests.gathered.Goals as goal
+use Rattle.store_threads.proofs.threads.gathered.Goals as goal
 
 pub loop-one-preserved : goal.loop-one-preserved
 loop-one-preserved c =

@@ -5,8 +5,8 @@ use Rattle.turn_lock.specs.Own.{own}
 use Rattle.turn_lock.specs.Turns.{Grows}
 use Rattle.turn_lock.specs.Words.{number, seen, split_off}
 use Rattle.shared_store.specs.Seats.{HasAdded}
-use Rattle.shared_store.proofs.Owners.{adds_all, zip_length, joinable}
-use Rattle.shared_store.proofs.tests.add_by_many.Goals as goal
+use Rattle.store_threads.proofs.Owners.{adds_all, zip_length, joinable}
+use Rattle.store_threads.proofs.threads.add_by_many.Goals as goal
 
 pub gathered-requires : goal.gathered-requires
 gathered-requires g c =

@@ -1,6 +1,6 @@
 use Rattle.shared_store.specs.Words.{start_of}
-use Rattle.shared_store.proofs.Owners.{own_append}
-use Rattle.shared_store.proofs.tests.add_one.Goals as goal
+use Rattle.store_threads.proofs.Owners.{own_append}
+use Rattle.store_threads.proofs.turns.add_one.Goals as goal
 
 pub returns-clause-added : goal.returns-clause-added
 returns-clause-added g c =

@@ -1,0 +1,115 @@
+//! What the stories begin with: a store with one query that is due, and readings of one file.
+
+ghost use Rattle.std.specs.Prelude.{◌≡◌, ◌≤◌, IfOk};
+ghost use Rattle.entry_model.specs.Legal.{IsEvent};
+ghost use Rattle.entry_model.specs.Schedules.{IsRunnable, IsSound};
+ghost use Rattle.session_state.specs.Readings.{IsReading};
+ghost use Rattle.turn_lock.specs.Words.{seats_out, split_off, IsAtRest, IsFirst};
+ghost use Rattle.shared_store.specs.Words.{most_seats, IsSeatOf};
+
+use entry_model::restored::Restored;
+use osq_value::{Event, EventList, NoMemory, Reading, Row, Str, TableId, TextList, Value};
+use pack_rules::schedule::{Form, Mode, QueryKey, Schedule, Scheduled, ScheduledList};
+use shared_store::{Store, StoreSeat};
+use sql_names::answers::is_evented;
+use sql_names::text::query_of_text;
+use std::alloc::Global;
+use std::sync::Wait;
+
+pub(crate) const FILES: TableId = TableId(2);
+
+const PATHS: &str = "SELECT target_path FROM file_events";
+
+/// The query `fe`, which asks for the paths of new files each minute; want of memory stands for a text that is refused.
+#[tactic(auto, unfolding(sql_meaning::specs::Meaning::is_accepted, sql_meaning::specs::Meaning::names_evented))]
+fn paths(alloc: Global) -> Result<Scheduled, NoMemory>
+    ensures { IfOk result IsRunnable }
+{
+    let Ok(query) = query_of_text(alloc, PATHS) else {
+        return Err(NoMemory);
+    };
+    if !is_evented(&query) {
+        return Err(NoMemory);
+    }
+    Ok(Scheduled {
+        key: QueryKey {
+            name: Str::of(alloc, "fe")?,
+            text: Str::of(alloc, PATHS)?,
+            mode: Mode::Evented,
+        },
+        interval: 60,
+    })
+}
+
+/// A schedule of that query.
+fn schedule(alloc: Global) -> Result<Schedule, NoMemory>
+    ensures { IfOk result IsSound }
+{
+    let mut queries = ScheduledList::new(alloc);
+    queries.push(paths(alloc)?)?;
+    Ok(Schedule {
+        queries,
+        events_expiry: 3600,
+        events_max: 50000,
+        form: Form::Event,
+    })
+}
+
+/// A store over an empty list, whose session runs that schedule at the tick of the moment 1000.
+pub(crate) fn opened<R: Wait>(
+    rt: &R,
+    alloc: Global,
+    seats: u32,
+) -> Result<(Store, StoreSeat), NoMemory>
+    requires { 1 ≤ seats }
+    ensures seat { IfOk result (λ r. IsSeatOf r.0 r.1 × IsAtRest r.1 × IsFirst r.1) }
+    ensures room { IfOk result (λ r. (most_seats r.0 ≡ seats) × (seats_out r.1 ≡ 1) × (split_off r.1 ≡ 0)) }
+{
+    let (store, mut first) = Store::begin(alloc, Restored::empty(alloc), seats)?;
+    let schedule = schedule(alloc)?;
+    store.configure(rt, alloc, &mut first, TextList::new(alloc), schedule, 1000)?;
+    match store.tick(rt, &mut first, 1000) {
+        Ok(()) => Ok((store, first)),
+        Err(_) => Err(NoMemory),
+    }
+}
+
+/// A file whose `target_path` is this one.
+#[tactic(auto, unfolding(osq_value::specs::Catalogue::width_of, osq_value::specs::Catalogue::columns_of, osq_value::specs::Catalogue::tables))]
+fn file(alloc: Global, path: &str) -> Result<Event, NoMemory>
+    ensures { IfOk result IsEvent }
+{
+    let path = Value::Text(Str::of(alloc, path)?);
+    let values = Vec::from_array(
+        alloc,
+        [
+            path,
+            Value::Null,
+            Value::Null,
+            Value::Null,
+            Value::Null,
+            Value::Null,
+            Value::Null,
+            Value::Null,
+            Value::Null,
+            Value::Null,
+        ],
+    )?;
+    Ok(Event {
+        table: FILES,
+        row: Row::from_vec(values),
+    })
+}
+
+/// A reading of one file, which ends at this byte.
+pub(crate) fn reading(alloc: Global, taken: u64) -> Result<Reading, NoMemory>
+    ensures { IfOk result IsReading }
+{
+    let mut events = EventList::new(alloc);
+    events.push(file(alloc, "/etc/a")?)?;
+    Ok(Reading::Events {
+        taken,
+        events,
+        skipped: 0,
+    })
+}

@@ -1,0 +1,124 @@
+//! Single turns of a seat.
+
+ghost use Rattle.std.specs.Prelude.{◌≡◌, ◌+◌, IfOk, OnOk, OnErr};
+ghost use Rattle.sql_meaning.specs.Meaning.{meaning};
+ghost use Rattle.event_store.specs.Contents.{rows_in};
+ghost use Rattle.turn_lock.specs.Words.{IsAtRest, IsSame};
+ghost use Rattle.shared_store.specs.Words.{IsSeatOf};
+ghost use Rattle.shared_store.specs.Seats.{own_count};
+ghost use Rattle.shared_store.specs.Notes.{IsGiven};
+ghost use Rattle.shared_store.specs.Turns.{notes_of};
+
+use crate::given::reading;
+use osq_value::{NoMemory, RowList, Str};
+use session_state::{AppendError, CommitRefusal, Cut};
+use shared_store::{Store, StoreSeat};
+use sql_meaning::plain_rows;
+use sql_names::text::query_of_text;
+use std::alloc::Global;
+use std::sync::Wait;
+
+/// Adds a reading of one file, which ends at this byte of the source.
+pub(crate) fn add_one<R: Wait>(
+    rt: &R,
+    alloc: Global,
+    store: &Store,
+    seat: &mut StoreSeat,
+    source: &str,
+    taken: u64,
+) -> Result<(u64, u64), AppendError>
+    requires { IsSeatOf store.now seat.old × IsAtRest seat.old }
+    ensures seat { IsSame seat.old seat.new × IsAtRest seat.new }
+    ensures added { OnOk result (own_count seat.new ≡ own_count seat.old + 1) }
+    ensures refused { OnErr result (own_count seat.new ≡ own_count seat.old) }
+{
+    let Ok(source) = Str::of(alloc, source) else {
+        return Err(AppendError::NoMemory);
+    };
+    let Ok(reading) = reading(alloc, taken) else {
+        return Err(AppendError::NoMemory);
+    };
+    store.append(rt, alloc, seat, &source, reading)
+}
+
+/// The next cut, where a query is due; want of memory stands for none.
+pub(crate) fn claimed<R: Wait>(
+    rt: &R,
+    alloc: Global,
+    store: &Store,
+    seat: &mut StoreSeat,
+) -> Result<Cut, NoMemory>
+    requires { IsSeatOf store.now seat.old × IsAtRest seat.old }
+    ensures seat { IsSame seat.old seat.new × IsAtRest seat.new }
+    ensures given { IfOk result (λ cut. IsGiven cut (notes_of seat.new)) }
+{
+    match store.claim_cut(rt, alloc, seat)? {
+        None => Err(NoMemory),
+        Some(cut) => Ok(cut),
+    }
+}
+
+/// The rows that answer a cut.
+#[tactic(auto, unfolding(sql_meaning::specs::Meaning::meaning))]
+fn answer(alloc: Global, cut: &Cut) -> Result<RowList, NoMemory>
+    ensures { IfOk result (λ rows. rows ≡ meaning cut.now.key.text (rows_in cut.now.view)) }
+{
+    let Ok(query) = query_of_text(alloc, cut.key().text.as_str()) else {
+        return Err(NoMemory);
+    };
+    plain_rows(alloc, &query, cut.view())
+}
+
+/// What becomes of a cut, with the number of a batch.
+#[derive(Clone, Copy)]
+pub(crate) enum Outcome {
+    Committed(u64),
+    Superseded(u64),
+    Other,
+}
+
+fn refused(refusal: CommitRefusal) -> Outcome {
+    match refusal {
+        CommitRefusal::Superseded { number, cut: _ } => Outcome::Superseded(number),
+        CommitRefusal::Stale {
+            position: _,
+            cut: _,
+        } => Outcome::Other,
+        CommitRefusal::NumbersSpent { cut: _ } => Outcome::Other,
+    }
+}
+
+/// Answers a cut, and says what becomes of it.
+pub(crate) fn commit<R: Wait>(
+    rt: &R,
+    alloc: Global,
+    store: &Store,
+    seat: &mut StoreSeat,
+    cut: Cut,
+) -> Result<Outcome, NoMemory>
+    requires seat { IsSeatOf store.now seat.old × IsAtRest seat.old }
+    requires given { IsGiven cut (notes_of seat.old) }
+    ensures { IsSame seat.old seat.new × IsAtRest seat.new }
+{
+    let rows = answer(alloc, &cut)?;
+    match store.commit(rt, seat, cut, rows) {
+        Ok(number) => Ok(Outcome::Committed(number)),
+        Err(refusal) => Ok(refused(refusal)),
+    }
+}
+
+/// The last number that a seat's cut has, which is then given back.
+pub(crate) fn last_cut<R: Wait>(
+    rt: &R,
+    alloc: Global,
+    store: &Store,
+    seat: &mut StoreSeat,
+) -> Result<u64, NoMemory>
+    requires { IsSeatOf store.now seat.old × IsAtRest seat.old }
+    ensures { IsSame seat.old seat.new × IsAtRest seat.new }
+{
+    let cut = claimed(rt, alloc, store, seat)?;
+    let last = cut.hi();
+    store.release(rt, seat, cut);
+    Ok(last)
+}
