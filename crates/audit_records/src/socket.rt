@@ -118,8 +118,7 @@ fn hex_number(text: &[u8]) -> Option<u64>
 }
 
 fn hex_digit(byte: u8) -> Option<u8>
-    ensures value { result ≡ hex_digit_value byte }
-    ensures below { MatchOption result (Unit {0}) (λ digit. digit < 16) }
+    ensures { result ≡ hex_digit_value byte }
 {
     match byte {
         b'A'..=b'F' => Some(byte - b'A' + 10),
