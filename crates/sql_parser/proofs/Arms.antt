@@ -16,9 +16,9 @@ use Rattle.sql_parser.specs.declared.part.Rule.TheVariants as rule
 use Rattle.sql_parser.specs.declared.part.Optional.TheVariants as optional
 use Rattle.sql_parser.specs.declared.stop.Stop.{Stop}
 use Rattle.sql_parser.specs.declared.stop.Stop.TheVariants.{Refused, NoMemory}
-use Rattle.sql_parser.specs.declared.tree.Node.{Node}
+use Rattle.sql_tree.specs.declared.tree.Node.{Node}
 use Rattle.sql_parser.specs.Tokens.{next, after, is_all_of}
-use Rattle.sql_parser.specs.Tree.{Tree}
+use Rattle.sql_tree.specs.Tree.{Tree}
 use Rattle.sql_parser.specs.Levels.{sign_at}
 use Rattle.sql_parser.specs.Grammar.{Class, Spells}
 use Rattle.sql_parser.specs.Reading.{settled, deeper, later, alternative, fits, found, at_limit, operand_rule, further, step_by, behind, negated_by, signed_by, atom_by, equal_by, negatable_by, not_by, item_by, items_by, or_by, list_parts, between_parts, wide}

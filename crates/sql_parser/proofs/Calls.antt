@@ -5,7 +5,7 @@ use Rattle.sql_parser.specs.declared.token.Kind.{Kind}
 use Rattle.sql_parser.specs.declared.token.Kind.TheVariants as kind
 use Rattle.sql_parser.specs.declared.token.Word.{Word}
 use Rattle.sql_parser.specs.declared.token.Word.TheVariants as word
-use Rattle.sql_parser.specs.declared.token.Function.TheVariants as function
+use Rattle.sql_tree.specs.declared.functions.Function.TheVariants as function
 use Rattle.sql_parser.specs.declared.level.Level.TheVariants as level
 use Rattle.sql_parser.specs.declared.part.Part.{Part}
 use Rattle.sql_parser.specs.declared.part.Part.TheVariants.{One, Must, May}
@@ -14,11 +14,11 @@ use Rattle.sql_parser.specs.declared.part.Rule.TheVariants as rule
 use Rattle.sql_parser.specs.declared.part.Optional.TheVariants as optional
 use Rattle.sql_parser.specs.declared.stop.Stop.{Stop}
 use Rattle.sql_parser.specs.declared.stop.Stop.TheVariants.{Refused, NoMemory}
-use Rattle.sql_parser.specs.declared.tree.Node.{Node}
+use Rattle.sql_tree.specs.declared.tree.Node.{Node}
 use Rattle.sql_parser.specs.Tokens.{next, after}
-use Rattle.sql_parser.specs.Tree.{Tree, Trees, no_trees, and_tree}
-use Rattle.sql_parser.specs.Tree as tree
-use Rattle.sql_parser.specs.View.{tree_of}
+use Rattle.sql_tree.specs.Tree.{Tree, Trees, no_trees, and_tree}
+use Rattle.sql_tree.specs.Tree as tree
+use Rattle.sql_tree.specs.View.{tree_of}
 use Rattle.sql_parser.specs.Calls.{IsNamed, name_of, call_of, is_known, is_allowed, takes_shape, folds, folded_of, type_of}
 use Rattle.sql_parser.specs.declared.arguments.Shape.{Shape}
 use Rattle.sql_parser.specs.declared.arguments.Shape.TheVariants as shape

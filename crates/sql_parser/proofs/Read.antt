@@ -12,15 +12,15 @@ use Rattle.sql_parser.specs.declared.part.Rule.TheVariants as rule
 use Rattle.sql_parser.specs.declared.part.Optional.TheVariants as optional
 use Rattle.sql_parser.specs.declared.stop.Stop.{Stop}
 use Rattle.sql_parser.specs.declared.stop.Stop.TheVariants.{Refused, NoMemory}
-use Rattle.sql_parser.specs.declared.tree.Step.{Step}
-use Rattle.sql_parser.specs.declared.tree.Node.{Node}
-use Rattle.sql_parser.specs.View.{step_of, tree_of}
+use Rattle.sql_tree.specs.declared.tree.Step.{Step}
+use Rattle.sql_tree.specs.declared.tree.Node.{Node}
+use Rattle.sql_tree.specs.View.{step_of, tree_of}
 use Rattle.std.proofs.lemmas.Bool.{false≢true}
-use Rattle.sql_parser.specs.declared.tree.Operator.{Operator}
-use Rattle.sql_parser.specs.declared.tree.Operator.TheVariants as op
+use Rattle.sql_tree.specs.declared.tree.Operator.{Operator}
+use Rattle.sql_tree.specs.declared.tree.Operator.TheVariants as op
 use Rattle.sql_parser.specs.Tokens.{next, after}
-use Rattle.sql_parser.specs.Tree.{Tree, OneStep, binary, among, between, Steps, no_steps, then, Trees, no_trees, and_tree, chained}
-use Rattle.sql_parser.specs.Tree as tree
+use Rattle.sql_tree.specs.Tree.{Tree, OneStep, binary, among, between, Steps, no_steps, then, Trees, no_trees, and_tree, chained}
+use Rattle.sql_tree.specs.Tree as tree
 use Rattle.sql_parser.specs.Levels.{sign_at}
 use Rattle.sql_parser.specs.Grammar.{Class, chain, negated, signed, atom, operand, Spells, Further, SpellsStep, FurtherItems, SpellsList, SpellsNegated, SpellsBetween, a_chain, a_not, a_minus, a_plus, a_number, a_text, a_null, in_parentheses, no_more, more, a_binary, an_is, an_is_not, an_in, a_between, a_negated, a_not_like, a_not_in, a_not_between, two_ends, no_items, some_items, last, one_more}
 use Rattle.sql_parser.specs.Reading.{operand_rule, further, list_parts, between_parts}

@@ -1,9 +1,9 @@
 -- What the grammar spells is what the computed reading gives.
 use Rattle.std.proofs.Common.{◌≡◌, ◌≢◌, ◌<◌, ◌≤◌, ◌+◌, ◌*◌, ℕ, suc, zero, List, length, Option, Some, None, Bool, refl, sym, ap, ◌∙◌, arith}
 use Rattle.std.specs.Prelude.{IfOk, Result, Ok, Err}
-use Rattle.sql_parser.specs.declared.tree.Node.{Node}
+use Rattle.sql_tree.specs.declared.tree.Node.{Node}
 use Rattle.sql_parser.specs.declared.error.ParseError.{ParseError}
-use Rattle.sql_parser.specs.View.{tree_of}
+use Rattle.sql_tree.specs.View.{tree_of}
 use Rattle.sql_parser.specs.Lexing.{tokens_of}
 use Rattle.sql_parser.specs.Text.{expression_of}
 use Rattle.sql_parser.specs.declared.token.Token.{Token}
@@ -16,10 +16,10 @@ use Rattle.sql_parser.specs.declared.level.Level.{Level}
 use Rattle.sql_parser.specs.declared.level.Level.TheVariants as level
 use Rattle.sql_parser.specs.declared.level.Sign.{Sign}
 use Rattle.sql_parser.specs.declared.level.Sign.TheVariants as sign
-use Rattle.sql_parser.specs.declared.tree.Operator.TheVariants as op
+use Rattle.sql_tree.specs.declared.tree.Operator.TheVariants as op
 use Rattle.sql_parser.specs.Tokens.{next, after}
-use Rattle.sql_parser.specs.Tree.{Tree, OneStep, Steps, no_steps, then, Trees, no_trees, and_tree, between, chained}
-use Rattle.sql_parser.specs.Tree as tree
+use Rattle.sql_tree.specs.Tree.{Tree, OneStep, Steps, no_steps, then, Trees, no_trees, and_tree, between, chained}
+use Rattle.sql_tree.specs.Tree as tree
 use Rattle.sql_parser.specs.Levels.{sign_at}
 use Rattle.sql_parser.specs.Calls.{IsNamed, name_of, type_of}
 use Rattle.sql_parser.specs.Reading.{one_longer}

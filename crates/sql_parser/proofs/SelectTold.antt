@@ -20,7 +20,7 @@ use Rattle.sql_parser.specs.Calls.{name_of}
 use Rattle.sql_parser.specs.Read.{Found}
 use Rattle.sql_parser.specs.Reading.{faults, entered, term_parts, names_parts, whole_select}
 use Rattle.sql_parser.specs.Descent.{Fails}
-use Rattle.sql_parser.specs.Select.{ItemTree, RefTree, SelectTree, all, all_of, one}
+use Rattle.sql_tree.specs.Select.{ItemTree, RefTree, SelectTree, all, all_of, one}
 use Rattle.sql_parser.specs.SelectRead.{expression, comma, listed, with_commas, name, alias, expression_item, item, names, condition, condition_of, is_outer, source, join, outer, further_source, sources, filter, by_list, keys, having, direction, term, terms, number, integer, minus, offset, limits, opening, select_at, select_of_tokens}
 use Rattle.sql_parser.specs.SelectDescent.{IsFound, FormFound, condition_parts, form_parts, select_parts, end_parts}
 use Rattle.sql_parser.proofs.Laws.{leads_on, leads_with, fails_with, fails_later}

@@ -12,8 +12,8 @@ use Rattle.sql_parser.specs.declared.level.Level.{Level}
 use Rattle.sql_parser.specs.declared.level.Level.TheVariants as level
 use Rattle.sql_parser.specs.declared.level.Sign.{Sign}
 use Rattle.sql_parser.specs.declared.level.Sign.TheVariants as sign
-use Rattle.sql_parser.specs.declared.tree.Operator.{Operator}
-use Rattle.sql_parser.specs.declared.tree.Operator.TheVariants as op
+use Rattle.sql_tree.specs.declared.tree.Operator.{Operator}
+use Rattle.sql_tree.specs.declared.tree.Operator.TheVariants as op
 use Rattle.sql_parser.specs.declared.part.Part.TheVariants.{One, Must}
 use Rattle.sql_parser.specs.declared.part.Expected.TheVariants as expected
 use Rattle.sql_parser.specs.declared.part.Rule.{Rule}
@@ -22,8 +22,8 @@ use Rattle.sql_parser.specs.declared.stop.Stop.TheVariants.{Refused}
 use Rattle.sql_parser.specs.Tokens.{next, after}
 use Rattle.sql_parser.specs.Calls.{IsNamed, name_of, call_of, is_known, is_allowed, folded_of, type_of}
 use Rattle.sql_parser.specs.Levels.{sign_at}
-use Rattle.sql_parser.specs.Tree.{Tree, OneStep, binary, among, between, Steps, no_steps, then, Trees, no_trees, and_tree, chained}
-use Rattle.sql_parser.specs.Tree as tree
+use Rattle.sql_tree.specs.Tree.{Tree, OneStep, binary, among, between, Steps, no_steps, then, Trees, no_trees, and_tree, chained}
+use Rattle.sql_tree.specs.Tree as tree
 use Rattle.sql_parser.specs.Grammar.{Class, chain, negated, signed, atom, operand, Spells, no_not, no_sign, a_table_column, a_call, a_cast, all_rows, distinct_arguments, plain_arguments, last_argument}
 use Rattle.sql_parser.specs.Reading.{operand_rule, one_longer, further, list_parts, between_parts, type_parts, found}
 use Rattle.sql_parser.specs.Descent.{Fails, Refuses, IsRead, IsStep, RefusesStep, IsList, IsBetween, IsNegated, IsIs, IsCounted, IsCall, IsCast, IsType, IsClosed, counted_parts, call_parts, cast_parts}

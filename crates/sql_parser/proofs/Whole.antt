@@ -9,14 +9,14 @@ use Rattle.sql_parser.specs.declared.part.Part.TheVariants.{One, Must, May}
 use Rattle.sql_parser.specs.declared.part.Expected.TheVariants as expected
 use Rattle.sql_parser.specs.declared.part.Rule.TheVariants as rule
 use Rattle.sql_parser.specs.Tokens.{next}
-use Rattle.sql_parser.specs.Tree.{Tree}
+use Rattle.sql_tree.specs.Tree.{Tree}
 use Rattle.sql_parser.specs.Grammar.{chain}
 use Rattle.sql_parser.specs.Reading.{faults, settled, fits, found, whole, least_from}
 use Rattle.sql_parser.specs.Descent.{Fails, IsRead}
 use Rattle.sql_parser.specs.Whole.{IsWhole}
 use Rattle.sql_parser.specs.declared.part.Optional.TheVariants as optional
 use Rattle.sql_parser.specs.Tokens.{after, is_end}
-use Rattle.sql_parser.specs.Select.{SelectTree}
+use Rattle.sql_tree.specs.Select.{SelectTree}
 use Rattle.sql_parser.specs.SelectRead.{select_of_tokens, select_at, closing, closing_by, end_by}
 use Rattle.sql_parser.specs.SelectDescent.{IsFound, EndTold, select_parts, end_parts}
 use Rattle.sql_parser.specs.Descent.{Leads}

@@ -4,7 +4,7 @@ use Rattle.sql_parser.specs.declared.token.Token.{Token}
 use Rattle.sql_parser.specs.declared.part.Part.TheVariants.{One}
 use Rattle.sql_parser.specs.declared.part.Expected.TheVariants as expected
 use Rattle.sql_parser.specs.Tokens.{next, is_end}
-use Rattle.sql_parser.specs.Tree.{Tree}
+use Rattle.sql_tree.specs.Tree.{Tree}
 use Rattle.sql_parser.specs.Reading.{faults, whole}
 use Rattle.sql_parser.specs.Read.{tree_of_tokens}
 use Rattle.sql_parser.proofs.ReadSpelled.{computed_whole}

@@ -5,14 +5,14 @@ use Rattle.sql_parser.specs.declared.token.Kind.TheVariants as kind
 use Rattle.sql_parser.specs.declared.token.Token.{Token}
 use Rattle.sql_parser.specs.declared.token.Word.{Word}
 use Rattle.sql_parser.specs.declared.token.Word.TheVariants as word
-use Rattle.sql_parser.specs.declared.token.Function.{Function}
-use Rattle.sql_parser.specs.declared.token.Function.TheVariants as function
-use Rattle.sql_parser.specs.declared.token.Fold.{Fold}
-use Rattle.sql_parser.specs.declared.token.Fold.TheVariants as fold
+use Rattle.sql_tree.specs.declared.functions.Function.{Function}
+use Rattle.sql_tree.specs.declared.functions.Function.TheVariants as function
+use Rattle.sql_tree.specs.declared.functions.Fold.{Fold}
+use Rattle.sql_tree.specs.declared.functions.Fold.TheVariants as fold
 use Rattle.sql_parser.specs.declared.arguments.Shape.{Shape}
 use Rattle.sql_parser.specs.declared.arguments.Shape.TheVariants as shape
-use Rattle.sql_parser.specs.declared.tree.Name.{Name}
-use Rattle.sql_parser.specs.Tree.{Tree, Trees, no_trees, and_tree, call, null, folded, count_all}
+use Rattle.sql_tree.specs.declared.tree.Name.{Name}
+use Rattle.sql_tree.specs.Tree.{Tree, Trees, no_trees, and_tree, call, null, folded, count_all}
 
 -- how many arguments a function takes
 abbrev pub takes : Function → ℕ → Bool

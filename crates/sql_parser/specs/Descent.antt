@@ -6,23 +6,23 @@ use Rattle.sql_parser.specs.declared.part.Part.{Part}
 use Rattle.sql_parser.specs.declared.part.Part.TheVariants.{Must, One}
 use Rattle.sql_parser.specs.declared.part.Expected.TheVariants as expected
 use Rattle.sql_parser.specs.declared.token.Word.{Word}
-use Rattle.sql_parser.specs.declared.tree.Name.{Name}
+use Rattle.sql_tree.specs.declared.tree.Name.{Name}
 use Rattle.sql_parser.specs.declared.arguments.Shape.{Shape}
 use Rattle.sql_parser.specs.Calls.{IsNamed, name_of, call_of, is_allowed, type_of}
 use Rattle.sql_parser.specs.declared.part.Rule.{Rule}
 use Rattle.sql_parser.specs.declared.part.Rule.TheVariants as rule
-use Rattle.sql_parser.specs.declared.tree.Operator.{Operator}
-use Rattle.sql_parser.specs.declared.tree.Operator.TheVariants as op
+use Rattle.sql_tree.specs.declared.tree.Operator.{Operator}
+use Rattle.sql_tree.specs.declared.tree.Operator.TheVariants as op
 use Rattle.sql_parser.specs.declared.token.Kind.{Kind}
 use Rattle.sql_parser.specs.declared.token.Kind.TheVariants as kind
 use Rattle.sql_parser.specs.declared.level.Level.{Level}
 use Rattle.sql_parser.specs.declared.stop.Stop.{Stop}
 use Rattle.sql_parser.specs.declared.stop.Stop.TheVariants.{Refused, NoMemory}
-use Rattle.sql_parser.specs.declared.tree.Node.{Node}
-use Rattle.sql_parser.specs.declared.tree.Step.{Step}
+use Rattle.sql_tree.specs.declared.tree.Node.{Node}
+use Rattle.sql_tree.specs.declared.tree.Step.{Step}
 use Rattle.sql_parser.specs.Tokens.{next, after}
-use Rattle.sql_parser.specs.Tree.{Tree, OneStep, Trees, number, column, cast}
-use Rattle.sql_parser.specs.View.{tree_of, step_of, trees_of}
+use Rattle.sql_tree.specs.Tree.{Tree, OneStep, Trees, number, column, cast}
+use Rattle.sql_tree.specs.View.{tree_of, step_of, trees_of}
 use Rattle.sql_parser.specs.Levels.{sign_at}
 use Rattle.sql_parser.specs.declared.level.Level.TheVariants as level
 use Rattle.sql_parser.specs.Grammar.{Class, chain, Spells, SpellsStep, SpellsBetween, SpellsNegated, SpellsList, SpellsArguments, SpellsCounted, SpellsType}

@@ -5,7 +5,7 @@ use Rattle.sql_parser.specs.declared.token.Kind.TheVariants as kind
 use Rattle.sql_parser.specs.declared.level.Level.{Level}
 use Rattle.sql_parser.specs.declared.level.Level.TheVariants as level
 use Rattle.sql_parser.specs.declared.level.Sign.TheVariants as sign
-use Rattle.sql_parser.specs.declared.tree.Operator.TheVariants as op
+use Rattle.sql_tree.specs.declared.tree.Operator.TheVariants as op
 use Rattle.sql_parser.specs.Tokens.{next, after}
 use Rattle.sql_parser.specs.declared.token.Word.{Word}
 use Rattle.sql_parser.specs.Levels.{sign_at}
@@ -13,8 +13,8 @@ use Rattle.sql_parser.specs.declared.arguments.Shape.{Shape}
 use Rattle.sql_parser.specs.declared.arguments.Shape.TheVariants as shape
 use Rattle.sql_parser.specs.Calls.{IsNamed, name_of, call_of, type_of}
 use Rattle.sql_parser.specs.Reading.{one_longer}
-use Rattle.sql_parser.specs.Tree.{Tree, OneStep, binary, among, between, Steps, no_steps, then, Trees, no_trees, and_tree, chained}
-use Rattle.sql_parser.specs.Tree as tree
+use Rattle.sql_tree.specs.Tree.{Tree, OneStep, binary, among, between, Steps, no_steps, then, Trees, no_trees, and_tree, chained}
+use Rattle.sql_tree.specs.Tree as tree
 
 -- what an expression is at each strength of its operators
 pub data Class : Type 0 where

@@ -10,14 +10,14 @@ use Rattle.sql_parser.specs.declared.level.Level.{Level}
 use Rattle.sql_parser.specs.declared.level.Level.TheVariants as level
 use Rattle.sql_parser.specs.declared.level.Sign.{Sign}
 use Rattle.sql_parser.specs.declared.level.Sign.TheVariants as sign
-use Rattle.sql_parser.specs.declared.tree.Operator.TheVariants as op
+use Rattle.sql_tree.specs.declared.tree.Operator.TheVariants as op
 use Rattle.sql_parser.specs.Tokens.{next, after}
 use Rattle.sql_parser.specs.Levels.{sign_at}
 use Rattle.sql_parser.specs.Calls.{name_of, call_of, type_of}
 use Rattle.sql_parser.specs.Reading.{one_longer}
 use Rattle.sql_parser.specs.Grammar.{Class, chain, negated, signed, atom, operand}
-use Rattle.sql_parser.specs.Tree.{Tree, OneStep, binary, among, between, Steps, no_steps, then, Trees, no_trees, and_tree, chained}
-use Rattle.sql_parser.specs.Tree as tree
+use Rattle.sql_tree.specs.Tree.{Tree, OneStep, binary, among, between, Steps, no_steps, then, Trees, no_trees, and_tree, chained}
+use Rattle.sql_tree.specs.Tree as tree
 
 abbrev pub Found : Type 0 → Type 0
 Found X = Option (X × List Token)

@@ -7,13 +7,13 @@ use Rattle.sql_parser.specs.declared.token.Clause.TheVariants as clause
 use Rattle.sql_parser.specs.declared.level.Level.TheVariants as level
 use Rattle.sql_parser.specs.declared.clauses.Form.{Form}
 use Rattle.sql_parser.specs.declared.clauses.Form.TheVariants as form
-use Rattle.sql_parser.specs.declared.tree.Name.{Name}
+use Rattle.sql_tree.specs.declared.tree.Name.{Name}
 use Rattle.sql_parser.specs.Tokens.{next, after, is_all_of}
 use Rattle.sql_parser.specs.Calls.{name_of}
 use Rattle.sql_parser.specs.Grammar.{chain}
-use Rattle.sql_parser.specs.Tree.{Tree}
-use Rattle.sql_parser.specs.Select.{ItemTree, RefTree, HavingTree, TermTree, SelectTree}
-use Rattle.sql_parser.specs.Select as select
+use Rattle.sql_tree.specs.Tree.{Tree}
+use Rattle.sql_tree.specs.Select.{ItemTree, RefTree, HavingTree, TermTree, SelectTree}
+use Rattle.sql_tree.specs.Select as select
 use Rattle.sql_parser.specs.Read.{Found, and_then, read}
 
 -- e

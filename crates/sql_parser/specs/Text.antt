@@ -2,8 +2,8 @@
 use Rattle.std.specs.Prelude.{ℕ, nat_lt, if◌then◌else◌, List, length, Option, Some}
 use Rattle.sql_parser.specs.declared.error.ParseError.{ParseError}
 use Rattle.sql_parser.specs.declared.error.ParseKind.TheVariants.{TextTooLong}
-use Rattle.sql_parser.specs.Tree.{Tree}
-use Rattle.sql_parser.specs.Select.{SelectTree}
+use Rattle.sql_tree.specs.Tree.{Tree}
+use Rattle.sql_tree.specs.Select.{SelectTree}
 use Rattle.sql_parser.specs.SelectRead.{select_of_tokens}
 use Rattle.sql_parser.specs.Lexing.{tokens_of}
 use Rattle.sql_parser.specs.Read.{tree_of_tokens}

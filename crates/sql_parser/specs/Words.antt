@@ -7,9 +7,9 @@ use Rattle.sql_parser.specs.declared.token.Clause.{Clause}
 use Rattle.sql_parser.specs.declared.token.Clause.TheVariants as clause
 use Rattle.sql_parser.specs.declared.token.Word.{Word}
 use Rattle.sql_parser.specs.declared.token.Word.TheVariants as word
-use Rattle.sql_parser.specs.declared.token.Function.{Function}
-use Rattle.sql_parser.specs.declared.token.Function.TheVariants as function
-use Rattle.sql_parser.specs.declared.token.Fold.TheVariants as fold
+use Rattle.sql_tree.specs.declared.functions.Function.{Function}
+use Rattle.sql_tree.specs.declared.functions.Function.TheVariants as function
+use Rattle.sql_tree.specs.declared.functions.Fold.TheVariants as fold
 
 -- what stands in a table beside a word
 abbrev pub found_in : {A : Type 0} → List (List ℕ × A) → List ℕ → Option A

@@ -7,10 +7,10 @@ ghost use Rattle.sql_parser.specs.declared.part.Rule.TheVariants as rule;
 ghost use Rattle.sql_parser.specs.declared.part.Optional.TheVariants as optional;
 ghost use Rattle.sql_parser.specs.declared.token.Kind.TheVariants as kind;
 ghost use Rattle.sql_parser.specs.declared.level.Level.TheVariants as level;
-ghost use Rattle.sql_parser.specs.View.{tree_of};
+ghost use Rattle.sql_tree.specs.View.{tree_of};
 ghost use Rattle.sql_parser.specs.Reading.{names_parts, source_parts, term_parts};
 ghost use Rattle.sql_parser.specs.Tokens.{next, is_end};
-ghost use Rattle.sql_parser.specs.Select.{item_of, ref_of, having_of, term_of, select_of};
+ghost use Rattle.sql_tree.specs.Select.{item_of, ref_of, having_of, term_of, select_of};
 ghost use Rattle.sql_parser.specs.SelectRead as read;
 ghost use Rattle.sql_parser.specs.SelectDescent.{Took, IsFound, Finds, FormFound, form_parts, condition_parts, condition_tree, select_parts, EndTold};
 

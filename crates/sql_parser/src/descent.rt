@@ -2,7 +2,7 @@
 
 ghost use Rattle.std.specs.Prelude.{◌≡◌, ◌≤◌};
 ghost use Rattle.sql_parser.specs.Tokens.{next};
-ghost use Rattle.sql_parser.specs.View.{tree_of, trees_of};
+ghost use Rattle.sql_tree.specs.View.{tree_of, trees_of};
 ghost use Rattle.sql_parser.specs.Calls.{IsNamed, name_of as token_name};
 ghost use Rattle.sql_parser.specs.Grammar.{chain as chain_class, negated as negated_class, signed as signed_class, atom as atom_class, operand as operand_class};
 ghost use Rattle.sql_parser.specs.Reading.{operand_rule};

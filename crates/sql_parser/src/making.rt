@@ -1,9 +1,9 @@
 //! Making a node over the ones below it.
 
 ghost use Rattle.std.specs.Prelude.{◌≡◌, ◌++◌, [], ◌∷◌, IfOk, OnOk};
-ghost use Rattle.sql_parser.specs.Tree.{chained, negation as negation_tree, minus as minus_tree, plus as plus_tree, cast as cast_tree, call as call_tree, folded as folded_tree, then, and_tree};
+ghost use Rattle.sql_tree.specs.Tree.{chained, negation as negation_tree, minus as minus_tree, plus as plus_tree, cast as cast_tree, call as call_tree, folded as folded_tree, then, and_tree};
 ghost use Rattle.sql_parser.specs.Calls.{only, folded_of};
-ghost use Rattle.sql_parser.specs.View.{tree_of, step_of, steps_of, trees_of};
+ghost use Rattle.sql_tree.specs.View.{tree_of, step_of, steps_of, trees_of};
 
 use crate::arguments::Shape;
 use crate::token::{Fold, Function};

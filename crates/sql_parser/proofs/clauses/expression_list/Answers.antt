@@ -6,7 +6,7 @@ use Rattle.sql_parser.specs.declared.part.Optional.TheVariants as optional
 use Rattle.sql_parser.specs.declared.level.Level.TheVariants as level
 use Rattle.std.proofs.Common.{◌++◌, ap, ◌∙◌, map}
 use Rattle.std.proofs.lemmas.List.{map-append}
-use Rattle.sql_parser.specs.View.{tree_of}
+use Rattle.sql_tree.specs.View.{tree_of}
 use Rattle.sql_parser.specs.SelectRead as read
 use Rattle.sql_parser.proofs.Arms.{kind_at, kind_not}
 use Rattle.sql_parser.proofs.SelectArms.{comma_start, comma_more, comma_end, comma_stopped, item_comma, item_no_comma}

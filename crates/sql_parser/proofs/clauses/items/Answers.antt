@@ -5,7 +5,7 @@ use Rattle.sql_parser.specs.declared.part.Rule.TheVariants as rule
 use Rattle.sql_parser.specs.declared.part.Optional.TheVariants as optional
 use Rattle.std.proofs.Common.{◌++◌, ap, ◌∙◌, map}
 use Rattle.std.proofs.lemmas.List.{map-append}
-use Rattle.sql_parser.specs.Select.{item_of}
+use Rattle.sql_tree.specs.Select.{item_of}
 use Rattle.sql_parser.specs.SelectRead as read
 use Rattle.sql_parser.proofs.Arms.{kind_at, kind_not}
 use Rattle.sql_parser.proofs.SelectArms.{comma_start, comma_more, comma_end, comma_stopped, select_items_comma, select_items_no_comma}

@@ -7,7 +7,7 @@ use Rattle.sql_parser.specs.declared.part.Optional.TheVariants as optional
 use Rattle.sql_parser.specs.declared.level.Level.TheVariants as level
 use Rattle.std.proofs.Common.{map}
 use Rattle.sql_parser.specs.declared.stop.Stop.TheVariants.{Refused}
-use Rattle.sql_parser.specs.Select.{term_of}
+use Rattle.sql_tree.specs.Select.{term_of}
 use Rattle.sql_parser.proofs.SelectArms.{took_yes, took_no, no_terms, stopped_terms, finds_terms, fails_by_list}
 use Rattle.sql_parser.proofs.clauses.terms.Goals as goal
 

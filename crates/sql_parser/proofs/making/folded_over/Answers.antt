@@ -1,7 +1,7 @@
 use Rattle.std.proofs.Common.{ap, ◌∙◌}
-use Rattle.sql_parser.specs.Tree as tree
-use Rattle.sql_parser.specs.View.{tree_of}
-use Rattle.sql_parser.proofs.Trees.{view-Folded}
+use Rattle.sql_tree.specs.Tree as tree
+use Rattle.sql_tree.specs.View.{tree_of}
+use Rattle.sql_tree.proofs.Trees.{view-Folded}
 use Rattle.sql_parser.proofs.making.folded_over.Goals as goal
 
 pub returns : goal.returns

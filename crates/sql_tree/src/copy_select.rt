@@ -1,8 +1,8 @@
 //! Copies of the parts of a select.
 
 ghost use Rattle.std.specs.Prelude.{◌≡◌, IfOk, map, option_map};
-ghost use Rattle.sql_parser.specs.View.{tree_of};
-ghost use Rattle.sql_parser.specs.Select.{item_of, ref_of, having_of, term_of, select_of};
+ghost use Rattle.sql_tree.specs.View.{tree_of};
+ghost use Rattle.sql_tree.specs.Select.{item_of, ref_of, having_of, term_of, select_of};
 
 use crate::copy::{copy_node, copy_nodes};
 use crate::list::Listed;

@@ -1,7 +1,7 @@
 //! The tree of a SELECT.
 
 use crate::list::Listed;
-use crate::token::Span;
+use crate::span::Span;
 use crate::tree::{Name, Node};
 
 /// Expressions in their order.
@@ -11,7 +11,7 @@ pub type NodeList = Listed<Node>;
 pub type NameList = Listed<Name>;
 
 /// What stands between the commas behind SELECT.
-#[derive(Debug, Drop)]
+#[derive(Drop)]
 pub enum Item {
     /// The sign `*`, at a place.
     All {
@@ -34,7 +34,7 @@ pub enum Item {
 pub type ItemList = Listed<Item>;
 
 /// A table of FROM, with what its join asks.
-#[derive(Debug, Drop)]
+#[derive(Drop)]
 pub struct TableRef {
     pub table: Name,
     pub alias: Option<Name>,
@@ -49,7 +49,7 @@ pub struct TableRef {
 pub type TableRefList = Listed<TableRef>;
 
 /// The condition on groups.
-#[derive(Debug, Drop)]
+#[derive(Drop)]
 pub struct Having {
     /// Where the word HAVING stands.
     pub place: usize,
@@ -57,7 +57,7 @@ pub struct Having {
 }
 
 /// What ORDER BY sorts by.
-#[derive(Debug, Drop)]
+#[derive(Drop)]
 pub struct Term {
     pub node: Node,
     pub is_descending: bool,
@@ -67,7 +67,7 @@ pub struct Term {
 pub type TermList = Listed<Term>;
 
 /// A SELECT as the grammar has it. A list without its clause is empty.
-#[derive(Debug, Drop)]
+#[derive(Drop)]
 pub struct Select {
     pub is_distinct: bool,
     pub items: ItemList,

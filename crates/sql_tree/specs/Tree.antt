@@ -1,10 +1,10 @@
 -- The tree of an expression, without where it lies in memory.
 use Rattle.std.specs.Prelude.{ℕ, ℤ, Bool, Option}
-use Rattle.sql_parser.specs.declared.token.Span.{Span}
-use Rattle.sql_parser.specs.declared.token.Function.{Function}
-use Rattle.sql_parser.specs.declared.token.Fold.{Fold}
-use Rattle.sql_parser.specs.declared.tree.Name.{Name}
-use Rattle.sql_parser.specs.declared.tree.Operator.{Operator}
+use Rattle.sql_tree.specs.declared.span.Span.{Span}
+use Rattle.sql_tree.specs.declared.functions.Function.{Function}
+use Rattle.sql_tree.specs.declared.functions.Fold.{Fold}
+use Rattle.sql_tree.specs.declared.tree.Name.{Name}
+use Rattle.sql_tree.specs.declared.tree.Operator.{Operator}
 
 mutual
   pub data Tree : Type 0 where

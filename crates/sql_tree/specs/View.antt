@@ -1,10 +1,10 @@
 -- The tree that a `Node` stands for.
 use Rattle.std.specs.Prelude.{List, [], ◌∷◌, Some, None, map}
-use Rattle.sql_parser.specs.Tree.{Tree, OneStep, Steps, no_steps, then, Trees, no_trees, and_tree}
-use Rattle.sql_parser.specs.Tree as tree
-use Rattle.sql_parser.specs.declared.tree.Node.{Node, fold-Node}
-use Rattle.sql_parser.specs.declared.tree.Step.{Step, fold-Step}
-use Rattle.sql_parser.specs.declared.tree.Node.TheOpen.{Node-F, Step-F}
+use Rattle.sql_tree.specs.Tree.{Tree, OneStep, Steps, no_steps, then, Trees, no_trees, and_tree}
+use Rattle.sql_tree.specs.Tree as tree
+use Rattle.sql_tree.specs.declared.tree.Node.{Node, fold-Node}
+use Rattle.sql_tree.specs.declared.tree.Step.{Step, fold-Step}
+use Rattle.sql_tree.specs.declared.tree.Node.TheOpen.{Node-F, Step-F}
 
 abbrev pub steps_after : Steps → List OneStep → Steps
 steps_after before [] = before

@@ -1,15 +1,15 @@
 -- The tree of a SELECT, without where it lies in memory, and that of a `Select`.
 use Rattle.std.specs.Prelude.{ℕ, ℤ, Bool, List, map, Option, option_map}
-use Rattle.sql_parser.specs.declared.token.Span.{Span}
-use Rattle.sql_parser.specs.declared.tree.Name.{Name}
-use Rattle.sql_parser.specs.declared.select.Item.{Item}
-use Rattle.sql_parser.specs.declared.select.Item.TheVariants as item
-use Rattle.sql_parser.specs.declared.select.TableRef.{TableRef}
-use Rattle.sql_parser.specs.declared.select.Having.{Having}
-use Rattle.sql_parser.specs.declared.select.Term.{Term}
-use Rattle.sql_parser.specs.declared.select.Select.{Select}
-use Rattle.sql_parser.specs.Tree.{Tree}
-use Rattle.sql_parser.specs.View.{tree_of}
+use Rattle.sql_tree.specs.declared.span.Span.{Span}
+use Rattle.sql_tree.specs.declared.tree.Name.{Name}
+use Rattle.sql_tree.specs.declared.select.Item.{Item}
+use Rattle.sql_tree.specs.declared.select.Item.TheVariants as item
+use Rattle.sql_tree.specs.declared.select.TableRef.{TableRef}
+use Rattle.sql_tree.specs.declared.select.Having.{Having}
+use Rattle.sql_tree.specs.declared.select.Term.{Term}
+use Rattle.sql_tree.specs.declared.select.Select.{Select}
+use Rattle.sql_tree.specs.Tree.{Tree}
+use Rattle.sql_tree.specs.View.{tree_of}
 
 pub data ItemTree : Type 0 where
   all : ℕ → ItemTree

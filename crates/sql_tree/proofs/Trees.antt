@@ -3,15 +3,15 @@ use Rattle.std.proofs.Common.{◌≡◌, ℕ, ℤ, Bool, Option, Some, List, [],
 use Rattle.std.specs.Global.{Vec as GlobalVec}
 use Rattle.std.specs.declared.boxed.Box.{Box}
 use Rattle.std.specs.declared.alloc.Global.{Global}
-use Rattle.sql_parser.specs.Tree.{Tree, OneStep, Steps, no_steps, then, Trees, no_trees, and_tree, chained}
-use Rattle.sql_parser.specs.Tree as tree
-use Rattle.sql_parser.specs.View.{steps_after, trees_after, tree_of, step_of, steps_of, trees_of}
-use Rattle.sql_parser.specs.declared.tree.Node.{Node, Chain, Number, Text, Null, Column, Folded, the_lemmas}
-use Rattle.sql_parser.specs.declared.token.Fold.{Fold}
-use Rattle.sql_parser.specs.declared.tree.Name.{Name}
-use Rattle.sql_parser.specs.declared.tree.Step.{Step, Binary, In, Between}
-use Rattle.sql_parser.specs.declared.tree.Operator.{Operator}
-use Rattle.sql_parser.specs.declared.token.Span.{Span}
+use Rattle.sql_tree.specs.Tree.{Tree, OneStep, Steps, no_steps, then, Trees, no_trees, and_tree, chained}
+use Rattle.sql_tree.specs.Tree as tree
+use Rattle.sql_tree.specs.View.{steps_after, trees_after, tree_of, step_of, steps_of, trees_of}
+use Rattle.sql_tree.specs.declared.tree.Node.{Node, Chain, Number, Text, Null, Column, Folded, the_lemmas}
+use Rattle.sql_tree.specs.declared.functions.Fold.{Fold}
+use Rattle.sql_tree.specs.declared.tree.Name.{Name}
+use Rattle.sql_tree.specs.declared.tree.Step.{Step, Binary, In, Between}
+use Rattle.sql_tree.specs.declared.tree.Operator.{Operator}
+use Rattle.sql_tree.specs.declared.span.Span.{Span}
 
 pub steps_after-push : (before : Steps) (steps : List Step) (step : Step) → steps_after before (map step_of (steps ++ step ∷ [])) ≡ then (steps_after before (map step_of steps)) (step_of step)
 steps_after-push before [] step = refl
