@@ -1,7 +1,7 @@
 ghost use Rattle.std.specs.Prelude.{◌≡◌, ◌≢◌, ◌+◌, ◌<◌, ◌≤◌, ◌^◌, [], ◌∷◌, IfOk, OnOk, OnErr, length, map};
 ghost use Rattle.std.specs.List.{All, AllZip};
 ghost use Rattle.osq_value.specs.Catalogue.{width_of};
-ghost use Rattle.sql_meaning.specs.Meaning.{meaning};
+ghost use Rattle.sql_texts.specs.Meaning.{meaning};
 ghost use Rattle.entry_model.specs.Legal.{IsEvent};
 ghost use Rattle.entry_model.specs.Schedules.{IsRunnable, IsSound};
 ghost use Rattle.event_store.specs.Contents.{rows_in};
@@ -21,8 +21,8 @@ use osq_value::{
 use pack_rules::schedule::{Form, Mode, QueryKey, Schedule, Scheduled, ScheduledList};
 use session_state::{AppendError, CommitRefusal, Cut, TickRefusal};
 use sql_meaning::plain_rows;
-use sql_names::answers::is_evented;
-use sql_names::text::query_of_text;
+use sql_query::answers::is_evented;
+use sql_texts::text::query_of_text;
 use std::alloc::Global;
 use std::sync::Wait;
 use std::sync::atomic::{AtomicU64, Ordering};
