@@ -4,7 +4,8 @@ ghost use Rattle.std.specs.Prelude.{◌≡◌, nat_lt};
 ghost use Rattle.sql_scope.specs.Scope.{has_own as has_its_own, is_known as is_known_in, is_listed as is_listed_in, known_place as place_known, owners, place_in as place_within, plain_place as place_plain, IsNarrow, AreNarrow};
 
 use crate::spelling::is_named;
-use osq_value::{Affinity, Sequence, Str, TableId, TextList};
+use osq_value::{Sequence, Str, TableId, TextList};
+use sql_query::place::Place;
 use sql_query::query::{SourceColumn, SourceColumnList};
 
 /// A FROM table as names see it.
