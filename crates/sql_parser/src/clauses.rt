@@ -15,13 +15,13 @@ ghost use Rattle.sql_parser.specs.SelectRead as read;
 ghost use Rattle.sql_parser.specs.SelectDescent.{Took, IsFound, Finds, FormFound, form_parts, condition_parts, condition_tree, select_parts, EndTold};
 
 use crate::descent::{self, name_of};
+use crate::stop::Stop;
 use sql_tokens::level::Level;
 use sql_tokens::reader::{Reader, is_name_kind};
+use sql_tokens::token::{Clause, Kind};
 use sql_tree::select::{
     Having, Item, ItemList, NameList, NodeList, Select, TableRef, TableRefList, Term, TermList,
 };
-use crate::stop::Stop;
-use sql_tokens::token::{Clause, Kind};
 use sql_tree::span::Span;
 use sql_tree::tree::{Name, Node};
 use std::alloc::Global;

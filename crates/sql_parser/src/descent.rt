@@ -8,14 +8,14 @@ ghost use Rattle.sql_parser.specs.Grammar.{chain as chain_class, negated as nega
 ghost use Rattle.sql_faults.specs.Reading.{operand_rule};
 ghost use Rattle.sql_parser.specs.Descent.{Descends, StepDescends, ListDescends, NegatedDescends, BetweenDescends, IsIs, NumberRead, MemberRead, CallDescends, CountedDescends, CloseDescends, CallAllowed, CastDescends, TypeDescends, TypeNamed};
 
+use crate::making;
+use crate::stop::Stop;
 use sql_faults::arguments::{
     Shape, folds_shape, is_function, one_more_argument, takes_call, type_of_word,
 };
-use sql_tokens::level::{Level, Sign, sign_at_level};
-use crate::making;
 use sql_faults::part::Rule;
+use sql_tokens::level::{Level, Sign, sign_at_level};
 use sql_tokens::reader::Reader;
-use crate::stop::Stop;
 use sql_tokens::token::{Kind, MAX_DEPTH, MAX_OPERATORS, Token, Word};
 use sql_tree::tree::{Name, Node, Operator, Step};
 use std::alloc::Global;

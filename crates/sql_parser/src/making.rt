@@ -18,7 +18,8 @@ pub(crate) fn chain(alloc: Global, first: Node, steps: Vec<Step>) -> Result<Node
     if steps.is_empty() {
         return Ok(first);
     }
-    nodes::chain(alloc, first, steps)
+    let node = nodes::chain(alloc, first, steps)?;
+    Ok(node)
 }
 
 pub(crate) fn call(function: Function, arguments: Vec<Node>) -> Node

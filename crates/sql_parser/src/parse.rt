@@ -13,16 +13,16 @@ ghost use Rattle.sql_parser.specs.SelectRead.{select_of_tokens};
 ghost use Rattle.sql_parser.specs.SelectDescent.{SelectDescends};
 ghost use Rattle.sql_faults.specs.declared.error.ParseKind.TheVariants.{NoMemory};
 
-use sql_faults::error::{ParseError, ParseKind};
-use sql_tokens::level::Level;
-use sql_tokens::reader::Reader;
-use sql_tree::select::Select;
 use crate::stop::Stop;
-use sql_tokens::token::{Kind, Token};
-use sql_tree::tree::Node;
 use crate::{clauses, descent};
+use sql_faults::error::{ParseError, ParseKind};
 use sql_faults::recognizer;
+use sql_tokens::level::Level;
 use sql_tokens::lexer;
+use sql_tokens::reader::Reader;
+use sql_tokens::token::{Kind, Token};
+use sql_tree::select::Select;
+use sql_tree::tree::Node;
 use std::alloc::Global;
 
 /// How many bytes a text may have.

@@ -4,8 +4,8 @@ ghost use Rattle.std.specs.Prelude.{◌≡◌, ◌≤◌, ◌∷◌, ◌-◌, le
 ghost use Rattle.sql_tokens.specs.Lexing.{after_line, after_comment, past_blanks, past_one, is_blank, is_name_byte, is_name_start, after_name, after_digits, after_quote, before, decimal_from, within, double_sign, single_sign, sign_piece, text_piece, quoted_piece, piece, token_at, tokens_of};
 
 use crate::token::{Kind, Token};
-use sql_tree::span::Span;
 use crate::words::{kind_of_name, word};
+use sql_tree::span::Span;
 use std::alloc::{AllocError, Global};
 
 /// What follows the line feed, or nothing where there is none.

@@ -14,7 +14,7 @@ pub enum Word {
 }
 
 /// A keyword that stands between the parts of a select, and in no expression.
-#[derive(Clone, Copy)]
+#[derive(Clone, Copy, PartialEq, Eq)]
 pub enum Clause {
     Select,
     From,
