@@ -17,6 +17,7 @@ use sql_faults::part::Rule;
 use sql_tokens::level::{Level, Sign, sign_at_level};
 use sql_tokens::reader::Reader;
 use sql_tokens::token::{Kind, MAX_DEPTH, MAX_OPERATORS, Token, Word};
+use sql_tree::nodes;
 use sql_tree::tree::{Name, Node, Operator, Step};
 use std::alloc::Global;
 
@@ -74,7 +75,7 @@ fn negated(alloc: Global, reader: &mut Reader<'_>, depth: usize) -> Result<Node,
             }
             reader.advance();
             let inner = negated(alloc, reader, depth + 1)?;
-            Ok(making::negation(alloc, inner)?)
+            Ok(nodes::negation(alloc, inner)?)
         }
         _ => chain(alloc, reader, Level::Equal, depth),
     }
@@ -92,7 +93,7 @@ fn signed(alloc: Global, reader: &mut Reader<'_>, depth: usize) -> Result<Node, 
             }
             reader.advance();
             let inner = signed(alloc, reader, depth + 1)?;
-            Ok(making::minus(alloc, inner)?)
+            Ok(nodes::minus(alloc, inner)?)
         }
         Kind::Plus => {
             if depth == MAX_DEPTH {
@@ -100,7 +101,7 @@ fn signed(alloc: Global, reader: &mut Reader<'_>, depth: usize) -> Result<Node, 
             }
             reader.advance();
             let inner = signed(alloc, reader, depth + 1)?;
-            Ok(making::plus(alloc, inner)?)
+            Ok(nodes::plus(alloc, inner)?)
         }
         _ => atom(alloc, reader, depth),
     }
@@ -479,7 +480,7 @@ fn cast(alloc: Global, reader: &mut Reader<'_>, depth: usize) -> Result<Node, St
     reader.advance();
     let inner = chain(alloc, reader, Level::Or, depth + 1)?;
     let is_text = cast_type(reader)?;
-    Ok(making::cast(alloc, inner, is_text)?)
+    Ok(nodes::cast(alloc, inner, is_text)?)
 }
 
 /// AS, a type's name and the parenthesis that closes a cast.
