@@ -1,11 +1,11 @@
 -- What the text `SELECT * FROM file_events` asks for.
 use Rattle.std.proofs.Common.{◌≡◌, ℕ, ◌+◌, List, [], ◌∷◌, Some, None, refl, map, ap}
 use Rattle.std.specs.Prelude.{codes, true, false}
-use Rattle.sql_parser.specs.declared.token.Token.{Token}
-use Rattle.sql_parser.specs.declared.token.Kind.TheVariants as kind
-use Rattle.sql_parser.specs.declared.token.Clause.TheVariants as clause
-use Rattle.sql_parser.specs.declared.token.Word.TheVariants as word
-use Rattle.sql_parser.specs.Lexing.{token_at, tokens_of, piece}
+use Rattle.sql_tokens.specs.declared.token.Token.{Token}
+use Rattle.sql_tokens.specs.declared.token.Kind.TheVariants as kind
+use Rattle.sql_tokens.specs.declared.token.Clause.TheVariants as clause
+use Rattle.sql_tokens.specs.declared.token.Word.TheVariants as word
+use Rattle.sql_tokens.specs.Lexing.{token_at, tokens_of, piece}
 use Rattle.std.specs.Str.{is_utf8, chars}
 use Rattle.std.proofs.lemmas.Str.{utf8_lossy-IsUtf8, IsUtf8-from_is_utf8}
 use Rattle.std.specs.Str.Lossy.{utf8_lossy}
@@ -24,10 +24,10 @@ use Rattle.sql_query.specs.Resolved.{source_column}
 use Rattle.sql_tree.specs.declared.tree.Name.{Name}
 use Rattle.sql_texts.specs.Texts.{query_in}
 use Rattle.sql_scope.specs.Spelling.{name_text}
-use Rattle.sql_parser.specs.Words.{clause_of, operator_of, function_of, other_of}
+use Rattle.sql_tokens.specs.Words.{clause_of, operator_of, function_of, other_of}
 use Rattle.sql_tree.specs.Select.{SelectTree, all}
 use Rattle.sql_parser.specs.SelectRead.{select_of_tokens, select_at, opening, distinct, item, expression_item, expression, listed, comma, alias, name, sources, source, condition, join_form, join, outer, further_source, names, filter, keys, having, terms, term, by_list, direction, limits, integer, number, offset}
-use Rattle.sql_parser.specs.Reading.{first_fault, whole_select, settled, faults, fits, found, wide, type_fault, select_item_by, other_item_by, or_by, and_by, negated_by, equal_by, less_by, sum_by, product_by, joined_by, signed_by, atom_by, distinct_by, select_items_by, alias_by, from_by, sources_by, where_by, group_by, having_by, order_by, limit_by, semicolon_by, names_by, condition_by, name_by, not_by, item_by, terms_by, direction_by, offset_by}
+use Rattle.sql_faults.specs.Reading.{first_fault, whole_select, settled, faults, fits, found, wide, type_fault, select_item_by, other_item_by, or_by, and_by, negated_by, equal_by, less_by, sum_by, product_by, joined_by, signed_by, atom_by, distinct_by, select_items_by, alias_by, from_by, sources_by, where_by, group_by, having_by, order_by, limit_by, semicolon_by, names_by, condition_by, name_by, not_by, item_by, terms_by, direction_by, offset_by}
 
 abbrev pub known_text : List ℕ
 known_text = codes "SELECT * FROM file_events"

@@ -1,7 +1,7 @@
 -- What a text's grammar and its names say of its query and of its fault.
 use Rattle.std.proofs.Common.{◌≡◌, ℕ, List, Option, Some, None, ap, ◌∙◌}
 use Rattle.std.specs.Option.{option_map}
-use Rattle.sql_parser.specs.declared.error.ParseError.{ParseError}
+use Rattle.sql_faults.specs.declared.error.ParseError.{ParseError}
 use Rattle.sql_tree.specs.Select.{SelectTree}
 use Rattle.sql_parser.specs.Text.{select_of_text, select_fault}
 use Rattle.sql_names.specs.declared.error.NameError.{NameError}

@@ -1,7 +1,7 @@
 -- The columns and aggregates of the query of a text without a fault stand where they may.
 use Rattle.std.proofs.Common.{◌≡◌, ℕ, List, Option, Some, None}
 use Rattle.std.proofs.lemmas.Option.{none-some}
-use Rattle.sql_parser.specs.declared.error.ParseError.{ParseError}
+use Rattle.sql_faults.specs.declared.error.ParseError.{ParseError}
 use Rattle.sql_parser.specs.Text.{select_of_text, select_fault}
 use Rattle.sql_tree.specs.Select.{SelectTree}
 use Rattle.sql_query.specs.Resolved.{QueryTree}

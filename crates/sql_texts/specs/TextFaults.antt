@@ -1,9 +1,9 @@
 -- The fault of a text: that of its grammar, else that of its names.
 use Rattle.std.specs.Prelude.{ℕ, List, Option, Some, None, codes}
 use Rattle.std.specs.Option.{option_map}
-use Rattle.sql_parser.specs.declared.error.ParseError.{ParseError}
-use Rattle.sql_parser.specs.declared.error.ParseKind.{ParseKind}
-use Rattle.sql_parser.specs.declared.error.ParseKind.TheVariants as parse
+use Rattle.sql_faults.specs.declared.error.ParseError.{ParseError}
+use Rattle.sql_faults.specs.declared.error.ParseKind.{ParseKind}
+use Rattle.sql_faults.specs.declared.error.ParseKind.TheVariants as parse
 use Rattle.sql_tree.specs.Select.{SelectTree}
 use Rattle.sql_parser.specs.Text.{select_of_text, select_fault}
 use Rattle.sql_names.specs.declared.error.NameKind.{NameKind}

@@ -1,6 +1,6 @@
 -- What a text asks for: its query, where neither its grammar nor its names have a fault.
 use Rattle.std.specs.Prelude.{ℕ, List, Option, Some, None}
-use Rattle.sql_parser.specs.declared.error.ParseError.{ParseError}
+use Rattle.sql_faults.specs.declared.error.ParseError.{ParseError}
 use Rattle.sql_tree.specs.Select.{SelectTree}
 use Rattle.sql_parser.specs.Text.{select_of_text, select_fault}
 use Rattle.sql_names.specs.Resolve.{resolved}

@@ -1,7 +1,7 @@
 //! What a text asks for.
 
 ghost use Rattle.std.specs.Prelude.{◌≡◌, ◌≢◌, Some, None, IfOk, IfErr, OnOk};
-ghost use Rattle.sql_parser.specs.declared.error.ParseKind.TheVariants.{NoMemory as ParseWantsMemory};
+ghost use Rattle.sql_faults.specs.declared.error.ParseKind.TheVariants.{NoMemory as ParseWantsMemory};
 ghost use Rattle.sql_names.specs.declared.error.NameKind.TheVariants.{NoMemory as NameWantsMemory};
 ghost use Rattle.sql_texts.specs.declared.text.TextError.TheVariants.{Parse, Name, NoMemory};
 ghost use Rattle.sql_query.specs.Resolved.{query_of};
@@ -11,7 +11,7 @@ ghost use Rattle.sql_texts.specs.TextFaults.{text_fault, place_of_fault, parse_k
 
 use sql_names::error::{NameError, NameKind};
 use sql_names::resolve::resolve;
-use sql_parser::error::{ParseError, ParseKind};
+use sql_parser::{ParseError, ParseKind};
 use sql_parser::parse::parse;
 use sql_query::query::Query;
 use std::alloc::Global;

@@ -5,6 +5,7 @@ pub mod copy;
 mod copy_select;
 pub mod functions;
 pub mod list;
+pub mod nodes;
 pub mod select;
 pub mod span;
 pub mod tree;
