@@ -4,6 +4,7 @@ ghost use Rattle.std.specs.Prelude.{◌≡◌, IfOk, map};
 ghost use Rattle.sql_query.specs.Resolved.{source_of, result_of, order_of, query_of};
 ghost use Rattle.sql_query.specs.View.{expr_of, step_of, aggregate_of};
 
+use crate::exprs;
 use crate::query::{
     Condition, ExprList, Order, OrderList, Query, QueryItem, QueryItemList, QuerySource,
     QuerySourceList, SourceColumn,
@@ -32,23 +33,14 @@ pub fn copy_expr(alloc: Global, expr: &Expr) -> Result<Expr, NoMemory>
             at: *at,
             affinity: *affinity,
         }),
-        Expr::Chain { first, steps } => Ok(Expr::Chain {
-            first: Box::new(alloc, copy_expr(alloc, first)?)?,
-            steps: copy_steps(alloc, steps)?,
-        }),
-        Expr::Negation { inner } => Ok(Expr::Negation {
-            inner: Box::new(alloc, copy_expr(alloc, inner)?)?,
-        }),
-        Expr::Minus { inner } => Ok(Expr::Minus {
-            inner: Box::new(alloc, copy_expr(alloc, inner)?)?,
-        }),
-        Expr::Plus { inner } => Ok(Expr::Plus {
-            inner: Box::new(alloc, copy_expr(alloc, inner)?)?,
-        }),
-        Expr::Cast { inner, affinity } => Ok(Expr::Cast {
-            inner: Box::new(alloc, copy_expr(alloc, inner)?)?,
-            affinity: *affinity,
-        }),
+        Expr::Chain { first, steps } => {
+            let first = copy_expr(alloc, first)?;
+            exprs::chain(alloc, first, copy_steps(alloc, steps)?)
+        }
+        Expr::Negation { inner } => exprs::negation(alloc, copy_expr(alloc, inner)?),
+        Expr::Minus { inner } => exprs::minus(alloc, copy_expr(alloc, inner)?),
+        Expr::Plus { inner } => exprs::plus(alloc, copy_expr(alloc, inner)?),
+        Expr::Cast { inner, affinity } => exprs::cast(alloc, copy_expr(alloc, inner)?, *affinity),
         Expr::Call {
             function,
             arguments,

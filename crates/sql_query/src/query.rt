@@ -1,5 +1,7 @@
 //! A query whose names are resolved.
 
+ghost use Rattle.std.specs.Prelude.{◌≡◌};
+
 use crate::tree::Expr;
 use osq_value::{Affinity, Sequence, Str, TableId};
 
@@ -10,6 +12,17 @@ pub type ExprList = Sequence<Expr>;
 #[derive(Drop)]
 pub struct Condition {
     pub parts: ExprList,
+}
+
+impl Condition {
+    /// The condition of these conjuncts.
+    pub fn of(parts: Vec<Expr>) -> Condition
+        ensures { result.parts ≡ parts.items }
+    {
+        Condition {
+            parts: Sequence::from_vec(parts),
+        }
+    }
 }
 
 /// A column of a FROM table.

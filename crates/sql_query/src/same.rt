@@ -80,59 +80,47 @@ fn is_one_value(value: &Value, other: &Value) -> bool
 pub fn is_one_expr(expr: &Expr, other: &Expr) -> bool
     ensures { result ≡ same_tree (expr_of expr.now) (expr_of other.now) }
 {
-    match expr {
-        Expr::Literal { value } => match other {
-            Expr::Literal { value: second } => is_one_value(value, second),
-            _ => false,
-        },
-        Expr::Column { source, column, .. } => match other {
+    match (expr, other) {
+        (Expr::Literal { value }, Expr::Literal { value: second }) => is_one_value(value, second),
+        (
+            Expr::Column { source, column, .. },
             Expr::Column {
                 source: second_source,
                 column: second_column,
                 ..
-            } => *source == *second_source && *column == *second_column,
-            _ => false,
-        },
-        Expr::Chain { first, steps } => match other {
+            },
+        ) => *source == *second_source && *column == *second_column,
+        (
+            Expr::Chain { first, steps },
             Expr::Chain {
-                first: second_first,
+                first: second,
                 steps: second_steps,
-            } => is_one_expr(first, second_first) && are_one_chain(steps, second_steps),
-            _ => false,
-        },
-        Expr::Negation { inner } => match other {
-            Expr::Negation { inner: second } => is_one_expr(inner, second),
-            _ => false,
-        },
-        Expr::Minus { inner } => match other {
-            Expr::Minus { inner: second } => is_one_expr(inner, second),
-            _ => false,
-        },
-        Expr::Plus { inner } => match other {
-            Expr::Plus { inner: second } => is_one_expr(inner, second),
-            _ => false,
-        },
-        Expr::Cast { inner, affinity } => match other {
+            },
+        ) => is_one_expr(first, second) && are_one_chain(steps, second_steps),
+        (Expr::Negation { inner }, Expr::Negation { inner: second })
+        | (Expr::Minus { inner }, Expr::Minus { inner: second })
+        | (Expr::Plus { inner }, Expr::Plus { inner: second }) => is_one_expr(inner, second),
+        (
+            Expr::Cast { inner, affinity },
             Expr::Cast {
                 inner: second,
                 affinity: second_affinity,
-            } => is_one_affinity(*affinity, *second_affinity) && is_one_expr(inner, second),
-            _ => false,
-        },
-        Expr::Call {
-            function,
-            arguments,
-        } => match other {
+            },
+        ) => is_one_affinity(*affinity, *second_affinity) && is_one_expr(inner, second),
+        (
+            Expr::Call {
+                function,
+                arguments,
+            },
             Expr::Call {
                 function: second_function,
                 arguments: second,
-            } => is_one_function(*function, *second_function) && are_one_list(arguments, second),
-            _ => false,
-        },
-        Expr::Folded { aggregate } => match other {
-            Expr::Folded { aggregate: second } => is_one_aggregate(aggregate, second),
-            _ => false,
-        },
+            },
+        ) => is_one_function(*function, *second_function) && are_one_list(arguments, second),
+        (Expr::Folded { aggregate }, Expr::Folded { aggregate: second }) => {
+            is_one_aggregate(aggregate, second)
+        }
+        _ => false,
     }
 }
 

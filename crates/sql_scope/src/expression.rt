@@ -10,6 +10,7 @@ ghost use Rattle.sql_query.specs.View.{expr_of, step_of as expr_step, steps_of a
 use crate::naming::{Names, named};
 use crate::spelling::literal_text;
 use osq_value::{Affinity, NoMemory, Value};
+use sql_query::exprs;
 use sql_query::tree::{Aggregate, Expr, ExprStep};
 use sql_tree::functions::Fold;
 use sql_tree::tree::{Node, Step};
@@ -61,23 +62,17 @@ pub fn resolve_node(alloc: Global, names: &Names, node: &Node) -> Result<Expr, N
         }),
         Node::Null => Ok(Expr::Literal { value: Value::Null }),
         Node::Column { table, column } => named(alloc, names, *table, *column),
-        Node::Chain { first, steps } => Ok(Expr::Chain {
-            first: Box::new(alloc, resolve_node(alloc, names, first)?)?,
-            steps: resolve_steps(alloc, names, steps)?,
-        }),
-        Node::Negation { inner } => Ok(Expr::Negation {
-            inner: Box::new(alloc, resolve_node(alloc, names, inner)?)?,
-        }),
-        Node::Minus { inner } => Ok(Expr::Minus {
-            inner: Box::new(alloc, resolve_node(alloc, names, inner)?)?,
-        }),
-        Node::Plus { inner } => Ok(Expr::Plus {
-            inner: Box::new(alloc, resolve_node(alloc, names, inner)?)?,
-        }),
-        Node::Cast { inner, is_text } => Ok(Expr::Cast {
-            inner: Box::new(alloc, resolve_node(alloc, names, inner)?)?,
-            affinity: affinity_of(*is_text),
-        }),
+        Node::Chain { first, steps } => {
+            let first = resolve_node(alloc, names, first)?;
+            exprs::chain(alloc, first, resolve_steps(alloc, names, steps)?)
+        }
+        Node::Negation { inner } => exprs::negation(alloc, resolve_node(alloc, names, inner)?),
+        Node::Minus { inner } => exprs::minus(alloc, resolve_node(alloc, names, inner)?),
+        Node::Plus { inner } => exprs::plus(alloc, resolve_node(alloc, names, inner)?),
+        Node::Cast { inner, is_text } => {
+            let inner = resolve_node(alloc, names, inner)?;
+            exprs::cast(alloc, inner, affinity_of(*is_text))
+        }
         Node::Call {
             function,
             arguments,

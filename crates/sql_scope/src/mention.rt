@@ -1,8 +1,9 @@
 //! The columns and aggregates that a select mentions.
 
-ghost use Rattle.std.specs.Prelude.{◌≡◌, ◌++◌, List, [], ◌∷◌, false, map, OnOk, IfOk, option_map};
+ghost use Rattle.std.specs.Prelude.{◌≡◌, ◌++◌, List, [], ◌∷◌, true, false, map, OnOk, IfOk, option_map};
 ghost use Rattle.sql_tree.specs.View.{tree_of, step_of, steps_of, trees_of};
 ghost use Rattle.sql_tree.specs.Select.{ItemTree, item_of, ref_of, having_of, term_of, select_of};
+ghost use Rattle.sql_scope.specs.declared.mention.Mentioned.TheVariants.{Column as ColumnMentioned, Aggregate as AggregateMentioned};
 ghost use Rattle.sql_scope.specs.Mentions.{mentions, mentions_of_step, mentions_of_steps, mentions_of_trees, mentions_of_option, mentions_of_items, mentions_of_sources, mentions_of_keys, mentions_of_having, mentions_of_terms, mentions_of_select};
 
 use osq_value::NoMemory;
@@ -58,6 +59,39 @@ impl Spot {
         })?;
         Ok(())
     }
+
+    fn add_column(
+        self,
+        found: &mut Vec<Mention>,
+        table: Option<Name>,
+        column: Name,
+    ) -> Result<(), NoMemory>
+        ensures { OnOk result (found.new.items ≡ found.old.items ++ record { clause = self.clause; is_inside = self.is_inside; what = ColumnMentioned table column } ∷ []) }
+    {
+        self.add(found, Mentioned::Column { table, column })
+    }
+
+    fn add_aggregate(
+        self,
+        found: &mut Vec<Mention>,
+        place: usize,
+        fold: Fold,
+    ) -> Result<(), NoMemory>
+        ensures { OnOk result (found.new.items ≡ found.old.items ++ record { clause = self.clause; is_inside = self.is_inside; what = AggregateMentioned place fold } ∷ []) }
+    {
+        self.add(found, Mentioned::Aggregate { place, fold })
+    }
+
+    /// The same inside an aggregate.
+    fn inside(self) -> Spot
+        ensures clause { result.clause ≡ self.clause }
+        ensures inside { result.is_inside ≡ true }
+    {
+        Spot {
+            clause: self.clause,
+            is_inside: true,
+        }
+    }
 }
 
 /// Adds the mentions of an expression.
@@ -69,13 +103,7 @@ fn add_node(found: &mut Vec<Mention>, spot: Spot, node: &Node) -> Result<(), NoM
         Node::Number { .. } => Ok(()),
         Node::Text { .. } => Ok(()),
         Node::Null => Ok(()),
-        Node::Column { table, column } => spot.add(
-            found,
-            Mentioned::Column {
-                table: *table,
-                column: *column,
-            },
-        ),
+        Node::Column { table, column } => spot.add_column(found, *table, *column),
         Node::Chain { first, steps } => {
             add_node(found, spot, first)?;
             add_steps(found, spot, steps)
@@ -91,22 +119,10 @@ fn add_node(found: &mut Vec<Mention>, spot: Spot, node: &Node) -> Result<(), NoM
             argument,
             ..
         } => {
-            spot.add(
-                found,
-                Mentioned::Aggregate {
-                    place: *place,
-                    fold: *fold,
-                },
-            )?;
+            spot.add_aggregate(found, *place, *fold)?;
             match argument {
                 None => Ok(()),
-                Some(argument) => {
-                    let inside = Spot {
-                        clause: spot.clause,
-                        is_inside: true,
-                    };
-                    add_node(found, inside, argument)
-                }
+                Some(argument) => add_node(found, spot.inside(), argument),
             }
         }
     }

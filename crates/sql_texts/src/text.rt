@@ -11,8 +11,8 @@ ghost use Rattle.sql_texts.specs.TextFaults.{text_fault, place_of_fault, parse_k
 
 use sql_names::error::{NameError, NameKind};
 use sql_names::resolve::resolve;
-use sql_parser::{ParseError, ParseKind};
 use sql_parser::parse::parse;
+use sql_parser::{ParseError, ParseKind};
 use sql_query::query::Query;
 use std::alloc::Global;
 
