@@ -92,54 +92,24 @@ fn bare_node(
     requires { AreNarrow names.now.scope.now }
     ensures { IfOk result (λ place. place ≡ bare (names_of names.now) (map expr_of keys.now) (tree_of node.now)) }
 {
+    if is_key_node(alloc, names, keys, node)? {
+        return Ok(None);
+    }
     match node {
         Node::Number { .. } => Ok(None),
         Node::Text { .. } => Ok(None),
         Node::Null => Ok(None),
-        Node::Column { table, column } => {
-            if is_key_node(alloc, names, keys, node)? {
-                return Ok(None);
-            }
-            bare_column(alloc, names, *table, *column)
-        }
+        Node::Column { table, column } => bare_column(alloc, names, *table, *column),
         Node::Chain { first, steps } => {
-            if is_key_node(alloc, names, keys, node)? {
-                return Ok(None);
-            }
             let of_first = bare_node(alloc, names, keys, first)?;
             let of_steps = bare_steps(alloc, names, keys, steps)?;
             Ok(lesser(of_first, of_steps))
         }
-        Node::Negation { inner } => {
-            if is_key_node(alloc, names, keys, node)? {
-                return Ok(None);
-            }
-            bare_node(alloc, names, keys, inner)
-        }
-        Node::Minus { inner } => {
-            if is_key_node(alloc, names, keys, node)? {
-                return Ok(None);
-            }
-            bare_node(alloc, names, keys, inner)
-        }
-        Node::Plus { inner } => {
-            if is_key_node(alloc, names, keys, node)? {
-                return Ok(None);
-            }
-            bare_node(alloc, names, keys, inner)
-        }
-        Node::Cast { inner, .. } => {
-            if is_key_node(alloc, names, keys, node)? {
-                return Ok(None);
-            }
-            bare_node(alloc, names, keys, inner)
-        }
-        Node::Call { arguments, .. } => {
-            if is_key_node(alloc, names, keys, node)? {
-                return Ok(None);
-            }
-            bare_nodes(alloc, names, keys, arguments)
-        }
+        Node::Negation { inner } => bare_node(alloc, names, keys, inner),
+        Node::Minus { inner } => bare_node(alloc, names, keys, inner),
+        Node::Plus { inner } => bare_node(alloc, names, keys, inner),
+        Node::Cast { inner, .. } => bare_node(alloc, names, keys, inner),
+        Node::Call { arguments, .. } => bare_nodes(alloc, names, keys, arguments),
         Node::Folded { argument, .. } => match argument {
             None => Ok(None),
             Some(_) => Ok(None),

@@ -156,9 +156,7 @@ fn source(
         alias: source_alias(alloc, names.text, table, source.alias)?,
         columns: columns_seen(alloc, table)?,
         is_outer: source.is_outer,
-        on: Condition {
-            parts: Sequence::from_vec(on),
-        },
+        on: Condition::of(on),
     })
 }
 
@@ -299,14 +297,10 @@ pub(crate) fn query_of_select(
     let is_grouped = is_grouped(select.keys.as_slice(), found);
     Ok(Query {
         sources: made,
-        filter: Condition {
-            parts: Sequence::from_vec(filter),
-        },
+        filter: Condition::of(filter),
         is_grouped,
         keys,
-        having: Condition {
-            parts: Sequence::from_vec(having),
-        },
+        having: Condition::of(having),
         items: items_of(alloc, shown)?,
         is_distinct: select.is_distinct,
         terms,
