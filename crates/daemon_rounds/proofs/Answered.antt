@@ -5,7 +5,7 @@ use Rattle.std.proofs.lemmas.Bool.Decides.{nat_tests}
 use Rattle.std.proofs.lemmas.List.{append-nil}
 use Rattle.std.proofs.lemmas.List.Elements.{All-contains}
 use Rattle.osq_value.specs.declared.value.Value.{Value}
-use Rattle.sql_meaning.specs.Meaning.{is_accepted}
+use Rattle.sql_texts.specs.Meaning.{is_accepted}
 use Rattle.pack_rules.specs.declared.schedule.QueryKey.{QueryKey}
 use Rattle.pack_rules.specs.declared.schedule.Schedule.{Schedule}
 use Rattle.pack_rules.specs.declared.schedule.Scheduled.{Scheduled}

@@ -1,6 +1,6 @@
 -- The batches of a tick.
 use Rattle.std.specs.Prelude.{◌≡◌, ℕ, ◌+◌, ◌<◌, ◌≤◌, ◌^◌, true, List, [], ◌∷◌, map, Some, None, slice_get}
-use Rattle.sql_meaning.specs.Meaning.{is_accepted}
+use Rattle.sql_texts.specs.Meaning.{is_accepted}
 use Rattle.entry_model.specs.declared.entry.Batch.{Batch}
 use Rattle.entry_model.specs.declared.entry.Entry.{Entry}
 use Rattle.entry_model.specs.declared.entry.Entry.TheVariants.{Committed}

@@ -1,6 +1,6 @@
 -- The result lines of entries.
 use Rattle.std.specs.Prelude.{◌≡◌, ℕ, List, [], ◌∷◌, ◌++◌, Option, Some, None}
-use Rattle.sql_meaning.specs.Meaning.{names_of}
+use Rattle.sql_texts.specs.Meaning.{names_of}
 use Rattle.pack_rules.specs.declared.schedule.Form.{Form}
 use Rattle.pack_rules.specs.declared.schedule.Schedule.{Schedule}
 use Rattle.entry_model.specs.declared.entry.Entry.{Entry}

@@ -1,7 +1,7 @@
 //! The due queries of a tick, each answered by one batch.
 
 ghost use Rattle.std.specs.Prelude.{◌<◌, ◌^◌, Err, ◌≡◌, ◌+◌, ◌≤◌, ℕ, true, false, IfOk, IfSome, Ok, None, Some, [], ◌∷◌};
-ghost use Rattle.sql_meaning.specs.Meaning.{is_accepted, meaning};
+ghost use Rattle.sql_texts.specs.Meaning.{is_accepted, meaning};
 ghost use Rattle.entry_model.specs.declared.entry.Batch.{Batch};
 ghost use Rattle.entry_model.specs.declared.entry.Entry.TheVariants.{Committed};
 ghost use Rattle.session_state.specs.Kept.{IsState, due_count};

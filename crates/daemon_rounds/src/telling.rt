@@ -1,7 +1,7 @@
 //! The result lines of entries.
 
 ghost use Rattle.std.specs.Prelude.{◌≡◌, ◌++◌, ℕ, List, false, IfOk, IfSome, OnOk, Ok, None};
-ghost use Rattle.sql_meaning.specs.Meaning.{names_of as names_in};
+ghost use Rattle.sql_texts.specs.Meaning.{names_of as names_in};
 ghost use Rattle.result_batches.specs.Lines.{AreLines};
 ghost use Rattle.daemon_rounds.specs.Answering.{IsTellable};
 ghost use Rattle.daemon_rounds.specs.Telling.{AreTellable, AreTold, IsTold, Tells, form_after};

@@ -19,8 +19,8 @@ use osq_value::{
 };
 use pack_rules::schedule::{Form, Mode, QueryKey, Schedule, Scheduled, ScheduledList};
 use session_state::State;
-use sql_names::answers::is_evented;
-use sql_names::text::query_of_text;
+use sql_query::answers::is_evented;
+use sql_texts::text::query_of_text;
 use std::alloc::Global;
 use std::test::Fail;
 

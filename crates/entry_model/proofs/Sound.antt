@@ -3,9 +3,9 @@ use Rattle.std.proofs.Common.{◌≡◌, refl, ap, ◌∙◌, Bool, ◌&&◌, Li
 use Rattle.std.proofs.lemmas.List.Elements.{All-weaker}
 use Rattle.osq_config.specs.declared.config.Config.{Config}
 use Rattle.osq_config.specs.Bounds.{IsBounded}
-use Rattle.sql_names.specs.Resolved.{QueryTree}
-use Rattle.sql_names.specs.Texts.{query_in}
-use Rattle.sql_meaning.specs.Meaning.{is_accepted, is_query, is_evented_if, names_evented}
+use Rattle.sql_query.specs.Resolved.{QueryTree}
+use Rattle.sql_texts.specs.Texts.{query_in}
+use Rattle.sql_texts.specs.Meaning.{is_accepted, is_query, is_evented_if, names_evented}
 use Rattle.pack_rules.specs.declared.host.Host.{Host}
 use Rattle.pack_rules.specs.declared.schedule.Scheduled.{Scheduled}
 use Rattle.pack_rules.specs.declared.schedule.Schedule.{Schedule}

@@ -6,7 +6,7 @@ use Rattle.std.proofs.lemmas.List.Elements.{All-nil, All-cons, All-head}
 use Rattle.osq_value.specs.declared.value.Value.{Value}
 use Rattle.osq_value.specs.declared.value.Value.TheVariants.{Null}
 use Rattle.osq_value.specs.Catalogue.{columns_of, tables, width_of}
-use Rattle.sql_meaning.specs.Meaning.{is_accepted, names_evented}
+use Rattle.sql_texts.specs.Meaning.{is_accepted, names_evented}
 use Rattle.pack_rules.specs.declared.schedule.QueryKey.{QueryKey}
 use Rattle.entry_model.specs.declared.entry.Entry.TheVariants.{Opened, Configured, Ticked, Appended, TableSet, Expired, Committed, Acked}
 use Rattle.entry_model.specs.Views.{is_evented_table, owed_floor}

@@ -3,7 +3,7 @@ use Rattle.std.specs.Prelude.{◌≡◌, ℕ, suc, true, List, [], ◌∷◌, �
 use Rattle.osq_value.specs.declared.value.Event.{Event}
 use Rattle.osq_value.specs.declared.value.Value.{Value}
 use Rattle.osq_value.specs.declared.value.Value.TheVariants.{Null, Text}
-use Rattle.sql_meaning.specs.Meaning.{meaning, is_accepted, names_evented}
+use Rattle.sql_texts.specs.Meaning.{meaning, is_accepted, names_evented}
 use Rattle.pack_rules.specs.declared.schedule.Mode.TheVariants.{Evented}
 use Rattle.pack_rules.specs.declared.schedule.Form.TheVariants as form
 use Rattle.pack_rules.specs.declared.schedule.QueryKey.{QueryKey}

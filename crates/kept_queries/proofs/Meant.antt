@@ -1,7 +1,7 @@
 -- The rows over what is shown of a state are those behind each list for which it stands.
 use Rattle.std.proofs.Common.{◌≡◌, ℕ, List, ◌++◌, ap, ◌∙◌, refl}
 use Rattle.osq_value.specs.declared.value.Value.{Value}
-use Rattle.sql_names.specs.Resolved.{QueryTree}
+use Rattle.sql_query.specs.Resolved.{QueryTree}
 use Rattle.sql_meaning.specs.Meaning.{meaning_of}
 use Rattle.entry_model.specs.Views.{view_of}
 use Rattle.event_store.specs.Contents.{rows_in}

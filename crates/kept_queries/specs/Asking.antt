@@ -1,7 +1,7 @@
 -- What a query means behind a kept list.
 use Rattle.std.specs.Prelude.{◌≡◌, ℕ, List, ◌++◌}
 use Rattle.osq_value.specs.declared.value.Value.{Value}
-use Rattle.sql_names.specs.Resolved.{QueryTree}
+use Rattle.sql_query.specs.Resolved.{QueryTree}
 use Rattle.sql_meaning.specs.Meaning.{meaning_of}
 use Rattle.entry_model.specs.declared.entry.Entry.{Entry}
 use Rattle.entry_model.specs.Legal.{Legal}

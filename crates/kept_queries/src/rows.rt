@@ -2,15 +2,15 @@
 
 ghost use Rattle.std.specs.Prelude.{◌≡◌, ◌≤◌, IfOk};
 ghost use Rattle.sql_meaning.specs.Meaning.{meaning_of};
-ghost use Rattle.sql_names.specs.Resolved.{query_of};
+ghost use Rattle.sql_query.specs.Resolved.{query_of};
 ghost use Rattle.event_store.specs.Contents.{rows_in};
 ghost use Rattle.session_state.specs.Computed.{shown_by};
 ghost use Rattle.kept_queries.specs.Asking.{MeansBehind};
 
 use osq_value::{NoMemory, RowList};
 use session_state::{State, laws};
-use sql_names::query::Query;
 use sql_planner::{plan_of, run_plan};
+use sql_query::query::Query;
 use std::alloc::Global;
 
 /// The rows of a query over what the state shows of all live events and of the tables, at this moment.

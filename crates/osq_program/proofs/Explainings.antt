@@ -1,8 +1,8 @@
 -- From what the parts of `query --explain` ensure to what it does.
 use Rattle.std.proofs.Common.{◌≡◌, ◌++◌, ℕ, List, take, sym, subst, Some, None}
-use Rattle.sql_names.specs.Resolved.{QueryTree}
-use Rattle.sql_names.specs.TextFaults.{text_fault}
-use Rattle.sql_names.specs.Texts.{query_in}
+use Rattle.sql_query.specs.Resolved.{QueryTree}
+use Rattle.sql_texts.specs.TextFaults.{text_fault}
+use Rattle.sql_texts.specs.Texts.{query_in}
 use Rattle.sql_planner.specs.Explained.{explained}
 use Rattle.sql_planner.specs.Plans.{planned}
 use Rattle.osq_program.specs.declared.status.Status.{Status}

@@ -5,11 +5,11 @@ use Rattle.osq_value.specs.declared.value.Value.{Value}
 use Rattle.entry_model.specs.declared.entry.Entry.{Entry}
 use Rattle.entry_model.specs.Legal.{Legal}
 use Rattle.program_words.specs.declared.command.QueryWords.{QueryWords}
-use Rattle.sql_meaning.specs.Meaning.{is_accepted, names_of}
-use Rattle.sql_names.specs.Answers.{result_names}
-use Rattle.sql_names.specs.Resolved.{QueryTree}
-use Rattle.sql_names.specs.TextFaults.{text_fault}
-use Rattle.sql_names.specs.Texts.{query_in}
+use Rattle.sql_texts.specs.Meaning.{is_accepted, names_of}
+use Rattle.sql_query.specs.Answers.{result_names}
+use Rattle.sql_query.specs.Resolved.{QueryTree}
+use Rattle.sql_texts.specs.TextFaults.{text_fault}
+use Rattle.sql_texts.specs.Texts.{query_in}
 use Rattle.session_model.specs.Given.{Given}
 use Rattle.daemon_rounds.specs.declared.setup.SourceName.{SourceName as SessionSource}
 use Rattle.replay_rounds.specs.Sources.{sources_of}

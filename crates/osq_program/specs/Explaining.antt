@@ -1,8 +1,8 @@
 -- What `query --explain` does.
 use Rattle.std.specs.Prelude.{◌≡◌, ℕ, List, ◌++◌, take, None, Some}
-use Rattle.sql_names.specs.Resolved.{QueryTree}
-use Rattle.sql_names.specs.TextFaults.{text_fault}
-use Rattle.sql_names.specs.Texts.{query_in}
+use Rattle.sql_query.specs.Resolved.{QueryTree}
+use Rattle.sql_texts.specs.TextFaults.{text_fault}
+use Rattle.sql_texts.specs.Texts.{query_in}
 use Rattle.sql_planner.specs.Explained.{explained}
 use Rattle.sql_planner.specs.Plans.{planned}
 use Rattle.osq_program.specs.declared.status.Status.{Status}

@@ -5,9 +5,9 @@ use Rattle.entry_model.specs.Legal.{Legal}
 use Rattle.program_words.specs.declared.command.QueryWords.{QueryWords}
 use Rattle.result_batches.specs.Labels.{labelled}
 use Rattle.result_batches.specs.Lines.{object}
-use Rattle.sql_meaning.specs.Meaning.{names_of}
-use Rattle.sql_names.specs.declared.text.TextError.{TextError}
-use Rattle.sql_names.specs.TextFaults.{text_fault, place_of_fault, name_of_fault}
+use Rattle.sql_texts.specs.Meaning.{names_of}
+use Rattle.sql_texts.specs.declared.text.TextError.{TextError}
+use Rattle.sql_texts.specs.TextFaults.{text_fault, place_of_fault, name_of_fault}
 use Rattle.session_model.specs.Given.{Given}
 use Rattle.query_rounds.specs.Asking.{IsAnswer, IsMeant, Spends}
 use Rattle.query_rounds.specs.declared.asking.Asked.{Asked}

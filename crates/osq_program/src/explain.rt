@@ -6,7 +6,7 @@ ghost use Rattle.daemon_rounds.specs.Rounding.{FailsAt};
 ghost use Rattle.replay_rounds.specs.Running.{ReadsAll};
 ghost use Rattle.osq_program.specs.Answers.{IsUsageStatus};
 ghost use Rattle.osq_program.specs.Explaining.{IsExplain};
-ghost use Rattle.sql_names.specs.Resolved.{query_of};
+ghost use Rattle.sql_query.specs.Resolved.{query_of};
 ghost use Rattle.sql_planner.specs.Explained.{explained};
 ghost use Rattle.sql_planner.specs.Plans.{planned};
 
@@ -18,8 +18,8 @@ use crate::stop::refuse;
 use batch_keeper::Keeper;
 use osq_outside::{Clock, Files, Sink, Source, write_all};
 use osq_value::{Bytes, NoMemory};
-use sql_names::query::Query;
 use sql_planner::plan_of;
+use sql_query::query::Query;
 use std::alloc::Global;
 
 /// The text that shows the plan of a query.

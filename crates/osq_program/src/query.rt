@@ -7,10 +7,10 @@ ghost use Rattle.daemon_rounds.specs.Rounding.{FailsAt};
 ghost use Rattle.replay_rounds.specs.Running.{ReadsAll};
 ghost use Rattle.osq_program.specs.Answers.{no_causes, IsCaused, IsDoneStatus, IsUsageStatus};
 ghost use Rattle.osq_program.specs.Querying.{IsQuery, IsRefusedAt, Writes, labelled_lines, row_lines};
-ghost use Rattle.sql_names.specs.Answers.{result_names};
-ghost use Rattle.sql_names.specs.Resolved.{query_of};
-ghost use Rattle.sql_names.specs.TextFaults.{text_fault};
-ghost use Rattle.sql_names.specs.Texts.{query_in};
+ghost use Rattle.sql_query.specs.Answers.{result_names};
+ghost use Rattle.sql_query.specs.Resolved.{query_of};
+ghost use Rattle.sql_texts.specs.TextFaults.{text_fault};
+ghost use Rattle.sql_texts.specs.Texts.{query_in};
 
 use crate::ending::{answer_to, ended};
 use crate::link::Link;
@@ -26,9 +26,9 @@ use program_words::QueryWords;
 use query_rounds::{Asked, ask_kept};
 use result_batches::labels::{Labels, labels_of};
 use result_batches::object::push_object;
-use sql_names::answers::names_of;
-use sql_names::query::Query;
-use sql_names::text::{TextError, query_of_text};
+use sql_query::answers::names_of;
+use sql_query::query::Query;
+use sql_texts::text::{TextError, query_of_text};
 use std::alloc::Global;
 
 /// The query that the text asks for.

@@ -6,9 +6,9 @@ use Rattle.osq_config.specs.declared.config.Config.{Config}
 use Rattle.osq_config.specs.declared.config.Pack.{Pack}
 use Rattle.osq_config.specs.declared.config.QueryEntry.{QueryEntry}
 use Rattle.osq_config.specs.Bounds.{IsBoundedEntry, IsBoundedPack, IsBounded}
-use Rattle.sql_names.specs.Resolved.{QueryTree}
-use Rattle.sql_names.specs.Answers.{is_evented_query}
-use Rattle.sql_names.specs.Texts.{query_in}
+use Rattle.sql_query.specs.Resolved.{QueryTree}
+use Rattle.sql_query.specs.Answers.{is_evented_query}
+use Rattle.sql_texts.specs.Texts.{query_in}
 use Rattle.pack_rules.specs.declared.host.Host.{Host}
 use Rattle.pack_rules.specs.declared.schedule.Mode.TheVariants.{Evented}
 use Rattle.pack_rules.specs.declared.schedule.Scheduled.{Scheduled}

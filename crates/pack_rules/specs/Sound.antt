@@ -2,9 +2,9 @@
 use Rattle.std.specs.Prelude.{◌≡◌, ◌<◌, ◌≤◌, ◌^◌, Bool, true, false, List, length, All, Option, Some, None, is_some}
 use Rattle.osq_config.specs.declared.config.Config.{Config}
 use Rattle.osq_config.specs.Bounds.{IsBounded}
-use Rattle.sql_names.specs.Resolved.{QueryTree}
-use Rattle.sql_names.specs.Answers.{is_evented_query}
-use Rattle.sql_names.specs.Texts.{query_in}
+use Rattle.sql_query.specs.Resolved.{QueryTree}
+use Rattle.sql_query.specs.Answers.{is_evented_query}
+use Rattle.sql_texts.specs.Texts.{query_in}
 use Rattle.pack_rules.specs.declared.schedule.Mode.TheVariants.{Evented}
 use Rattle.pack_rules.specs.declared.schedule.Scheduled.{Scheduled}
 use Rattle.pack_rules.specs.declared.schedule.Schedule.{Schedule}

@@ -1,7 +1,7 @@
 //! What a configuration offers a host.
 
 ghost use Rattle.std.specs.Prelude.{◌≡◌, ◌++◌, length, Some, IfOk, OnOk};
-ghost use Rattle.sql_names.specs.Texts.{query_in};
+ghost use Rattle.sql_texts.specs.Texts.{query_in};
 ghost use Rattle.pack_rules.specs.Offers.{all_pack_queries, entries_in_pack, mode_in, mode_of, name_in_pack, named, offered, own_queries, own_query, pack_queries, pack_query, taken_mode};
 
 use crate::host::Host;
@@ -9,8 +9,8 @@ use crate::rules::rules_hold;
 use crate::schedule::{Mode, QueryKey, Scheduled, ScheduledList};
 use osq_config::{Config, Pack, QueryEntry, QueryEntryList};
 use osq_value::{Copied, NoMemory, Str};
-use sql_names::answers::is_evented;
-use sql_names::text::{TextError, query_of_text};
+use sql_query::answers::is_evented;
+use sql_texts::text::{TextError, query_of_text};
 use std::alloc::Global;
 
 fn mode_of(is_snapshot: bool, is_evented: bool) -> Mode

@@ -2,7 +2,8 @@
 use Rattle.std.specs.Prelude.{ℕ, ◌&&◌, nat_lt, Bool, List, length}
 use Rattle.std.specs.List.{list_all}
 use Rattle.osq_config.specs.declared.config.Pack.{Pack}
-use Rattle.sql_meaning.specs.Meaning.{View, is_accepted, meaning}
+use Rattle.sql_meaning.specs.Meaning.{View}
+use Rattle.sql_texts.specs.Meaning.{is_accepted, meaning}
 
 -- the text is accepted and means at least one row over the view
 abbrev pub gives_rows : View → List ℕ → Bool

@@ -3,15 +3,15 @@
 ghost use Rattle.std.specs.Prelude.{◌≡◌, IfOk};
 ghost use Rattle.std.specs.Option.{option_map};
 ghost use Rattle.sql_meaning.specs.Meaning.{meaning_of};
-ghost use Rattle.sql_names.specs.Resolved.{query_of};
-ghost use Rattle.sql_names.specs.Texts.{query_in};
+ghost use Rattle.sql_query.specs.Resolved.{query_of};
+ghost use Rattle.sql_texts.specs.Texts.{query_in};
 ghost use Rattle.query_answers.specs.Texts.{answer_of, names_in};
 
 use osq_value::{NoMemory, RowList, Tables, TextList};
-use sql_names::answers::names_of;
-use sql_names::query::Query;
-use sql_names::text::{TextError, query_of_text};
 use sql_planner::{plan_of, run_plan};
+use sql_query::answers::names_of;
+use sql_query::query::Query;
+use sql_texts::text::{TextError, query_of_text};
 use std::alloc::Global;
 
 /// The query that the text asks for, where it is accepted.

@@ -3,9 +3,9 @@ use Rattle.std.proofs.Common.{◌≡◌, ℕ, ◌+◌, ◌≤◌, Bool, false, L
 use Rattle.std.specs.Prelude.{Option, bytes_eq}
 use Rattle.osq_value.specs.declared.reading.Category.{Category}
 use Rattle.osq_value.specs.declared.value.Value.{Value}
-use Rattle.sql_names.specs.Resolved.{QueryTree}
-use Rattle.sql_names.specs.Texts.{query_in}
-use Rattle.sql_meaning.specs.Meaning.{meaning, meaning_if}
+use Rattle.sql_query.specs.Resolved.{QueryTree}
+use Rattle.sql_texts.specs.Texts.{query_in}
+use Rattle.sql_texts.specs.Meaning.{meaning, meaning_if}
 use Rattle.entry_model.specs.declared.entry.Entry.{Entry}
 use Rattle.entry_model.specs.declared.entry.Entry.TheVariants.{Opened}
 use Rattle.entry_model.specs.Fits.{IsDistinct}

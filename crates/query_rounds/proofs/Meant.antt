@@ -6,7 +6,7 @@ use Rattle.osq_value.specs.declared.reading.Category.{Category}
 use Rattle.osq_value.specs.declared.reading.Reading.{Reading}
 use Rattle.osq_value.specs.declared.reading.Reading.TheVariants.{Events, Table}
 use Rattle.osq_value.specs.declared.value.Value.{Value}
-use Rattle.sql_meaning.specs.Meaning.{meaning}
+use Rattle.sql_texts.specs.Meaning.{meaning}
 use Rattle.source_feeds.specs.Feeding.{Feeding}
 use Rattle.entry_model.specs.declared.entry.Entry.{Entry}
 use Rattle.entry_model.specs.declared.entry.Entry.TheVariants.{Opened}

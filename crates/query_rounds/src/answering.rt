@@ -1,16 +1,16 @@
 //! The rows of a text behind a kept list.
 
 ghost use Rattle.std.specs.Prelude.{◌≡◌, ◌≤◌, IfOk, Some, true};
-ghost use Rattle.sql_meaning.specs.Meaning.{is_accepted};
-ghost use Rattle.sql_names.specs.Resolved.{query_of};
-ghost use Rattle.sql_names.specs.Texts.{query_in};
+ghost use Rattle.sql_texts.specs.Meaning.{is_accepted};
+ghost use Rattle.sql_query.specs.Resolved.{query_of};
+ghost use Rattle.sql_texts.specs.Texts.{query_in};
 ghost use Rattle.query_rounds.specs.Asking.{AnswersBehind};
 
 use kept_queries::rows_behind;
 use osq_value::{NoMemory, RowList};
 use session_state::State;
-use sql_names::query::Query;
-use sql_names::text::{TextError, query_of_text};
+use sql_query::query::Query;
+use sql_texts::text::{TextError, query_of_text};
 use std::alloc::Global;
 
 /// The query that an accepted text asks for.

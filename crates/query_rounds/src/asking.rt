@@ -2,7 +2,7 @@
 
 ghost use Rattle.std.specs.Prelude.{◌≡◌, ◌<◌, ◌≤◌, ℕ, true, List, length, bytes_eq, Err, IfOk};
 ghost use Rattle.osq_outside.specs.Causes.{Rose};
-ghost use Rattle.sql_meaning.specs.Meaning.{is_accepted};
+ghost use Rattle.sql_texts.specs.Meaning.{is_accepted};
 ghost use Rattle.entry_model.specs.Fits.{Fits, IsDistinct};
 ghost use Rattle.entry_model.specs.Legal.{Legal};
 ghost use Rattle.entry_model.specs.Summary.{summary};

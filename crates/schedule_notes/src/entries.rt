@@ -5,8 +5,8 @@ ghost use Rattle.std.specs.Prelude.{◌≡◌, length};
 use osq_config::{Config, Pack, QueryEntry};
 use osq_value::{Copied, NoMemory, Str};
 use pack_rules::{Host, rules_hold};
-use sql_names::answers::is_evented;
-use sql_names::text::{TextError, query_of_text};
+use sql_query::answers::is_evented;
+use sql_texts::text::{TextError, query_of_text};
 use std::alloc::Global;
 
 /// What becomes of an entry whose rules hold.

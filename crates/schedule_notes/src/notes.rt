@@ -6,7 +6,7 @@ use crate::entries::{Judged, Outcome, judged_entries};
 use osq_config::{Config, Pack};
 use osq_value::{Bytes, NoMemory, Str};
 use pack_rules::{Host, rules_hold};
-use sql_names::text::{TextError, query_of_text};
+use sql_texts::text::{TextError, query_of_text};
 use std::alloc::Global;
 
 /// Adds the end of a line that tells of a text that isn't accepted.

@@ -5,7 +5,7 @@ use Rattle.std.specs.List.{list_any}
 use Rattle.std.proofs.lemmas.Bool.Decides.{nat_tests}
 use Rattle.std.proofs.lemmas.List.Elements.{All-contains}
 use Rattle.osq_value.specs.declared.value.Value.{Value}
-use Rattle.sql_meaning.specs.Meaning.{meaning}
+use Rattle.sql_texts.specs.Meaning.{meaning}
 use Rattle.pack_rules.specs.declared.schedule.QueryKey.{QueryKey}
 use Rattle.pack_rules.specs.Keys.{same_key}
 use Rattle.entry_model.specs.declared.entry.Entry.{Entry}

@@ -26,7 +26,7 @@ ghost use Rattle.session_state.specs.declared.state.TickRefusal.{TickRefusal};
 ghost use Rattle.session_state.specs.declared.state.AppendError.{AppendError};
 ghost use Rattle.session_state.specs.declared.state.CommitRefusal.{CommitRefusal};
 ghost use Rattle.session_state.specs.Commits.{Commits, commit_refusal};
-ghost use Rattle.sql_meaning.specs.Meaning.{meaning};
+ghost use Rattle.sql_texts.specs.Meaning.{meaning};
 ghost use Rattle.event_store.specs.Contents.{rows_in};
 
 use crate::computed::{event_rows, schedule_rows, time_rows};

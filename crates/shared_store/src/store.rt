@@ -7,7 +7,7 @@
 
 ghost use Rattle.std.specs.Prelude.{◌≡◌, ◌≢◌, ◌+◌, ◌<◌, ◌≤◌, ◌++◌, ◌∷◌, ◌⊎◌, [], IfOk, IfSome, OnOk, OnErr};
 ghost use Rattle.std.specs.List.{All};
-ghost use Rattle.sql_meaning.specs.Meaning.{meaning};
+ghost use Rattle.sql_texts.specs.Meaning.{meaning};
 ghost use Rattle.entry_model.specs.Fits.{Fits};
 ghost use Rattle.entry_model.specs.Schedules.{IsSound};
 ghost use Rattle.event_store.specs.Contents.{rows_in};

@@ -2,7 +2,7 @@
 use Rattle.std.proofs.Common.{◌≡◌, ℕ, ◌+◌, ◌-◌, ◌<◌, refl, sym, ap, ◌∙◌, Bool, true, false, cond, List, ◌∷◌, length, take, drop, get_or, filter, arith}
 use Rattle.std.specs.Prelude.{if◌then◌else◌}
 use Rattle.std.proofs.lemmas.List.{drop_more}
-use Rattle.sql_names.specs.Exprs.{ExprTree}
+use Rattle.sql_query.specs.Exprs.{ExprTree}
 use Rattle.sql_meaning.specs.declared.joined.Joined.{Joined}
 use Rattle.sql_meaning.specs.Order.{put_in, sorted_by}
 use Rattle.sql_meaning.proofs.OrderLaws.{is_less-order}

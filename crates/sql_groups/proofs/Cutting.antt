@@ -4,7 +4,7 @@ use Rattle.std.specs.Prelude.{if◌then◌else◌}
 use Rattle.std.specs.List.{take-map}
 use Rattle.std.proofs.lemmas.List.{drop-take}
 use Rattle.osq_value.specs.declared.value.Value.{Value}
-use Rattle.sql_names.specs.Resolved.{ResultTree, OrderTree, QueryTree}
+use Rattle.sql_query.specs.Resolved.{ResultTree, OrderTree, QueryTree}
 use Rattle.sql_meaning.specs.Cut.{cut_by, passed_over}
 use Rattle.sql_meaning.specs.Expressions.{alone, holds, value_at, value_of}
 use Rattle.sql_meaning.specs.Firsts.{firsts_by}

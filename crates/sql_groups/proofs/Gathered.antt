@@ -5,8 +5,8 @@ use Rattle.std.specs.List.{list_any, position_or_len}
 use Rattle.std.proofs.lemmas.List.{drop_all, take_all}
 use Rattle.indexmap.specs.IndexSet.{insert_key}
 use Rattle.osq_value.specs.declared.value.Value.{Value}
-use Rattle.sql_names.specs.Exprs.{ExprTree}
-use Rattle.sql_names.specs.Resolved.{QueryTree}
+use Rattle.sql_query.specs.Exprs.{ExprTree}
+use Rattle.sql_query.specs.Resolved.{QueryTree}
 use Rattle.sql_meaning.specs.declared.joined.Joined.{Joined}
 use Rattle.sql_meaning.specs.Expressions.{Environment, alone, holds, value_at, value_of}
 use Rattle.sql_meaning.specs.Finished.{finished}

@@ -6,7 +6,7 @@ use Rattle.std.proofs.lemmas.List.{length-append, map-append}
 use Rattle.std.proofs.lemmas.List.Elements.{filter-append, filter_map-append}
 use Rattle.osq_value.specs.declared.value.Value.{Value}
 use Rattle.osq_value.specs.declared.value.Value.TheVariants.{Null, Int, Text}
-use Rattle.sql_parser.specs.declared.token.Fold.TheVariants.{Count, Sum}
+use Rattle.sql_tree.specs.declared.functions.Fold.TheVariants.{Count, Sum}
 use Rattle.sql_scalar.specs.Arithmetic.{whole}
 use Rattle.sql_meaning.specs.Expressions.{value_at}
 use Rattle.sql_meaning.specs.Folds.{is_known, sum_over, total}

@@ -4,7 +4,7 @@ use Rattle.std.specs.Ordering.{is_lt}
 use Rattle.std.specs.declared.cmp.Ordering.{Ordering}
 use Rattle.osq_value.specs.declared.value.Value.{Value}
 use Rattle.osq_value.specs.Order.{order_of}
-use Rattle.sql_names.specs.Resolved.{OrderTree}
+use Rattle.sql_query.specs.Resolved.{OrderTree}
 use Rattle.sql_meaning.specs.declared.joined.Joined.{Joined}
 use Rattle.sql_meaning.specs.Expressions.{alone, value_at, value_of}
 use Rattle.sql_meaning.specs.Lent.{values_in}

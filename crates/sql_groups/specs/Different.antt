@@ -5,7 +5,7 @@ use Rattle.std.specs.List.{list_any}
 use Rattle.indexmap.specs.IndexSet.{insert_key}
 use Rattle.osq_value.specs.declared.value.Value.{Value}
 use Rattle.osq_value.specs.contracts.value.ValuePartialEq.TheImpl as equality
-use Rattle.sql_names.specs.Exprs.{ExprTree}
+use Rattle.sql_query.specs.Exprs.{ExprTree}
 use Rattle.sql_meaning.specs.declared.joined.Joined.{Joined}
 use Rattle.sql_meaning.specs.Expressions.{value_at}
 use Rattle.sql_meaning.specs.Firsts.{firsts_by}

@@ -4,9 +4,9 @@ use Rattle.std.specs.Borrow.{Bor}
 use Rattle.std.specs.Option.{option_copied}
 use Rattle.osq_value.specs.declared.value.Value.{Value}
 use Rattle.osq_value.specs.declared.value.Value.TheVariants.{Null, Int, Text}
-use Rattle.sql_parser.specs.declared.token.Fold.TheVariants.{Count, Sum, Min, Max}
+use Rattle.sql_tree.specs.declared.functions.Fold.TheVariants.{Count, Sum, Min, Max}
 use Rattle.sql_scalar.specs.Arithmetic.{whole, within}
-use Rattle.sql_names.specs.Exprs.{ExprTree}
+use Rattle.sql_query.specs.Exprs.{ExprTree}
 use Rattle.sql_meaning.specs.declared.joined.Joined.{Joined}
 use Rattle.sql_meaning.specs.Expressions.{value_at}
 use Rattle.sql_meaning.specs.Folds.{folded_over, is_known, total}

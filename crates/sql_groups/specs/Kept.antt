@@ -1,6 +1,6 @@
 -- The rows for which a condition holds.
 use Rattle.std.specs.Prelude.{Bool, List}
-use Rattle.sql_names.specs.Exprs.{ExprTree}
+use Rattle.sql_query.specs.Exprs.{ExprTree}
 use Rattle.sql_meaning.specs.declared.joined.Joined.{Joined}
 use Rattle.sql_meaning.specs.Expressions.{alone, holds}
 use Rattle.sql_meaning.specs.Lent.{values_in}

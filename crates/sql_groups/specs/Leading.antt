@@ -1,6 +1,6 @@
 -- The first rows in an order.
 use Rattle.std.specs.Prelude.{◌≡◌, ℕ, Bool, false, List, [], ◌∷◌, filter, take}
-use Rattle.sql_names.specs.Exprs.{ExprTree}
+use Rattle.sql_query.specs.Exprs.{ExprTree}
 use Rattle.sql_meaning.specs.declared.joined.Joined.{Joined}
 use Rattle.sql_meaning.specs.Order.{sorted_by}
 use Rattle.sql_groups.specs.declared.columns.SortColumn.{SortColumn}

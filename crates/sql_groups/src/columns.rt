@@ -1,14 +1,14 @@
 //! Expressions that are columns.
 ghost use Rattle.std.specs.Prelude.{◌≡◌, ◌∷◌, [], IfOk, IfSome, List, map};
 ghost use Rattle.osq_value.specs.declared.value.Value.{Value};
-ghost use Rattle.sql_names.specs.Resolved.{order_of, result_of};
-ghost use Rattle.sql_names.specs.View.{expr_of};
+ghost use Rattle.sql_query.specs.Resolved.{order_of, result_of};
+ghost use Rattle.sql_query.specs.View.{expr_of};
 ghost use Rattle.sql_meaning.specs.Expressions.{alone, value_at, value_of};
 ghost use Rattle.sql_groups.specs.Columns.{AreColumns, AreDirections};
 
 use osq_value::{NoMemory, Sequence};
-use sql_names::query::{Order, QueryItem};
-use sql_names::tree::Expr;
+use sql_query::query::{Order, QueryItem};
+use sql_query::tree::Expr;
 use std::alloc::Global;
 
 /// A column that rows are sorted by: its place in a row, and whether it descends.

@@ -1,6 +1,6 @@
 //! The first of rows with equal values of a column.
 ghost use Rattle.std.specs.Prelude.{◌≡◌, ◌++◌, ◌∷◌, [], IfOk, IfSome, List, OnOk, map, true};
-ghost use Rattle.sql_names.specs.View.{expr_of};
+ghost use Rattle.sql_query.specs.View.{expr_of};
 ghost use Rattle.sql_meaning.specs.declared.joined.Joined.{Joined as JoinedOf};
 ghost use Rattle.sql_groups.specs.Different.{Adds, Stands, different};
 
@@ -8,7 +8,7 @@ use crate::kept::is_kept;
 use indexmap::IndexSet;
 use osq_value::{NoMemory, Sequence, Value};
 use sql_meaning::{Joined, value_in};
-use sql_names::query::Condition;
+use sql_query::query::Condition;
 use std::alloc::Global;
 
 /// Rows whose values of a column differ, and these values.

@@ -1,7 +1,7 @@
 //! Groups by a column whose rows are folded as they come.
 ghost use Rattle.std.specs.Prelude.{◌≡◌, ◌++◌, ◌∷◌, [], IfOk, IfSome, List, length, map, true};
 ghost use Rattle.osq_value.specs.declared.value.Value.{Value as ValueOf};
-ghost use Rattle.sql_names.specs.View.{expr_of};
+ghost use Rattle.sql_query.specs.View.{expr_of};
 ghost use Rattle.sql_meaning.specs.declared.joined.Joined.{Joined as JoinedOf};
 ghost use Rattle.sql_meaning.specs.Lent.{values_in};
 ghost use Rattle.sql_meaning.specs.Worths.{worths};
@@ -16,7 +16,7 @@ use indexmap::IndexSet;
 use osq_value::{NoMemory, Sequence, Value};
 use sql_meaning::worth::{ResultRow, ResultRowList};
 use sql_meaning::{Joined, value_in};
-use sql_names::query::Condition;
+use sql_query::query::Condition;
 use std::alloc::Global;
 
 /// The columns of the result of one group, so far.

@@ -1,8 +1,8 @@
 //! Columns of the result of a query with groups that can be folded row by row.
 ghost use Rattle.std.specs.Prelude.{◌≡◌, ◌++◌, ◌∷◌, [], IfOk, IfSome, List, length, map, true};
 ghost use Rattle.osq_value.specs.declared.value.Value.{Value};
-ghost use Rattle.sql_names.specs.Resolved.{order_of, query_of, result_of};
-ghost use Rattle.sql_names.specs.View.{aggregate_of, expr_of};
+ghost use Rattle.sql_query.specs.Resolved.{order_of, query_of, result_of};
+ghost use Rattle.sql_query.specs.View.{aggregate_of, expr_of};
 ghost use Rattle.sql_meaning.specs.Expressions.{value_of};
 ghost use Rattle.sql_meaning.specs.Folds.{counted_rows};
 ghost use Rattle.sql_meaning.specs.Steps.{result_row, together};
@@ -10,9 +10,9 @@ ghost use Rattle.sql_groups.specs.Folding.{item_over};
 
 use crate::columns::place_of;
 use osq_value::{NoMemory, Sequence};
-use sql_names::query::Query;
-use sql_names::tree::{Aggregate, Expr};
-use sql_parser::token::Fold;
+use sql_query::query::Query;
+use sql_query::tree::{Aggregate, Expr};
+use sql_tree::functions::Fold;
 use std::alloc::Global;
 
 /// What a column of the result is of the rows of a group.

@@ -1,11 +1,11 @@
 //! The rows for which a condition holds.
 ghost use Rattle.std.specs.Prelude.{◌≡◌, IfOk, map};
-ghost use Rattle.sql_names.specs.View.{expr_of};
+ghost use Rattle.sql_query.specs.View.{expr_of};
 ghost use Rattle.sql_groups.specs.Kept.{is_kept};
 
 use osq_value::NoMemory;
 use sql_meaning::{Joined, Over, holds};
-use sql_names::query::Condition;
+use sql_query::query::Condition;
 use std::alloc::Global;
 
 /// Whether the condition holds of a row.

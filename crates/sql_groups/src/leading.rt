@@ -1,7 +1,7 @@
 //! The first rows of those that a condition keeps, in an order.
 ghost use Rattle.std.specs.Prelude.{◌≡◌, IfOk, OnOk, if◌then◌else◌, map, take};
 ghost use Rattle.sql_meaning.specs.Order.{put_in};
-ghost use Rattle.sql_names.specs.View.{expr_of};
+ghost use Rattle.sql_query.specs.View.{expr_of};
 ghost use Rattle.sql_groups.specs.Columns.{is_before};
 ghost use Rattle.sql_groups.specs.Kept.{is_kept};
 ghost use Rattle.sql_groups.specs.Leading.{Climbs, leading};
@@ -11,7 +11,7 @@ use crate::kept::is_kept;
 use crate::place::place_among;
 use osq_value::{NoMemory, Sequence};
 use sql_meaning::Joined;
-use sql_names::query::Condition;
+use sql_query::query::Condition;
 use std::alloc::Global;
 
 /// The first `count` in the order of the columns, of the rows for which the condition holds. Rows that tie keep their order. No more

@@ -1,8 +1,8 @@
 //! The rows of a query, of the rows that its FROM gives.
 ghost use Rattle.std.specs.Prelude.{◌≡◌, ◌∷◌, [], IfOk, List, false, map, true};
 ghost use Rattle.osq_value.specs.declared.value.Value.{Value};
-ghost use Rattle.sql_names.specs.Resolved.{query_of, result_of};
-ghost use Rattle.sql_names.specs.View.{expr_of};
+ghost use Rattle.sql_query.specs.Resolved.{query_of, result_of};
+ghost use Rattle.sql_query.specs.View.{expr_of};
 ghost use Rattle.sql_meaning.specs.Expressions.{alone, value_at, value_of};
 ghost use Rattle.sql_meaning.specs.Lent.{values_in};
 ghost use Rattle.sql_meaning.specs.Steps.{behind_from, result_row, together};
@@ -17,7 +17,7 @@ use crate::leading::leading;
 use crate::wanted::wanted;
 use osq_value::{NoMemory, RowList};
 use sql_meaning::{Joined, finished, rows_behind_from};
-use sql_names::query::Query;
+use sql_query::query::Query;
 use std::alloc::Global;
 
 /// The rows of a query whose FROM gives these rows: those of `rows_behind_from`. Where ORDER BY by columns goes with a small LIMIT, only

@@ -4,8 +4,6 @@ pub mod FoldsLaws
 pub mod FrontsLaws
 pub mod GroupsLaws
 pub mod HashedLaws
-pub mod Known
-pub mod KnownMeaning
 pub mod Lending
 pub mod Mapped
 pub mod OrderLaws

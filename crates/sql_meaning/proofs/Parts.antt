@@ -3,11 +3,11 @@ use Rattle.std.proofs.Common.{◌≡◌, ℕ, ◌+◌, ◌<◌, ◌++◌, Bool, 
 use Rattle.std.proofs.lemmas.List.{take_more}
 use Rattle.osq_value.specs.declared.value.Value.{Value}
 use Rattle.osq_value.specs.declared.catalogue.Affinity.{Affinity}
-use Rattle.sql_names.specs.declared.tree.Expr.{Expr}
-use Rattle.sql_names.specs.declared.tree.ExprStep.{ExprStep}
-use Rattle.sql_names.specs.Exprs.{no_steps, then, no_exprs, and_expr}
-use Rattle.sql_names.specs.View.{expr_of, step_of, steps_of, exprs_of}
-use Rattle.sql_names.proofs.Made.{steps_after-push, exprs_after-push}
+use Rattle.sql_query.specs.declared.tree.Expr.{Expr}
+use Rattle.sql_query.specs.declared.tree.ExprStep.{ExprStep}
+use Rattle.sql_query.specs.Exprs.{no_steps, then, no_exprs, and_expr}
+use Rattle.sql_query.specs.View.{expr_of, step_of, steps_of, exprs_of}
+use Rattle.sql_query.proofs.Pushed.{steps_after-push, exprs_after-push}
 use Rattle.sql_scalar.specs.Comparison.{in_of, equal_of}
 use Rattle.sql_scalar.specs.Truth.{from_truth, truth_of, either, or_of}
 use Rattle.sql_meaning.specs.Expressions.{Environment, affinity_after, value_of, value_by, value_after, values_of}

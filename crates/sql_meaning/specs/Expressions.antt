@@ -5,14 +5,14 @@ use Rattle.osq_value.specs.declared.value.Value.TheVariants.{Null}
 use Rattle.osq_value.specs.declared.catalogue.Affinity.{Affinity}
 use Rattle.osq_value.specs.declared.catalogue.Affinity.TheVariants as affinity
 use Rattle.osq_value.specs.Casts.{cast_int_of, cast_text_of}
-use Rattle.sql_parser.specs.declared.token.Fold.{Fold}
+use Rattle.sql_tree.specs.declared.functions.Fold.{Fold}
 use Rattle.sql_scalar.specs.Arithmetic.{minus_of, plus_of}
 use Rattle.sql_scalar.specs.Comparison.{in_of, between_of}
 use Rattle.sql_scalar.specs.Functions.{call_of}
 use Rattle.sql_scalar.specs.Operators.{apply_of}
 use Rattle.sql_scalar.specs.Truth.{truth_of, not_of}
-use Rattle.sql_names.specs.Exprs.{ExprTree, OneExprStep, ExprSteps, Exprs}
-use Rattle.sql_names.specs.Exprs as expr
+use Rattle.sql_query.specs.Exprs.{ExprTree, OneExprStep, ExprSteps, Exprs}
+use Rattle.sql_query.specs.Exprs as expr
 
 -- what an expression sees: the values of a row by their places, and what each aggregate gives
 pub record Environment : Type 0 where

@@ -1,7 +1,7 @@
 -- The steps behind the columns of the result.
 use Rattle.std.specs.Prelude.{List, map}
 use Rattle.osq_value.specs.declared.value.Value.{Value}
-use Rattle.sql_names.specs.Resolved.{QueryTree}
+use Rattle.sql_query.specs.Resolved.{QueryTree}
 use Rattle.sql_meaning.specs.Expressions.{Environment}
 use Rattle.sql_meaning.specs.Steps.{cut, distinct, items_in, ordered, result_row}
 

@@ -5,8 +5,8 @@ use Rattle.std.specs.Ordering.{is_lt, is_gt}
 use Rattle.osq_value.specs.declared.value.Value.{Value}
 use Rattle.osq_value.specs.declared.value.Value.TheVariants.{Null, Int, Text}
 use Rattle.osq_value.specs.Order.{order_of}
-use Rattle.sql_parser.specs.declared.token.Fold.{Fold}
-use Rattle.sql_parser.specs.declared.token.Fold.TheVariants.{Count, Sum, Min, Max}
+use Rattle.sql_tree.specs.declared.functions.Fold.{Fold}
+use Rattle.sql_tree.specs.declared.functions.Fold.TheVariants.{Count, Sum, Min, Max}
 use Rattle.sql_scalar.specs.Arithmetic.{whole, within}
 use Rattle.sql_meaning.specs.Firsts.{firsts_by}
 

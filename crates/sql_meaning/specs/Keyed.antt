@@ -1,7 +1,7 @@
 -- Rows beside what they are grouped by.
 use Rattle.std.specs.Prelude.{List}
 use Rattle.osq_value.specs.declared.value.Value.{Value}
-use Rattle.sql_names.specs.Exprs.{ExprTree}
+use Rattle.sql_query.specs.Exprs.{ExprTree}
 use Rattle.sql_meaning.specs.declared.groups.Keyed.{Keyed}
 use Rattle.sql_meaning.specs.declared.joined.Joined.{Joined}
 use Rattle.sql_meaning.specs.Lent.{values_in}

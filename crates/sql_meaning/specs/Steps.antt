@@ -2,9 +2,9 @@
 use Rattle.std.specs.Prelude.{Bool, if◌then◌else◌, List, [], ◌∷◌, ◌++◌, map, length, take, drop, Option, Some, None}
 use Rattle.std.specs.List.{filter}
 use Rattle.osq_value.specs.declared.value.Value.{Value}
-use Rattle.sql_parser.specs.declared.token.Fold.{Fold}
-use Rattle.sql_names.specs.Exprs.{ExprTree}
-use Rattle.sql_names.specs.Resolved.{ResultTree, OrderTree, QueryTree}
+use Rattle.sql_tree.specs.declared.functions.Fold.{Fold}
+use Rattle.sql_query.specs.Exprs.{ExprTree}
+use Rattle.sql_query.specs.Resolved.{ResultTree, OrderTree, QueryTree}
 use Rattle.sql_meaning.specs.Cut.{cut_by}
 use Rattle.sql_meaning.specs.Expressions.{Environment, alone, holds, value_of}
 use Rattle.sql_meaning.specs.Firsts.{firsts_by}

@@ -2,7 +2,7 @@
 ghost use Rattle.std.specs.Prelude.{◌≡◌, IfOk, map, unwrap_or};
 ghost use Rattle.osq_value.specs.declared.value.Value.TheVariants.{Null};
 ghost use Rattle.std.specs.Option.{option_copied};
-ghost use Rattle.sql_names.specs.View.{expr_of, step_of, steps_of, exprs_of, aggregate_of};
+ghost use Rattle.sql_query.specs.View.{expr_of, step_of, steps_of, exprs_of, aggregate_of};
 ghost use Rattle.sql_meaning.specs.Expressions.{affinity_of as affinity_in, alone, cast_of, holds as holds_in, is_true as is_true_value, negated as negated_by, value_at, value_of, value_after, value_by, values_of};
 ghost use Rattle.sql_meaning.specs.Lent.{values_in};
 ghost use Rattle.sql_meaning.specs.Over.{environment_of};
@@ -14,9 +14,9 @@ use crate::folds::{count_rows, fold_values};
 use crate::joined::{Joined, value_in, value_in_first};
 use crate::worth::Worth;
 use osq_value::{Affinity, NoMemory, Row, Value, cast_int, cast_text};
-use sql_names::tree::{Aggregate, Expr, ExprStep};
-use sql_parser::tree::Operator;
+use sql_query::tree::{Aggregate, Expr, ExprStep};
 use sql_scalar::{apply, call, minus, negation, truth};
+use sql_tree::tree::Operator;
 use std::alloc::Global;
 
 /// What an expression is evaluated over.

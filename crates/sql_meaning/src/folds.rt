@@ -7,8 +7,8 @@ ghost use Rattle.sql_scalar.specs.Arithmetic.{whole, within};
 
 use indexmap::IndexSet;
 use osq_value::{NoMemory, Row, Value, compare};
-use sql_parser::token::Fold;
 use sql_scalar::whole;
+use sql_tree::functions::Fold;
 use std::alloc::Global;
 
 /// An aggregate over what its argument is in each row of a group: COUNT counts the values that aren't Null, SUM adds

@@ -1,17 +1,18 @@
 -- What `resolve` finds on the way is what its definitions say.
 use Rattle.std.proofs.Common.{◌≡◌, ℕ, List, Option, Some, None, ap, sym, ◌∙◌}
-use Rattle.sql_parser.specs.Select.{SelectTree}
+use Rattle.sql_tree.specs.Select.{SelectTree}
 use Rattle.sql_names.specs.declared.error.NameError.{NameError}
 use Rattle.sql_names.specs.declared.error.NameKind.TheVariants as kind
-use Rattle.sql_names.specs.declared.mention.Mention.{Mention}
-use Rattle.sql_names.specs.declared.scope.Seen.{Seen}
-use Rattle.sql_names.specs.Exprs.{ExprTree}
-use Rattle.sql_names.specs.Scope.{scope_of, or_else}
-use Rattle.sql_names.specs.Mentions.{mentions_of_select}
-use Rattle.sql_names.specs.Shown.{ShownTree}
+use Rattle.sql_scope.specs.declared.mention.Mention.{Mention}
+use Rattle.sql_scope.specs.declared.scope.Seen.{Seen}
+use Rattle.sql_query.specs.Exprs.{ExprTree}
+use Rattle.sql_scope.specs.Scope.{scope_of, or_else}
+use Rattle.sql_scope.specs.Mentions.{mentions_of_select}
+use Rattle.sql_scope.specs.Shown.{ShownTree}
 use Rattle.sql_names.specs.Kinds.{too_many_tables}
 use Rattle.sql_names.specs.Resolve.{whole_names, shown_in, names_within, names_of_select, fault_of, fault_among, fault_within, name_fault, resolved, resolved_within, unless_fault}
-use Rattle.sql_names.specs.Resolved.{QueryTree, key_exprs, query_tree}
+use Rattle.sql_query.specs.Resolved.{QueryTree}
+use Rattle.sql_names.specs.Making.{key_exprs, query_tree}
 
 pub found_fault : (text : List ℕ) (scope : List Seen) (select : SelectTree) (shown : List ShownTree) (keys : List ExprTree) (found : List Mention) (fault : Option NameError) → shown ≡ shown_in text scope select → keys ≡ key_exprs (whole_names text scope shown) select.keys → found ≡ mentions_of_select select → fault ≡ fault_among (whole_names text scope shown) keys select found → fault_within (names_within text scope select) select ≡ fault
 found_fault text scope select shown keys found fault s k m f =

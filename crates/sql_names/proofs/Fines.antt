@@ -1,10 +1,10 @@
 -- The mentions of a select whose aggregates stand where they may.
 use Rattle.std.proofs.Common.{◌≡◌, ℕ, ◌++◌, Bool, true, false, List, [], ◌∷◌, map, Option, Some, None, refl}
 use Rattle.std.specs.Prelude.{not, ◌&&◌, if◌then◌else◌}
-use Rattle.sql_names.specs.declared.mention.Mention.{Mention}
+use Rattle.sql_scope.specs.declared.mention.Mention.{Mention}
 use Rattle.sql_names.specs.Kinds.{forbids, mentioned_wrong, is_aggregate, has_aggregate}
 use Rattle.sql_names.specs.Least.{lesser, least}
-use Rattle.sql_names.specs.Shown.{Names}
+use Rattle.sql_scope.specs.Shown.{Names}
 
 -- the mention stands where it may, and an aggregate is there only where rows are grouped
 abbrev pub IsFine : Names → Bool → Mention → Type 0

@@ -1,21 +1,21 @@
 -- The columns of the result stand where the mentions of the items do.
 use Rattle.std.proofs.Common.{◌≡◌, ℕ, ◌+◌, ◌++◌, Bool, true, false, List, [], ◌∷◌, length, map, None, refl, sym, ◌∙◌, arith, append_assoc, length-append}
 use Rattle.std.specs.Prelude.{◌&&◌, if◌then◌else◌}
-use Rattle.sql_parser.specs.Select.{ItemTree, all, all_of, one}
-use Rattle.sql_names.specs.declared.mention.Clause.TheVariants as clause
-use Rattle.sql_names.specs.declared.mention.Mention.{Mention}
-use Rattle.sql_names.specs.declared.mention.Mentioned.{Mentioned}
-use Rattle.sql_names.specs.declared.mention.Mentioned.TheVariants as mentioned
-use Rattle.sql_names.specs.declared.query.SourceColumn.{SourceColumn}
-use Rattle.sql_names.specs.declared.scope.Seen.{Seen}
+use Rattle.sql_tree.specs.Select.{ItemTree, all, all_of, one}
+use Rattle.sql_scope.specs.declared.mention.Clause.TheVariants as clause
+use Rattle.sql_scope.specs.declared.mention.Mention.{Mention}
+use Rattle.sql_scope.specs.declared.mention.Mentioned.{Mentioned}
+use Rattle.sql_scope.specs.declared.mention.Mentioned.TheVariants as mentioned
+use Rattle.sql_query.specs.declared.query.SourceColumn.{SourceColumn}
+use Rattle.sql_scope.specs.declared.scope.Seen.{Seen}
 use Rattle.sql_names.specs.Kinds.{is_aggregate}
 use Rattle.sql_names.specs.Least.{least}
-use Rattle.sql_names.specs.Mentions.{mentions, mentions_of_items}
+use Rattle.sql_scope.specs.Mentions.{mentions, mentions_of_items}
 use Rattle.sql_names.specs.Resolve.{whole_names}
 use Rattle.sql_names.specs.Results.{column_shown, columns_from, all_columns, known_columns, aggregate_place, results}
-use Rattle.sql_names.specs.Scope.{is_listed}
-use Rattle.sql_names.specs.Shown.{ShownTree, Names}
-use Rattle.sql_names.specs.Spelling.{name_text, same_name}
+use Rattle.sql_scope.specs.Scope.{is_listed}
+use Rattle.sql_scope.specs.Shown.{ShownTree, Names}
+use Rattle.sql_scope.specs.Spelling.{name_text, same_name}
 use Rattle.sql_names.proofs.Places.{IsSeen, AreSeen, get_at, column_here}
 use Rattle.sql_names.proofs.Fines.{AreFine, lesser_left, lesser_right, fine_left, fine_right}
 use Rattle.sql_names.proofs.Standings.{IsShown, AreShown, expr_stands, reads_columns}

@@ -11,27 +11,28 @@ use Rattle.osq_value.specs.Catalogue.{Table, table, id_of}
 use Rattle.osq_value.specs.Catalogue.{tables as catalogue}
 use Rattle.osq_value.specs.declared.catalogue.TableKind.TheVariants.{Evented}
 use Rattle.osq_value.specs.declared.value.Value.TheVariants.{Int}
-use Rattle.sql_parser.specs.declared.tree.Name.{Name}
-use Rattle.sql_parser.specs.Tree.{Tree, OneStep, Steps}
-use Rattle.sql_parser.specs.Tree as tree
-use Rattle.sql_parser.specs.Select.{RefTree, TermTree}
-use Rattle.sql_names.specs.declared.mention.Clause.{Clause}
-use Rattle.sql_names.specs.declared.mention.Clause.TheVariants as clause
-use Rattle.sql_names.specs.declared.query.SourceColumn.{SourceColumn}
+use Rattle.sql_tree.specs.declared.tree.Name.{Name}
+use Rattle.sql_tree.specs.Tree.{Tree, OneStep, Steps}
+use Rattle.sql_tree.specs.Tree as tree
+use Rattle.sql_tree.specs.Select.{RefTree, TermTree}
+use Rattle.sql_scope.specs.declared.mention.Clause.{Clause}
+use Rattle.sql_scope.specs.declared.mention.Clause.TheVariants as clause
+use Rattle.sql_query.specs.declared.query.SourceColumn.{SourceColumn}
 use Rattle.sql_names.specs.declared.results.Numbered.{Numbered}
-use Rattle.sql_names.specs.declared.scope.Place.{Place}
-use Rattle.sql_names.specs.declared.scope.Seen.{Seen}
-use Rattle.sql_names.specs.Exprs.{ExprTree, literal}
+use Rattle.sql_query.specs.declared.place.Place.{Place}
+use Rattle.sql_scope.specs.declared.scope.Seen.{Seen}
+use Rattle.sql_query.specs.Exprs.{ExprTree, literal}
 use Rattle.sql_names.specs.Kinds.{forbids, names_in, place_of, place_if, too_many_tables, table_missing, place_at, aggregate_at, key_wrong}
 use Rattle.sql_names.specs.Least.{least}
-use Rattle.sql_names.specs.Mentions.{mentions, mentions_of_step, mentions_of_steps, mentions_of_option, mentions_of_sources, mentions_of_keys, mentions_of_terms}
-use Rattle.sql_names.specs.Naming.{expr_of}
-use Rattle.sql_names.specs.Resolved.{SourceTree, OrderTree, joined_name, join_exprs, source_tree, source_trees, key_exprs, orders}
+use Rattle.sql_scope.specs.Mentions.{mentions, mentions_of_step, mentions_of_steps, mentions_of_option, mentions_of_sources, mentions_of_keys, mentions_of_terms}
+use Rattle.sql_scope.specs.Naming.{expr_of}
+use Rattle.sql_query.specs.Resolved.{SourceTree, OrderTree}
+use Rattle.sql_names.specs.Making.{joined_name, join_exprs, source_tree, source_trees, key_exprs, orders}
 use Rattle.sql_names.specs.Results.{are_ands, right_of, rights_of, conjuncts, condition, index_in, numbered, term_by}
-use Rattle.sql_names.specs.Scope.{is_some, place_in, plain_place, columns_seen, table_number}
-use Rattle.sql_names.specs.Shown.{ShownTree, Names}
-use Rattle.sql_names.specs.Spelling.{name_text}
-use Rattle.sql_names.specs.Standing.{Stands, IsOfCatalogue, columns_in}
+use Rattle.sql_scope.specs.Scope.{is_some, place_in, plain_place, columns_seen, table_number}
+use Rattle.sql_scope.specs.Shown.{ShownTree, Names}
+use Rattle.sql_scope.specs.Spelling.{name_text}
+use Rattle.sql_query.specs.Standing.{Stands, IsOfCatalogue, columns_in}
 use Rattle.sql_names.proofs.Places.{AreSeen, seen_take, get_take, plain_place_is, place_at_is}
 use Rattle.sql_names.proofs.Fines.{AreFine, lesser_left, lesser_right, fine_left, fine_right}
 use Rattle.sql_names.proofs.Standings.{allowed, Reads, AreShown, place_stands, expr_stands, reads_columns, reads_shown, shown_stands, shown_plain}

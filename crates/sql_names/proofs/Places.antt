@@ -4,14 +4,15 @@ use Rattle.std.specs.Prelude.{slice_get, if◌then◌else◌}
 use Rattle.std.specs.Option.{option_map_or}
 use Rattle.std.proofs.lemmas.List.{take_at, take-map}
 use Rattle.std.proofs.lemmas.Option.{slice_get_within, none-some, same_Some}
-use Rattle.sql_parser.specs.Select.{RefTree}
-use Rattle.sql_names.specs.declared.query.SourceColumn.{SourceColumn}
-use Rattle.sql_names.specs.declared.scope.Place.{Place}
-use Rattle.sql_names.specs.declared.scope.Seen.{Seen}
+use Rattle.sql_tree.specs.Select.{RefTree}
+use Rattle.sql_query.specs.declared.query.SourceColumn.{SourceColumn}
+use Rattle.sql_query.specs.declared.place.Place.{Place}
+use Rattle.sql_scope.specs.declared.scope.Seen.{Seen}
 use Rattle.sql_names.specs.Kinds.{place_at}
-use Rattle.sql_names.specs.Scope.{columns_seen, seen_at, scope_from, scope_of, place_from, place_in, or_else, plain_place, known_place}
-use Rattle.sql_names.specs.Spelling.{same_name}
-use Rattle.sql_names.specs.Standing.{row_width, IsColumn}
+use Rattle.sql_scope.specs.Scope.{columns_seen, seen_at, scope_from, scope_of, place_from, place_in, or_else, plain_place, known_place}
+use Rattle.sql_scope.specs.Spelling.{same_name}
+use Rattle.sql_query.specs.Standing.{row_width, IsColumn}
+use Rattle.sql_query.proofs.Widths.{row_width-append}
 
 -- a table that names see is the one of its number among these
 pub record IsSeen (tables : List (List SourceColumn)) (seen : Seen) : Type 0 where
@@ -22,10 +23,6 @@ pub record IsSeen (tables : List (List SourceColumn)) (seen : Seen) : Type 0 whe
 abbrev pub AreSeen : List (List SourceColumn) → List Seen → Type 0
 AreSeen tables [] = Unit {0}
 AreSeen tables (seen ∷ scope) = IsSeen tables seen × AreSeen tables scope
-
-pub row_width-append : (before after : List (List SourceColumn)) → row_width (before ++ after) ≡ row_width before + row_width after
-row_width-append [] after = omega arith
-row_width-append (columns ∷ before) after = let more = row_width-append before after in omega arith
 
 get_behind : {A : Type 0} (before : List A) (x : A) (rest : List A) → slice_get (before ++ x ∷ rest) (length before) ≡ Some x
 get_behind [] x rest = refl

@@ -1,32 +1,30 @@
--- The columns and aggregates of the query of a select or text without a fault stand where they may.
+-- The columns and aggregates of the query of a select without a fault stand where they may.
 use Rattle.std.proofs.Common.{◌≡◌, ℕ, ◌+◌, Bool, true, false, List, [], ◌∷◌, take, map, Option, Some, None, refl, sym, subst, arith}
 use Rattle.std.specs.Prelude.{◌≤◌, length, ◌||◌, IfOk, Result, Ok, Err}
 use Rattle.std.specs.List.{All, AllByRecursion}
 use Rattle.std.proofs.lemmas.List.Elements.{All-from_recursion}
 use Rattle.std.proofs.lemmas.Option.{none-some, same_Some}
-use Rattle.sql_parser.specs.declared.error.ParseError.{ParseError}
-use Rattle.sql_parser.specs.Tree.{Tree}
-use Rattle.sql_parser.specs.Select.{HavingTree, SelectTree}
-use Rattle.sql_parser.specs.Text.{select_of_text, select_fault}
+use Rattle.sql_tree.specs.Tree.{Tree}
+use Rattle.sql_tree.specs.Select.{HavingTree, SelectTree}
 use Rattle.sql_names.specs.declared.error.NameError.{NameError}
 use Rattle.sql_names.specs.declared.error.NameKind.{NameKind}
 use Rattle.sql_names.specs.declared.error.NameKind.TheVariants as kind
-use Rattle.sql_names.specs.declared.mention.Clause.TheVariants as clause
-use Rattle.sql_names.specs.declared.mention.Mention.{Mention}
-use Rattle.sql_names.specs.declared.query.Query.{Query}
-use Rattle.sql_names.specs.declared.query.SourceColumn.{SourceColumn}
+use Rattle.sql_scope.specs.declared.mention.Clause.TheVariants as clause
+use Rattle.sql_scope.specs.declared.mention.Mention.{Mention}
+use Rattle.sql_query.specs.declared.query.Query.{Query}
+use Rattle.sql_query.specs.declared.query.SourceColumn.{SourceColumn}
 use Rattle.sql_names.specs.Bare.{bare_column_of}
-use Rattle.sql_names.specs.Exprs.{ExprTree}
+use Rattle.sql_query.specs.Exprs.{ExprTree}
 use Rattle.sql_names.specs.Kinds.{names_in, too_many_tables, table_missing, no_table, no_column, ambiguous, bad_aggregate, key_wrong, mentioned_wrong, has_aggregate, has_keys, is_grouped, having_wrong}
 use Rattle.sql_names.specs.Least.{lesser, least}
-use Rattle.sql_names.specs.Mentions.{mentions_of_select, mentions_of_option, mentions_of_items, mentions_of_sources, mentions_of_keys, mentions_of_having, mentions_of_terms}
+use Rattle.sql_scope.specs.Mentions.{mentions_of_select, mentions_of_option, mentions_of_items, mentions_of_sources, mentions_of_keys, mentions_of_having, mentions_of_terms}
 use Rattle.sql_names.specs.Resolve.{names_within, names_of_select, fault_of, fault_among, fault_within, name_fault, unless_fault, resolved}
-use Rattle.sql_names.specs.Resolved.{ResultTree, OrderTree, QueryTree, source_trees, result_tree, key_exprs, orders, having_tree, query_tree, query_of}
+use Rattle.sql_query.specs.Resolved.{ResultTree, OrderTree, QueryTree, query_of}
+use Rattle.sql_names.specs.Making.{source_trees, result_tree, key_exprs, orders, having_tree, query_tree}
 use Rattle.sql_names.specs.Results.{condition}
-use Rattle.sql_names.specs.Scope.{scope_of, or_else, columns_seen}
-use Rattle.sql_names.specs.Shown.{ShownTree, Names}
-use Rattle.sql_names.specs.Standing.{Stands, StandAll, IsOfCatalogue, columns_in, IsStanding}
-use Rattle.sql_names.specs.Texts.{query_unless, query_in}
+use Rattle.sql_scope.specs.Scope.{scope_of, or_else, columns_seen}
+use Rattle.sql_scope.specs.Shown.{ShownTree, Names}
+use Rattle.sql_query.specs.Standing.{Stands, StandAll, IsOfCatalogue, columns_in, IsStanding}
 use Rattle.sql_names.proofs.Places.{AreSeen, all_seen, seen_up_to}
 use Rattle.sql_names.proofs.Fines.{AreFine, lesser_left, lesser_right, fine_all, fine_left, fine_right}
 use Rattle.sql_names.proofs.Standings.{AreShown, reads_columns, reads_shown}
@@ -152,12 +150,3 @@ resolved_stands text select query is = stands_unless (name_fault text select) (q
 pub result_stands : (text : List ℕ) (select : SelectTree) (result : Result Query NameError) → IfOk result (λ (q : Query). resolved text select ≡ Some (query_of q)) → IfOk result (λ (q : Query). IsStanding (query_of q))
 result_stands text select (Ok q) is = resolved_stands text select (query_of q) is
 result_stands text select (Err error) is = tt
-
-query_by : (fault : Option ParseError) (text : List ℕ) (select : Option SelectTree) (query : QueryTree) → query_unless fault text select ≡ Some query → IsStanding query
-query_by (Some fault) text select query is = absurd (none-some query is)
-query_by None text None query is = absurd (none-some query is)
-query_by None text (Some select) query is = resolved_stands text select query is
-
-pub query_stands : (text : List ℕ) (query : QueryTree) → query_in text ≡ Some query → IsStanding query
-unfolding query_in
-query_stands text query is = query_by (select_fault text) text (select_of_text text) query is

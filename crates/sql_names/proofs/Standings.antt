@@ -4,27 +4,27 @@ use Rattle.std.specs.Prelude.{slice_get, ◌||◌, if◌then◌else◌}
 use Rattle.std.specs.Option.{option_map_or}
 use Rattle.osq_value.specs.declared.value.Value.{Value}
 use Rattle.osq_value.specs.declared.value.Value.TheVariants.{Text}
-use Rattle.sql_parser.specs.declared.tree.Name.{Name}
-use Rattle.sql_parser.specs.declared.token.Fold.{Fold}
-use Rattle.sql_parser.specs.Tree.{Tree, OneStep, Steps, Trees}
-use Rattle.sql_parser.specs.Tree as tree
-use Rattle.sql_names.specs.declared.mention.Clause.{Clause}
-use Rattle.sql_names.specs.declared.mention.Mentioned.TheVariants as mentioned
-use Rattle.sql_names.specs.declared.naming.Meaning.{Meaning}
-use Rattle.sql_names.specs.declared.naming.Meaning.TheVariants as meaning
-use Rattle.sql_names.specs.declared.naming.Rule.{Rule}
-use Rattle.sql_names.specs.declared.naming.Rule.TheVariants as rule
-use Rattle.sql_names.specs.declared.query.SourceColumn.{SourceColumn}
-use Rattle.sql_names.specs.declared.scope.Place.{Place}
-use Rattle.sql_names.specs.declared.scope.Seen.{Seen}
-use Rattle.sql_names.specs.Exprs.{literal}
+use Rattle.sql_tree.specs.declared.tree.Name.{Name}
+use Rattle.sql_tree.specs.declared.functions.Fold.{Fold}
+use Rattle.sql_tree.specs.Tree.{Tree, OneStep, Steps, Trees}
+use Rattle.sql_tree.specs.Tree as tree
+use Rattle.sql_scope.specs.declared.mention.Clause.{Clause}
+use Rattle.sql_scope.specs.declared.mention.Mentioned.TheVariants as mentioned
+use Rattle.sql_scope.specs.declared.naming.Meaning.{Meaning}
+use Rattle.sql_scope.specs.declared.naming.Meaning.TheVariants as meaning
+use Rattle.sql_scope.specs.declared.naming.Rule.{Rule}
+use Rattle.sql_scope.specs.declared.naming.Rule.TheVariants as rule
+use Rattle.sql_query.specs.declared.query.SourceColumn.{SourceColumn}
+use Rattle.sql_query.specs.declared.place.Place.{Place}
+use Rattle.sql_scope.specs.declared.scope.Seen.{Seen}
+use Rattle.sql_query.specs.Exprs.{literal}
 use Rattle.sql_names.specs.Kinds.{forbids, names_in, seen_from, aggregate_at, aggregate_meant}
-use Rattle.sql_names.specs.Mentions.{mentions, mentions_of_step, mentions_of_steps, mentions_of_trees}
-use Rattle.sql_names.specs.Naming.{meaning_by, meaning_of, alias_from, place_or_word, shown_expr, meant, named, expr_of, expr_step_of, expr_steps_of, exprs_of}
-use Rattle.sql_names.specs.Scope.{plain_place, known_place}
-use Rattle.sql_names.specs.Shown.{ShownTree, Names}
-use Rattle.sql_names.specs.Spelling.{name_text}
-use Rattle.sql_names.specs.Standing.{Stands, StepStands, StepsStand, ExprsStand}
+use Rattle.sql_scope.specs.Mentions.{mentions, mentions_of_step, mentions_of_steps, mentions_of_trees}
+use Rattle.sql_scope.specs.Naming.{meaning_by, meaning_of, alias_from, place_or_word, shown_expr, meant, named, expr_of, expr_step_of, expr_steps_of, exprs_of}
+use Rattle.sql_scope.specs.Scope.{plain_place, known_place}
+use Rattle.sql_scope.specs.Shown.{ShownTree, Names}
+use Rattle.sql_scope.specs.Spelling.{name_text}
+use Rattle.sql_query.specs.Standing.{Stands, StepStands, StepsStand, ExprsStand}
 use Rattle.sql_names.proofs.Places.{AreSeen, IsPlace, plain_place_is, known_place_is}
 use Rattle.sql_names.proofs.Fines.{IsFine, AreFine, fine_left, fine_right}
 

@@ -1,25 +1,25 @@
 -- Columns outside every aggregate and every expression of GROUP BY, beside MIN or MAX.
 use Rattle.std.specs.Prelude.{ℕ, ◌&&◌, Bool, true, false, not, if◌then◌else◌, List, [], ◌∷◌, map, Option, Some, None}
-use Rattle.sql_parser.specs.declared.token.Fold.{Fold}
-use Rattle.sql_parser.specs.declared.token.Fold.TheVariants as fold
-use Rattle.sql_parser.specs.declared.tree.Name.{Name}
-use Rattle.sql_parser.specs.Tree.{Tree, OneStep, Steps, Trees}
-use Rattle.sql_parser.specs.Tree as tree
-use Rattle.sql_parser.specs.Select.{ItemTree, HavingTree, TermTree, SelectTree, all, all_of, one}
-use Rattle.sql_names.specs.declared.mention.Clause.TheVariants as clause
-use Rattle.sql_names.specs.declared.mention.Mentioned.{Mentioned}
-use Rattle.sql_names.specs.declared.mention.Mentioned.TheVariants as mentioned
-use Rattle.sql_names.specs.declared.mention.Mention.{Mention}
-use Rattle.sql_names.specs.declared.naming.Meaning.{Meaning}
-use Rattle.sql_names.specs.declared.naming.Meaning.TheVariants as meaning
-use Rattle.sql_names.specs.Spelling.{name_text}
-use Rattle.sql_names.specs.Exprs.{ExprTree}
-use Rattle.sql_names.specs.Shown.{ShownTree, Names}
-use Rattle.sql_names.specs.Naming.{meaning_of, expr_of}
+use Rattle.sql_tree.specs.declared.functions.Fold.{Fold}
+use Rattle.sql_tree.specs.declared.functions.Fold.TheVariants as fold
+use Rattle.sql_tree.specs.declared.tree.Name.{Name}
+use Rattle.sql_tree.specs.Tree.{Tree, OneStep, Steps, Trees}
+use Rattle.sql_tree.specs.Tree as tree
+use Rattle.sql_tree.specs.Select.{ItemTree, HavingTree, TermTree, SelectTree, all, all_of, one}
+use Rattle.sql_scope.specs.declared.mention.Clause.TheVariants as clause
+use Rattle.sql_scope.specs.declared.mention.Mentioned.{Mentioned}
+use Rattle.sql_scope.specs.declared.mention.Mentioned.TheVariants as mentioned
+use Rattle.sql_scope.specs.declared.mention.Mention.{Mention}
+use Rattle.sql_scope.specs.declared.naming.Meaning.{Meaning}
+use Rattle.sql_scope.specs.declared.naming.Meaning.TheVariants as meaning
+use Rattle.sql_scope.specs.Spelling.{name_text}
+use Rattle.sql_query.specs.Exprs.{ExprTree}
+use Rattle.sql_scope.specs.Shown.{ShownTree, Names}
+use Rattle.sql_scope.specs.Naming.{meaning_of, expr_of}
 use Rattle.sql_names.specs.Results.{all_columns, known_columns}
 use Rattle.sql_names.specs.Kinds.{names_in, forbids, place_of}
 use Rattle.sql_names.specs.Least.{lesser, least}
-use Rattle.sql_names.specs.Same.{same_expr}
+use Rattle.sql_query.specs.Same.{same_expr}
 
 -- the expression is one of GROUP BY
 abbrev pub is_key : List ExprTree → ExprTree → Bool

@@ -2,25 +2,25 @@
 use Rattle.std.specs.Prelude.{ℕ, ◌+◌, ◌&&◌, ◌||◌, Bool, true, false, not, if◌then◌else◌, nat_lt, List, [], ◌∷◌, length, take, map, Option, Some, None, slice_get}
 use Rattle.std.specs.Option.{option_map_or}
 use Rattle.osq_value.specs.Catalogue.{id_of}
-use Rattle.sql_parser.specs.declared.tree.Name.{Name}
-use Rattle.sql_parser.specs.Tree.{Tree}
-use Rattle.sql_parser.specs.Select.{ItemTree, RefTree, HavingTree, TermTree, SelectTree, all, all_of, one}
-use Rattle.sql_names.specs.declared.mention.Clause.{Clause}
-use Rattle.sql_names.specs.declared.mention.Clause.TheVariants as clause
-use Rattle.sql_names.specs.declared.mention.Mentioned.{Mentioned}
-use Rattle.sql_names.specs.declared.mention.Mentioned.TheVariants as mentioned
-use Rattle.sql_names.specs.declared.mention.Mention.{Mention}
-use Rattle.sql_names.specs.declared.naming.Rule.{Rule}
-use Rattle.sql_names.specs.declared.naming.Rule.TheVariants as rule
-use Rattle.sql_names.specs.declared.naming.Meaning.{Meaning}
-use Rattle.sql_names.specs.declared.naming.Meaning.TheVariants as meaning
-use Rattle.sql_names.specs.declared.scope.Seen.{Seen}
-use Rattle.sql_names.specs.Spelling.{name_text}
-use Rattle.sql_names.specs.Scope.{is_known, is_some, plain_place, known_place, place_in, owners}
-use Rattle.sql_names.specs.Shown.{ShownTree, Names}
-use Rattle.sql_names.specs.Naming.{meaning_of}
+use Rattle.sql_tree.specs.declared.tree.Name.{Name}
+use Rattle.sql_tree.specs.Tree.{Tree}
+use Rattle.sql_tree.specs.Select.{ItemTree, RefTree, HavingTree, TermTree, SelectTree, all, all_of, one}
+use Rattle.sql_scope.specs.declared.mention.Clause.{Clause}
+use Rattle.sql_scope.specs.declared.mention.Clause.TheVariants as clause
+use Rattle.sql_scope.specs.declared.mention.Mentioned.{Mentioned}
+use Rattle.sql_scope.specs.declared.mention.Mentioned.TheVariants as mentioned
+use Rattle.sql_scope.specs.declared.mention.Mention.{Mention}
+use Rattle.sql_scope.specs.declared.naming.Rule.{Rule}
+use Rattle.sql_scope.specs.declared.naming.Rule.TheVariants as rule
+use Rattle.sql_scope.specs.declared.naming.Meaning.{Meaning}
+use Rattle.sql_scope.specs.declared.naming.Meaning.TheVariants as meaning
+use Rattle.sql_scope.specs.declared.scope.Seen.{Seen}
+use Rattle.sql_scope.specs.Spelling.{name_text}
+use Rattle.sql_scope.specs.Scope.{is_known, is_some, plain_place, known_place, place_in, owners}
+use Rattle.sql_scope.specs.Shown.{ShownTree, Names}
+use Rattle.sql_scope.specs.Naming.{meaning_of}
 use Rattle.sql_names.specs.declared.results.Numbered.{Numbered}
-use Rattle.sql_names.specs.declared.scope.Place.{Place}
+use Rattle.sql_query.specs.declared.place.Place.{Place}
 use Rattle.sql_names.specs.Results.{numbered, index_in}
 use Rattle.sql_names.specs.Least.{lesser, least}
 

@@ -1,20 +1,21 @@
 -- The first kind of fault that a select's names have, and else the query that the select stands for.
 use Rattle.std.specs.Prelude.{ℕ, List, [], Option, Some, None}
-use Rattle.sql_parser.specs.Select.{SelectTree}
+use Rattle.sql_tree.specs.Select.{SelectTree}
 use Rattle.sql_names.specs.declared.error.NameError.{NameError}
 use Rattle.sql_names.specs.declared.error.NameKind.{NameKind}
 use Rattle.sql_names.specs.declared.error.NameKind.TheVariants as kind
-use Rattle.sql_names.specs.declared.mention.Mention.{Mention}
-use Rattle.sql_names.specs.declared.naming.Rule.TheVariants as rule
-use Rattle.sql_names.specs.declared.scope.Seen.{Seen}
-use Rattle.sql_names.specs.Exprs.{ExprTree}
-use Rattle.sql_names.specs.Scope.{scope_of, or_else}
-use Rattle.sql_names.specs.Mentions.{mentions_of_select}
-use Rattle.sql_names.specs.Shown.{ShownTree, Names}
+use Rattle.sql_scope.specs.declared.mention.Mention.{Mention}
+use Rattle.sql_scope.specs.declared.naming.Rule.TheVariants as rule
+use Rattle.sql_scope.specs.declared.scope.Seen.{Seen}
+use Rattle.sql_query.specs.Exprs.{ExprTree}
+use Rattle.sql_scope.specs.Scope.{scope_of, or_else}
+use Rattle.sql_scope.specs.Mentions.{mentions_of_select}
+use Rattle.sql_scope.specs.Shown.{ShownTree, Names}
 use Rattle.sql_names.specs.Results.{results}
 use Rattle.sql_names.specs.Kinds.{too_many_tables, no_table, no_column, ambiguous, bad_aggregate}
 use Rattle.sql_names.specs.Bare.{bare_column_of}
-use Rattle.sql_names.specs.Resolved.{QueryTree, key_exprs, query_tree}
+use Rattle.sql_query.specs.Resolved.{QueryTree}
+use Rattle.sql_names.specs.Making.{key_exprs, query_tree}
 
 -- the names of a whole select, by its tables and the columns of its result
 abbrev pub whole_names : List ℕ → List Seen → List ShownTree → Names

@@ -2,28 +2,28 @@
 use Rattle.std.specs.Prelude.{ℕ, ℤ, pos, negsuc, ◌+◌, ◌-◌, ◌&&◌, Bool, true, false, if◌then◌else◌, nat_le, List, [], ◌∷◌, ◌++◌, length, map, Option, Some, None, slice_get}
 use Rattle.std.specs.Option.{option_map_or}
 use Rattle.osq_value.specs.declared.value.Value.TheVariants as value
-use Rattle.sql_parser.specs.declared.token.Span.{Span}
-use Rattle.sql_parser.specs.declared.tree.Name.{Name}
-use Rattle.sql_parser.specs.declared.tree.Operator.{Operator}
-use Rattle.sql_parser.specs.declared.tree.Operator.TheVariants as operator
-use Rattle.sql_parser.specs.Tree.{Tree, OneStep, Steps, Trees}
-use Rattle.sql_parser.specs.Tree as tree
-use Rattle.sql_parser.specs.Select.{ItemTree, all, all_of, one}
-use Rattle.sql_names.specs.declared.mention.Clause.TheVariants as clause
-use Rattle.sql_names.specs.declared.mention.Mentioned.{Mentioned}
-use Rattle.sql_names.specs.declared.mention.Mentioned.TheVariants as mentioned
-use Rattle.sql_names.specs.declared.mention.Mention.{Mention}
-use Rattle.sql_names.specs.declared.query.SourceColumn.{SourceColumn}
+use Rattle.sql_tree.specs.declared.span.Span.{Span}
+use Rattle.sql_tree.specs.declared.tree.Name.{Name}
+use Rattle.sql_tree.specs.declared.tree.Operator.{Operator}
+use Rattle.sql_tree.specs.declared.tree.Operator.TheVariants as operator
+use Rattle.sql_tree.specs.Tree.{Tree, OneStep, Steps, Trees}
+use Rattle.sql_tree.specs.Tree as tree
+use Rattle.sql_tree.specs.Select.{ItemTree, all, all_of, one}
+use Rattle.sql_scope.specs.declared.mention.Clause.TheVariants as clause
+use Rattle.sql_scope.specs.declared.mention.Mentioned.{Mentioned}
+use Rattle.sql_scope.specs.declared.mention.Mentioned.TheVariants as mentioned
+use Rattle.sql_scope.specs.declared.mention.Mention.{Mention}
+use Rattle.sql_query.specs.declared.query.SourceColumn.{SourceColumn}
 use Rattle.sql_names.specs.declared.results.Numbered.{Numbered}
-use Rattle.sql_names.specs.declared.scope.Place.{Place}
-use Rattle.sql_names.specs.declared.scope.Seen.{Seen}
-use Rattle.sql_names.specs.Spelling.{name_text, span_text, same_name}
-use Rattle.sql_names.specs.Scope.{is_some, is_listed, plain_place, known_place}
-use Rattle.sql_names.specs.Mentions.{mentions}
-use Rattle.sql_names.specs.Exprs.{ExprTree}
-use Rattle.sql_names.specs.Exprs as expr
-use Rattle.sql_names.specs.Shown.{ShownTree, Names}
-use Rattle.sql_names.specs.Naming.{expr_of}
+use Rattle.sql_query.specs.declared.place.Place.{Place}
+use Rattle.sql_scope.specs.declared.scope.Seen.{Seen}
+use Rattle.sql_scope.specs.Spelling.{name_text, span_text, same_name}
+use Rattle.sql_scope.specs.Scope.{is_some, is_listed, plain_place, known_place}
+use Rattle.sql_scope.specs.Mentions.{mentions}
+use Rattle.sql_query.specs.Exprs.{ExprTree}
+use Rattle.sql_query.specs.Exprs as expr
+use Rattle.sql_scope.specs.Shown.{ShownTree, Names}
+use Rattle.sql_scope.specs.Naming.{expr_of}
 use Rattle.sql_names.specs.Least.{least}
 
 -- a column of a table, which is the table's column of that number

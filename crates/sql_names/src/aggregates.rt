@@ -1,22 +1,22 @@
 //! Aggregates where none may stand.
 
 ghost use Rattle.std.specs.Prelude.{◌≡◌, None, map, option_map, length, IfOk};
-ghost use Rattle.sql_parser.specs.View.{tree_of};
-ghost use Rattle.sql_parser.specs.Select.{having_of, select_of};
-ghost use Rattle.sql_names.specs.declared.mention.Mentioned.TheVariants.{Column as mentioned_column};
+ghost use Rattle.sql_tree.specs.View.{tree_of};
+ghost use Rattle.sql_tree.specs.Select.{having_of, select_of};
+ghost use Rattle.sql_scope.specs.declared.mention.Mentioned.TheVariants.{Column as mentioned_column};
 ghost use Rattle.sql_names.specs.Kinds.{forbids as is_forbidden_in, aggregate_at as aggregate_shown, aggregate_meant as meant_aggregate, mentioned_aggregate as aggregate_mentioned, mentioned_wrong as wrong_mention, key_wrong as wrong_key, is_aggregate as is_an_aggregate, has_aggregate as has_an_aggregate, is_grouped as grouped_by, having_wrong as wrong_having, bad_aggregate as least_aggregate};
 ghost use Rattle.sql_names.specs.Least.{least};
-ghost use Rattle.sql_names.specs.Scope.{AreNarrow};
-ghost use Rattle.sql_names.specs.Shown.{shown_of, names_of};
+ghost use Rattle.sql_scope.specs.Scope.{AreNarrow};
+ghost use Rattle.sql_scope.specs.Shown.{shown_of, names_of};
 
 use crate::faults::names_in;
-use crate::mention::{Clause, Mention, Mentioned};
-use crate::naming::{Meaning, Names, Shown, meaning_of};
 use crate::results::{index_in, lesser, number_term};
-use crate::spelling::name_text;
 use osq_value::NoMemory;
-use sql_parser::select::{Having, Select};
-use sql_parser::tree::{Name, Node};
+use sql_scope::mention::{Clause, Mention, Mentioned};
+use sql_scope::naming::{Meaning, Names, Shown, meaning_of};
+use sql_scope::spelling::name_text;
+use sql_tree::select::{Having, Select};
+use sql_tree::tree::{Name, Node};
 use std::alloc::Global;
 
 /// Whether no aggregate may stand in a clause.

@@ -1,30 +1,30 @@
 //! Columns outside every aggregate and every expression of GROUP BY, beside MIN or MAX.
 
 ghost use Rattle.std.specs.Prelude.{◌≡◌, Some, map, option_map, IfOk};
-ghost use Rattle.sql_parser.specs.View.{tree_of, step_of, steps_of, trees_of};
-ghost use Rattle.sql_parser.specs.Select.{item_of, having_of, term_of, select_of};
+ghost use Rattle.sql_tree.specs.View.{tree_of, step_of, steps_of, trees_of};
+ghost use Rattle.sql_tree.specs.Select.{item_of, having_of, term_of, select_of};
 ghost use Rattle.sql_names.specs.Bare.{is_key as is_a_key, unless as only_unless, bare_meaning as meaning_bare, bare_column as column_bare, bare, bare_step as step_bare, bare_steps as steps_bare, bare_trees as trees_bare, are_keys as are_all_keys, item_bare as bare_item, having_bare as bare_having, term_bare as bare_term, is_extreme_fold as is_extreme_of, is_extreme as is_an_extreme, has_extreme as has_an_extreme, bare_in as least_bare_in, bare_column_of as least_bare};
 ghost use Rattle.sql_names.specs.Kinds.{names_in as names_for};
 ghost use Rattle.sql_names.specs.Least.{least};
-ghost use Rattle.sql_names.specs.Naming.{expr_of as expr_among};
-ghost use Rattle.sql_names.specs.Scope.{AreNarrow};
-ghost use Rattle.sql_names.specs.Shown.{shown_of, names_of};
-ghost use Rattle.sql_names.specs.View.{expr_of};
+ghost use Rattle.sql_scope.specs.Naming.{expr_of as expr_among};
+ghost use Rattle.sql_scope.specs.Scope.{AreNarrow};
+ghost use Rattle.sql_scope.specs.Shown.{shown_of, names_of};
+ghost use Rattle.sql_query.specs.View.{expr_of};
 
 use crate::aggregates::forbids;
-use crate::expression::resolve_node;
 use crate::faults::names_in;
-use crate::mention::{Clause, Mention, Mentioned};
-use crate::naming::{Meaning, Names, Shown, meaning_of};
-use crate::query::ExprList;
 use crate::results::{lesser, push_all, push_known};
-use crate::same::is_one_expr;
-use crate::spelling::name_text;
-use crate::tree::Expr;
 use osq_value::NoMemory;
-use sql_parser::select::{Having, Item, Select, Term};
-use sql_parser::token::Fold;
-use sql_parser::tree::{Name, Node, Step};
+use sql_query::query::ExprList;
+use sql_query::same::is_one_expr;
+use sql_query::tree::Expr;
+use sql_scope::expression::resolve_node;
+use sql_scope::mention::{Clause, Mention, Mentioned};
+use sql_scope::naming::{Meaning, Names, Shown, meaning_of};
+use sql_scope::spelling::name_text;
+use sql_tree::functions::Fold;
+use sql_tree::select::{Having, Item, Select, Term};
+use sql_tree::tree::{Name, Node, Step};
 use std::alloc::Global;
 
 /// Whether an expression is one of GROUP BY.
@@ -92,54 +92,24 @@ fn bare_node(
     requires { AreNarrow names.now.scope.now }
     ensures { IfOk result (λ place. place ≡ bare (names_of names.now) (map expr_of keys.now) (tree_of node.now)) }
 {
+    if is_key_node(alloc, names, keys, node)? {
+        return Ok(None);
+    }
     match node {
         Node::Number { .. } => Ok(None),
         Node::Text { .. } => Ok(None),
         Node::Null => Ok(None),
-        Node::Column { table, column } => {
-            if is_key_node(alloc, names, keys, node)? {
-                return Ok(None);
-            }
-            bare_column(alloc, names, *table, *column)
-        }
+        Node::Column { table, column } => bare_column(alloc, names, *table, *column),
         Node::Chain { first, steps } => {
-            if is_key_node(alloc, names, keys, node)? {
-                return Ok(None);
-            }
             let of_first = bare_node(alloc, names, keys, first)?;
             let of_steps = bare_steps(alloc, names, keys, steps)?;
             Ok(lesser(of_first, of_steps))
         }
-        Node::Negation { inner } => {
-            if is_key_node(alloc, names, keys, node)? {
-                return Ok(None);
-            }
-            bare_node(alloc, names, keys, inner)
-        }
-        Node::Minus { inner } => {
-            if is_key_node(alloc, names, keys, node)? {
-                return Ok(None);
-            }
-            bare_node(alloc, names, keys, inner)
-        }
-        Node::Plus { inner } => {
-            if is_key_node(alloc, names, keys, node)? {
-                return Ok(None);
-            }
-            bare_node(alloc, names, keys, inner)
-        }
-        Node::Cast { inner, .. } => {
-            if is_key_node(alloc, names, keys, node)? {
-                return Ok(None);
-            }
-            bare_node(alloc, names, keys, inner)
-        }
-        Node::Call { arguments, .. } => {
-            if is_key_node(alloc, names, keys, node)? {
-                return Ok(None);
-            }
-            bare_nodes(alloc, names, keys, arguments)
-        }
+        Node::Negation { inner } => bare_node(alloc, names, keys, inner),
+        Node::Minus { inner } => bare_node(alloc, names, keys, inner),
+        Node::Plus { inner } => bare_node(alloc, names, keys, inner),
+        Node::Cast { inner, .. } => bare_node(alloc, names, keys, inner),
+        Node::Call { arguments, .. } => bare_nodes(alloc, names, keys, arguments),
         Node::Folded { argument, .. } => match argument {
             None => Ok(None),
             Some(_) => Ok(None),

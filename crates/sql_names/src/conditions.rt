@@ -1,18 +1,18 @@
 //! Conditions by their conjuncts.
 
 ghost use Rattle.std.specs.Prelude.{◌≡◌, ◌++◌, ◌&&◌, [], ◌∷◌, map, option_map, IfOk, OnOk};
-ghost use Rattle.sql_parser.specs.View.{tree_of, step_of, steps_of};
-ghost use Rattle.sql_names.specs.Naming.{expr_of as expr_among};
+ghost use Rattle.sql_tree.specs.View.{tree_of, step_of, steps_of};
+ghost use Rattle.sql_scope.specs.Naming.{expr_of as expr_among};
 ghost use Rattle.sql_names.specs.Results.{is_and as is_the_and, is_and_step as is_step_and, are_ands as are_steps_ands, right_of, rights_of, conjuncts, condition as condition_by};
-ghost use Rattle.sql_names.specs.Scope.{AreNarrow};
-ghost use Rattle.sql_names.specs.Shown.{names_of};
-ghost use Rattle.sql_names.specs.View.{expr_of};
+ghost use Rattle.sql_scope.specs.Scope.{AreNarrow};
+ghost use Rattle.sql_scope.specs.Shown.{names_of};
+ghost use Rattle.sql_query.specs.View.{expr_of};
 
-use crate::expression::resolve_node;
-use crate::naming::Names;
-use crate::tree::Expr;
 use osq_value::NoMemory;
-use sql_parser::tree::{Node, Operator, Step};
+use sql_query::tree::Expr;
+use sql_scope::expression::resolve_node;
+use sql_scope::naming::Names;
+use sql_tree::tree::{Node, Operator, Step};
 use std::alloc::Global;
 
 fn is_and(op: Operator) -> bool

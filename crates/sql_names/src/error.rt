@@ -7,7 +7,7 @@ use osq_value::NoMemory;
 use std::alloc::AllocError;
 
 /// What is wrong with the names of a text. The kinds stand in the order in which they are tried.
-#[derive(Clone, Copy, Debug, PartialEq, Eq)]
+#[derive(Clone, Copy)]
 pub enum NameKind {
     /// FROM has a 17th table.
     TooManyTables,
@@ -26,7 +26,7 @@ pub enum NameKind {
 }
 
 /// The first kind of fault of a text, with that kind's least byte place.
-#[derive(Clone, Copy, Debug, PartialEq, Eq)]
+#[derive(Clone, Copy)]
 pub struct NameError {
     pub place: usize,
     pub kind: NameKind,

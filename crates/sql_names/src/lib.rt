@@ -1,23 +1,17 @@
-//! The names of a query: which table and column each of them is, and where one is at fault.
+//! The names of a SELECT: which table and column each of them is, and where one is at fault.
 #![tactic(auto)]
 
 mod aggregates;
-pub mod answers;
 mod bare;
 mod conditions;
-pub mod copy;
 pub mod error;
-mod expression;
 mod faults;
 mod making;
-pub mod mention;
-pub mod naming;
-pub mod query;
 pub mod resolve;
 pub mod results;
-mod same;
-pub mod scope;
-mod spelling;
-mod tables;
-pub mod text;
-pub mod tree;
+
+pub use sql_query::query::{
+    Condition, ExprList, Order, OrderList, Query, QueryItem, QueryItemList, QuerySource,
+    QuerySourceList, SourceColumn, SourceColumnList,
+};
+pub use sql_query::tree::{Aggregate, Expr, ExprStep};

@@ -2,39 +2,41 @@
 
 ghost use Rattle.std.specs.Prelude.{◌≡◌, ◌++◌, ◌+◌, ◌<◌, ◌^◌, [], ◌∷◌, map, take, length, option_map, IfOk, OnOk};
 ghost use Rattle.osq_value.specs.Catalogue.{table_name as name_of_table};
-ghost use Rattle.sql_parser.specs.View.{tree_of};
-ghost use Rattle.sql_parser.specs.Select.{ref_of, having_of, term_of, select_of};
-ghost use Rattle.sql_parser.specs.declared.tree.Operator.TheVariants.{Equal as EqualSign};
-ghost use Rattle.sql_names.specs.Exprs.{chain as chain_tree, then as then_step, no_steps as no_expr_steps, binary as binary_step};
-ghost use Rattle.sql_names.specs.declared.mention.Clause.TheVariants.{Where as WhereClause};
+ghost use Rattle.sql_tree.specs.View.{tree_of};
+ghost use Rattle.sql_tree.specs.Select.{ref_of, having_of, term_of, select_of};
+ghost use Rattle.sql_tree.specs.declared.tree.Operator.TheVariants.{Equal as EqualSign};
+ghost use Rattle.sql_query.specs.Exprs.{chain as chain_tree, then as then_step, no_steps as no_expr_steps, binary as binary_step};
+ghost use Rattle.sql_scope.specs.declared.mention.Clause.TheVariants.{Where as WhereClause};
 ghost use Rattle.sql_names.specs.Kinds.{names_in as names_for};
-ghost use Rattle.sql_names.specs.Naming.{place_or_word as placed_or_word};
+ghost use Rattle.sql_scope.specs.Naming.{place_or_word as placed_or_word};
 ghost use Rattle.sql_names.specs.Results.{numbered_expr as expr_numbered, term_expr as expr_of_term, condition as condition_by};
-ghost use Rattle.sql_names.specs.Resolved.{equality as equality_of, joined_name as equality_named, source_alias as alias_of_source, join_exprs, source_tree, source_trees, result_of, result_tree, order_of, orders, key_exprs, having_tree, source_of, query_of, query_tree};
+ghost use Rattle.sql_names.specs.Making.{equality as equality_of, joined_name as equality_named, source_alias as alias_of_source, join_exprs, source_tree, source_trees, result_tree, orders, key_exprs, having_tree, query_tree};
+ghost use Rattle.sql_query.specs.Resolved.{result_of, order_of, source_of, query_of};
 ghost use Rattle.sql_names.specs.Resolve.{whole_names};
-ghost use Rattle.sql_names.specs.Scope.{AreNarrow};
-ghost use Rattle.sql_names.specs.Shown.{shown_of, names_of};
-ghost use Rattle.sql_names.specs.View.{expr_of};
+ghost use Rattle.sql_scope.specs.Scope.{AreNarrow};
+ghost use Rattle.sql_scope.specs.Shown.{shown_of, names_of};
+ghost use Rattle.sql_query.specs.View.{expr_of};
 
 use crate::aggregates::is_grouped;
 use crate::conditions::{condition, whole_condition};
-use crate::copy::copy_expr;
-use crate::expression::resolve_node;
 use crate::faults::{names_in, place_at, place_before};
-use crate::mention::{Clause, Mention};
-use crate::naming::{Names, Rule, Shown, column_at, word};
-use crate::query::{
+use crate::results::{index_in, number_term};
+use osq_value::{NoMemory, Sequence, Str, TableId, Value, table_desc};
+use sql_query::copy::copy_expr;
+use sql_query::place::Place;
+use sql_query::query::{
     Condition, ExprList, Order, OrderList, Query, QueryItem, QueryItemList, QuerySource,
     QuerySourceList,
 };
-use crate::results::{index_in, number_term};
-use crate::scope::{Place, Seen};
-use crate::spelling::name_text;
-use crate::tables::{columns_seen, table_number};
-use crate::tree::{Expr, ExprStep};
-use osq_value::{NoMemory, Sequence, Str, TableId, Value, table_desc};
-use sql_parser::select::{Having, Select, TableRef, Term};
-use sql_parser::tree::{Name, Node, Operator};
+use sql_query::tree::{Expr, ExprStep};
+use sql_scope::expression::resolve_node;
+use sql_scope::mention::{Clause, Mention};
+use sql_scope::naming::{Names, Rule, Shown, column_at, word};
+use sql_scope::scope::Seen;
+use sql_scope::spelling::name_text;
+use sql_scope::tables::{columns_seen, table_number};
+use sql_tree::select::{Having, Select, TableRef, Term};
+use sql_tree::tree::{Name, Node, Operator};
 use std::alloc::Global;
 
 /// A column, or the word itself as a text.
@@ -154,9 +156,7 @@ fn source(
         alias: source_alias(alloc, names.text, table, source.alias)?,
         columns: columns_seen(alloc, table)?,
         is_outer: source.is_outer,
-        on: Condition {
-            parts: Sequence::from_vec(on),
-        },
+        on: Condition::of(on),
     })
 }
 
@@ -297,14 +297,10 @@ pub(crate) fn query_of_select(
     let is_grouped = is_grouped(select.keys.as_slice(), found);
     Ok(Query {
         sources: made,
-        filter: Condition {
-            parts: Sequence::from_vec(filter),
-        },
+        filter: Condition::of(filter),
         is_grouped,
         keys,
-        having: Condition {
-            parts: Sequence::from_vec(having),
-        },
+        having: Condition::of(having),
         items: items_of(alloc, shown)?,
         is_distinct: select.is_distinct,
         terms,

@@ -1,30 +1,31 @@
 //! Each name of a select for the table or the column that it is.
 
 ghost use Rattle.std.specs.Prelude.{◌≡◌, ◌≢◌, Some, None, Err, map, length, IfOk, OnOk, IfErr};
-ghost use Rattle.sql_parser.specs.View.{tree_of};
-ghost use Rattle.sql_parser.specs.Select.{select_of};
+ghost use Rattle.sql_tree.specs.View.{tree_of};
+ghost use Rattle.sql_tree.specs.Select.{select_of};
 ghost use Rattle.sql_names.specs.declared.error.NameKind.TheVariants.{NoMemory as WantOfMemory};
-ghost use Rattle.sql_names.specs.Mentions.{mentions_of_select};
+ghost use Rattle.sql_scope.specs.Mentions.{mentions_of_select};
 ghost use Rattle.sql_names.specs.Resolve.{fault_of as fault_at, fault_among, fault_within, name_fault, resolved, resolved_within, shown_in, names_within};
-ghost use Rattle.sql_names.specs.Resolved.{query_of, query_tree};
-ghost use Rattle.sql_names.specs.Scope.{AreNarrow};
-ghost use Rattle.sql_names.specs.Shown.{shown_of, names_of};
-ghost use Rattle.sql_names.specs.Standing.{IsStanding};
-ghost use Rattle.sql_names.specs.View.{expr_of};
+ghost use Rattle.sql_query.specs.Resolved.{query_of};
+ghost use Rattle.sql_names.specs.Making.{query_tree};
+ghost use Rattle.sql_scope.specs.Scope.{AreNarrow};
+ghost use Rattle.sql_scope.specs.Shown.{shown_of, names_of};
+ghost use Rattle.sql_query.specs.Standing.{IsStanding};
+ghost use Rattle.sql_query.specs.View.{expr_of};
 
 use crate::aggregates::bad_aggregate;
 use crate::bare::bare_column_of;
 use crate::error::{NameError, NameKind};
 use crate::faults::{ambiguous, no_column, no_table, too_many_tables};
 use crate::making::{keys_of, query_of_select};
-use crate::mention::{Mention, mentions_of};
-use crate::naming::{Names, Rule, Shown};
-use crate::query::{ExprList, Query};
 use crate::results::results_of;
-use crate::scope::Seen;
-use crate::tables::scope_of;
 use osq_value::NoMemory;
-use sql_parser::select::Select;
+use sql_query::query::{ExprList, Query};
+use sql_scope::mention::{Mention, mentions_of};
+use sql_scope::naming::{Names, Rule, Shown};
+use sql_scope::scope::Seen;
+use sql_scope::tables::scope_of;
+use sql_tree::select::Select;
 use std::alloc::Global;
 
 fn fault_of(kind: NameKind, place: Option<usize>) -> Option<NameError>

@@ -1,28 +1,29 @@
 //! The columns of the result, and what numbers stand for.
 
 ghost use Rattle.std.specs.Prelude.{◌≡◌, ◌++◌, ◌+◌, ◌<◌, ◌^◌, List, ◌∷◌, map, IfOk, OnOk};
-ghost use Rattle.sql_parser.specs.View.{tree_of};
-ghost use Rattle.sql_parser.specs.Select.{one, item_of};
+ghost use Rattle.sql_tree.specs.View.{tree_of};
+ghost use Rattle.sql_tree.specs.Select.{one, item_of};
 ghost use Rattle.sql_names.specs.Least.{least, lesser as lesser_of};
 ghost use Rattle.sql_names.specs.Results.{columns_from, all_columns, known_columns, column_name as name_of_column, column_place as place_of_column, tree_place, own_name as name_by, item_name as name_of_item, first_aggregate as aggregate_in, aggregate_place as place_of_aggregate, results_of_item, results as results_among, numbered as numbered_in, index_in as index_among};
-ghost use Rattle.sql_names.specs.Scope.{IsNarrow, AreNarrow};
-ghost use Rattle.sql_names.specs.Shown.{shown_of, names_of};
+ghost use Rattle.sql_scope.specs.Scope.{IsNarrow, AreNarrow};
+ghost use Rattle.sql_scope.specs.Shown.{shown_of, names_of};
 
-use crate::expression::resolve_node;
-use crate::mention::{Clause, Mention, Mentioned, whole_mentions};
-use crate::naming::{Names, Shown};
-use crate::query::SourceColumn;
-use crate::scope::{Place, Seen, is_listed, known_place, plain_place};
-use crate::spelling::{is_named, name_text, span_text};
-use crate::tree::Expr;
 use osq_value::{Copied, NoMemory, Str};
-use sql_parser::select::Item;
-use sql_parser::token::Span;
-use sql_parser::tree::{Name, Node};
+use sql_query::place::Place;
+use sql_query::query::SourceColumn;
+use sql_query::tree::Expr;
+use sql_scope::expression::resolve_node;
+use sql_scope::mention::{Clause, Mention, Mentioned, whole_mentions};
+use sql_scope::naming::{Names, Shown};
+use sql_scope::scope::{Seen, is_listed, known_place, plain_place};
+use sql_scope::spelling::{is_named, name_text, span_text};
+use sql_tree::select::Item;
+use sql_tree::span::Span;
+use sql_tree::tree::{Name, Node};
 use std::alloc::Global;
 
 /// An expression that is a number literal.
-#[derive(Clone, Copy, Debug, PartialEq, Eq)]
+#[derive(Clone, Copy)]
 pub struct Numbered {
     pub place: usize,
     pub value: i64,

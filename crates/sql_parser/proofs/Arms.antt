@@ -1,27 +1,27 @@
 -- The arms of the descent, over plain values.
 use Rattle.std.proofs.Common.{◌≡◌, ◌≢◌, ◌<◌, ◌≤◌, ◌+◌, ℕ, List, [], ◌∷◌, ◌++◌, true, false, Option, Some, None, Result, Ok, Err, refl, sym, ap, subst, ◌∙◌, append_assoc, inl, inr}
 use Rattle.std.proofs.lemmas.Bool.{le-ltb, lt-ltb, cases_lt}
-use Rattle.sql_parser.specs.declared.token.Token.{Token}
-use Rattle.sql_parser.specs.declared.token.Kind.{Kind}
-use Rattle.sql_parser.specs.declared.token.Kind.TheVariants as kind
-use Rattle.sql_parser.specs.declared.level.Level.{Level}
-use Rattle.sql_parser.specs.declared.level.Level.TheVariants as level
-use Rattle.sql_parser.specs.declared.level.Sign.{Sign}
-use Rattle.sql_parser.specs.declared.part.Part.{Part}
-use Rattle.sql_parser.specs.declared.part.Part.TheVariants.{One, Must, May}
-use Rattle.sql_parser.specs.declared.part.Expected.{Expected}
-use Rattle.sql_parser.specs.declared.part.Expected.TheVariants as expected
-use Rattle.sql_parser.specs.declared.part.Rule.{Rule}
-use Rattle.sql_parser.specs.declared.part.Rule.TheVariants as rule
-use Rattle.sql_parser.specs.declared.part.Optional.TheVariants as optional
+use Rattle.sql_tokens.specs.declared.token.Token.{Token}
+use Rattle.sql_tokens.specs.declared.token.Kind.{Kind}
+use Rattle.sql_tokens.specs.declared.token.Kind.TheVariants as kind
+use Rattle.sql_tokens.specs.declared.level.Level.{Level}
+use Rattle.sql_tokens.specs.declared.level.Level.TheVariants as level
+use Rattle.sql_tokens.specs.declared.level.Sign.{Sign}
+use Rattle.sql_faults.specs.declared.part.Part.{Part}
+use Rattle.sql_faults.specs.declared.part.Part.TheVariants.{One, Must, May}
+use Rattle.sql_faults.specs.declared.part.Expected.{Expected}
+use Rattle.sql_faults.specs.declared.part.Expected.TheVariants as expected
+use Rattle.sql_faults.specs.declared.part.Rule.{Rule}
+use Rattle.sql_faults.specs.declared.part.Rule.TheVariants as rule
+use Rattle.sql_faults.specs.declared.part.Optional.TheVariants as optional
 use Rattle.sql_parser.specs.declared.stop.Stop.{Stop}
 use Rattle.sql_parser.specs.declared.stop.Stop.TheVariants.{Refused, NoMemory}
-use Rattle.sql_parser.specs.declared.tree.Node.{Node}
-use Rattle.sql_parser.specs.Tokens.{next, after, is_all_of}
-use Rattle.sql_parser.specs.Tree.{Tree}
-use Rattle.sql_parser.specs.Levels.{sign_at}
+use Rattle.sql_tree.specs.declared.tree.Node.{Node}
+use Rattle.sql_tokens.specs.Tokens.{next, after, is_all_of}
+use Rattle.sql_tree.specs.Tree.{Tree}
+use Rattle.sql_tokens.specs.Levels.{sign_at}
 use Rattle.sql_parser.specs.Grammar.{Class, Spells}
-use Rattle.sql_parser.specs.Reading.{settled, deeper, later, alternative, fits, found, at_limit, operand_rule, further, step_by, behind, negated_by, signed_by, atom_by, equal_by, negatable_by, not_by, item_by, items_by, or_by, list_parts, between_parts, wide}
+use Rattle.sql_faults.specs.Reading.{settled, deeper, later, alternative, fits, found, at_limit, operand_rule, further, step_by, behind, negated_by, signed_by, atom_by, equal_by, negatable_by, not_by, item_by, items_by, or_by, list_parts, between_parts, wide}
 use Rattle.sql_parser.specs.Descent.{Leads, Fails, Reads, Refuses, Stopped, StoppedStep, Descends, ReadsStep, RefusesStep}
 use Rattle.sql_parser.proofs.Laws.{leads_on, leads_with, fails_with, fails_later, leads_rule, leads_same, leads_in, leads_past, leads_one, fails_one, fails_found, same_settled}
 

@@ -1,30 +1,30 @@
 -- Columns and calls.
 use Rattle.std.proofs.Common.{◌≡◌, ◌≢◌, ◌<◌, ◌≤◌, ◌+◌, ℕ, List, [], ◌∷◌, ◌++◌, Option, Some, None, Bool, true, false, cond, Result, Ok, Err, refl, sym, ap, subst, ◌∙◌, append_assoc}
-use Rattle.sql_parser.specs.declared.token.Token.{Token}
-use Rattle.sql_parser.specs.declared.token.Kind.{Kind}
-use Rattle.sql_parser.specs.declared.token.Kind.TheVariants as kind
-use Rattle.sql_parser.specs.declared.token.Word.{Word}
-use Rattle.sql_parser.specs.declared.token.Word.TheVariants as word
-use Rattle.sql_parser.specs.declared.token.Function.TheVariants as function
-use Rattle.sql_parser.specs.declared.level.Level.TheVariants as level
-use Rattle.sql_parser.specs.declared.part.Part.{Part}
-use Rattle.sql_parser.specs.declared.part.Part.TheVariants.{One, Must, May}
-use Rattle.sql_parser.specs.declared.part.Expected.TheVariants as expected
-use Rattle.sql_parser.specs.declared.part.Rule.TheVariants as rule
-use Rattle.sql_parser.specs.declared.part.Optional.TheVariants as optional
+use Rattle.sql_tokens.specs.declared.token.Token.{Token}
+use Rattle.sql_tokens.specs.declared.token.Kind.{Kind}
+use Rattle.sql_tokens.specs.declared.token.Kind.TheVariants as kind
+use Rattle.sql_tokens.specs.declared.token.Word.{Word}
+use Rattle.sql_tokens.specs.declared.token.Word.TheVariants as word
+use Rattle.sql_tree.specs.declared.functions.Function.TheVariants as function
+use Rattle.sql_tokens.specs.declared.level.Level.TheVariants as level
+use Rattle.sql_faults.specs.declared.part.Part.{Part}
+use Rattle.sql_faults.specs.declared.part.Part.TheVariants.{One, Must, May}
+use Rattle.sql_faults.specs.declared.part.Expected.TheVariants as expected
+use Rattle.sql_faults.specs.declared.part.Rule.TheVariants as rule
+use Rattle.sql_faults.specs.declared.part.Optional.TheVariants as optional
 use Rattle.sql_parser.specs.declared.stop.Stop.{Stop}
 use Rattle.sql_parser.specs.declared.stop.Stop.TheVariants.{Refused, NoMemory}
-use Rattle.sql_parser.specs.declared.tree.Node.{Node}
-use Rattle.sql_parser.specs.Tokens.{next, after}
-use Rattle.sql_parser.specs.Tree.{Tree, Trees, no_trees, and_tree}
-use Rattle.sql_parser.specs.Tree as tree
-use Rattle.sql_parser.specs.View.{tree_of}
-use Rattle.sql_parser.specs.Calls.{IsNamed, name_of, call_of, is_known, is_allowed, takes_shape, folds, folded_of, type_of}
-use Rattle.sql_parser.specs.declared.arguments.Shape.{Shape}
-use Rattle.sql_parser.specs.declared.arguments.Shape.TheVariants as shape
+use Rattle.sql_tree.specs.declared.tree.Node.{Node}
+use Rattle.sql_tokens.specs.Tokens.{next, after}
+use Rattle.sql_tree.specs.Tree.{Tree, Trees, no_trees, and_tree}
+use Rattle.sql_tree.specs.Tree as tree
+use Rattle.sql_tree.specs.View.{tree_of}
+use Rattle.sql_faults.specs.Calls.{IsNamed, name_of, call_of, is_known, is_allowed, takes_shape, folds, folded_of, type_of}
+use Rattle.sql_faults.specs.declared.arguments.Shape.{Shape}
+use Rattle.sql_faults.specs.declared.arguments.Shape.TheVariants as shape
 use Rattle.sql_parser.specs.Grammar.{chain, atom, Spells, SpellsArguments, FurtherArguments, a_column, a_table_column, a_call, a_cast, all_rows, distinct_arguments, plain_arguments, SpellsCounted, first_argument, last_argument, one_argument}
-use Rattle.sql_parser.specs.Reading.{settled, deeper, one_longer, untyped, type_fault, type_parts, fits, found, at_limit, name_fault, atom_by, name_by, arguments_by, after_argument_by, or_by}
-use Rattle.sql_parser.specs.Descent.{Leads, Fails, Stopped, IsRead, Descends, MemberRead, call_parts, CallDescends, counted_parts, CountedDescends, IsClosed, CloseDescends, CallAllowed, TypeNamed, IsType, IsCast, cast_parts, CastDescends}
+use Rattle.sql_faults.specs.Reading.{settled, deeper, one_longer, untyped, type_fault, type_parts, fits, found, at_limit, name_fault, atom_by, name_by, arguments_by, after_argument_by, or_by, cast_parts}
+use Rattle.sql_parser.specs.Descent.{Leads, Fails, Stopped, IsRead, Descends, MemberRead, call_parts, CallDescends, counted_parts, CountedDescends, IsClosed, CloseDescends, CallAllowed, TypeNamed, IsType, IsCast, CastDescends}
 use Rattle.sql_parser.proofs.Laws.{leads_on, leads_with, fails_with, fails_later, leads_rule, leads_in, leads_past, fails_one, fails_found, same_settled}
 use Rattle.sql_parser.proofs.Arms.{stopped_later, stopped_with, leads_take, below_limit, past_limit, deeper_is, leads_close, fails_close, open_misfit}
 use Rattle.sql_parser.proofs.Shorter.{named_no_end}

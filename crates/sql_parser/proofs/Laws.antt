@@ -1,18 +1,18 @@
 -- Laws of the reading, by which a descent is followed.
 use Rattle.std.proofs.Common.{◌≡◌, ◌≢◌, ℕ, List, [], ◌∷◌, ◌++◌, true, false, Option, Some, None, refl, sym, ap, subst, ◌∙◌, append_assoc}
-use Rattle.sql_parser.specs.declared.token.Token.{Token}
-use Rattle.sql_parser.specs.declared.error.ParseError.{ParseError}
-use Rattle.sql_parser.specs.declared.token.Kind.TheVariants as kind
-use Rattle.sql_parser.specs.declared.level.Level.{Level}
-use Rattle.sql_parser.specs.declared.level.Level.TheVariants as level
-use Rattle.sql_parser.specs.declared.part.Part.{Part}
-use Rattle.sql_parser.specs.declared.part.Part.TheVariants.{One, Must, May}
-use Rattle.sql_parser.specs.declared.part.Expected.{Expected}
-use Rattle.sql_parser.specs.declared.part.Rule.{Rule}
-use Rattle.sql_parser.specs.declared.part.Rule.TheVariants as rule
-use Rattle.sql_parser.specs.declared.part.Optional.{Optional}
-use Rattle.sql_parser.specs.Tokens.{next, after, end_token, is_all_of}
-use Rattle.sql_parser.specs.Reading.{faults, settled, taken, alternative, entered, fits, found, operand_rule, further, or_by, and_by, negated_by, equal_by, less_by, sum_by, product_by, joined_by, signed_by}
+use Rattle.sql_tokens.specs.declared.token.Token.{Token}
+use Rattle.sql_faults.specs.declared.error.ParseError.{ParseError}
+use Rattle.sql_tokens.specs.declared.token.Kind.TheVariants as kind
+use Rattle.sql_tokens.specs.declared.level.Level.{Level}
+use Rattle.sql_tokens.specs.declared.level.Level.TheVariants as level
+use Rattle.sql_faults.specs.declared.part.Part.{Part}
+use Rattle.sql_faults.specs.declared.part.Part.TheVariants.{One, Must, May}
+use Rattle.sql_faults.specs.declared.part.Expected.{Expected}
+use Rattle.sql_faults.specs.declared.part.Rule.{Rule}
+use Rattle.sql_faults.specs.declared.part.Rule.TheVariants as rule
+use Rattle.sql_faults.specs.declared.part.Optional.{Optional}
+use Rattle.sql_tokens.specs.Tokens.{next, after, end_token, is_all_of}
+use Rattle.sql_faults.specs.Reading.{faults, settled, taken, alternative, entered, fits, found, operand_rule, further, or_by, and_by, negated_by, equal_by, less_by, sum_by, product_by, joined_by, signed_by}
 use Rattle.sql_parser.specs.Descent.{Leads, Fails}
 
 -- ---- composition

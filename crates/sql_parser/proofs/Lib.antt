@@ -1,15 +1,10 @@
-pub mod Trees
 pub mod Laws
 pub mod Arms
 pub mod Shorter
 pub mod Read
-pub mod Stack
-pub mod Turn
 pub mod Whole
 pub mod Calls
 pub mod ReadSpelled
-pub mod Blanks
-pub mod Lexed
 pub mod SelectLists
 pub mod SelectArms
 pub mod Told

@@ -1,29 +1,29 @@
 -- The arms of the descent that read something: the tree is spelled, and the reading goes on.
 use Rattle.std.proofs.Common.{◌≡◌, ◌≢◌, ◌<◌, ◌≤◌, ◌+◌, ℕ, List, [], ◌∷◌, Option, Some, None, Bool, true, false, ℤ, Result, Ok, Err, IsTrue, is_some, refl, sym, ap, subst, ◌∙◌}
-use Rattle.sql_parser.specs.declared.token.Token.{Token}
-use Rattle.sql_parser.specs.declared.token.Kind.TheVariants as kind
-use Rattle.sql_parser.specs.declared.level.Level.{Level}
-use Rattle.sql_parser.specs.declared.level.Level.TheVariants as level
-use Rattle.sql_parser.specs.declared.level.Sign.{Sign}
-use Rattle.sql_parser.specs.declared.level.Sign.TheVariants as sign
-use Rattle.sql_parser.specs.declared.part.Part.TheVariants.{One, Must, May}
-use Rattle.sql_parser.specs.declared.part.Expected.TheVariants as expected
-use Rattle.sql_parser.specs.declared.part.Rule.TheVariants as rule
-use Rattle.sql_parser.specs.declared.part.Optional.TheVariants as optional
+use Rattle.sql_tokens.specs.declared.token.Token.{Token}
+use Rattle.sql_tokens.specs.declared.token.Kind.TheVariants as kind
+use Rattle.sql_tokens.specs.declared.level.Level.{Level}
+use Rattle.sql_tokens.specs.declared.level.Level.TheVariants as level
+use Rattle.sql_tokens.specs.declared.level.Sign.{Sign}
+use Rattle.sql_tokens.specs.declared.level.Sign.TheVariants as sign
+use Rattle.sql_faults.specs.declared.part.Part.TheVariants.{One, Must, May}
+use Rattle.sql_faults.specs.declared.part.Expected.TheVariants as expected
+use Rattle.sql_faults.specs.declared.part.Rule.TheVariants as rule
+use Rattle.sql_faults.specs.declared.part.Optional.TheVariants as optional
 use Rattle.sql_parser.specs.declared.stop.Stop.{Stop}
 use Rattle.sql_parser.specs.declared.stop.Stop.TheVariants.{Refused, NoMemory}
-use Rattle.sql_parser.specs.declared.tree.Step.{Step}
-use Rattle.sql_parser.specs.declared.tree.Node.{Node}
-use Rattle.sql_parser.specs.View.{step_of, tree_of}
+use Rattle.sql_tree.specs.declared.tree.Step.{Step}
+use Rattle.sql_tree.specs.declared.tree.Node.{Node}
+use Rattle.sql_tree.specs.View.{step_of, tree_of}
 use Rattle.std.proofs.lemmas.Bool.{false≢true}
-use Rattle.sql_parser.specs.declared.tree.Operator.{Operator}
-use Rattle.sql_parser.specs.declared.tree.Operator.TheVariants as op
-use Rattle.sql_parser.specs.Tokens.{next, after}
-use Rattle.sql_parser.specs.Tree.{Tree, OneStep, binary, among, between, Steps, no_steps, then, Trees, no_trees, and_tree, chained}
-use Rattle.sql_parser.specs.Tree as tree
-use Rattle.sql_parser.specs.Levels.{sign_at}
+use Rattle.sql_tree.specs.declared.tree.Operator.{Operator}
+use Rattle.sql_tree.specs.declared.tree.Operator.TheVariants as op
+use Rattle.sql_tokens.specs.Tokens.{next, after}
+use Rattle.sql_tree.specs.Tree.{Tree, OneStep, binary, among, between, Steps, no_steps, then, Trees, no_trees, and_tree, chained}
+use Rattle.sql_tree.specs.Tree as tree
+use Rattle.sql_tokens.specs.Levels.{sign_at}
 use Rattle.sql_parser.specs.Grammar.{Class, chain, negated, signed, atom, operand, Spells, Further, SpellsStep, FurtherItems, SpellsList, SpellsNegated, SpellsBetween, a_chain, a_not, a_minus, a_plus, a_number, a_text, a_null, in_parentheses, no_more, more, a_binary, an_is, an_is_not, an_in, a_between, a_negated, a_not_like, a_not_in, a_not_between, two_ends, no_items, some_items, last, one_more}
-use Rattle.sql_parser.specs.Reading.{operand_rule, further, list_parts, between_parts}
+use Rattle.sql_faults.specs.Reading.{operand_rule, further, list_parts, between_parts}
 use Rattle.sql_parser.specs.Descent.{Leads, Fails, Stopped, IsRead, IsStep, IsNoStep, IsList, IsNegated, IsBetween, IsIs, StoppedStep, NegatedDescends, BetweenDescends, NumberRead, Descends}
 use Rattle.sql_parser.proofs.Laws.{leads_on, leads_with, fails_later, leads_chain}
 use Rattle.sql_parser.proofs.Arms.{stopped_later, stopped_with, leads_not, leads_minus, leads_plus, reads_number, reads_text, reads_null, leads_parenthesis, leads_close, leads_and, leads_like, leads_not_in, leads_not_between, leads_is_not, leads_is, leads_no_operator, reads_step, empty_list, leads_open, leads_items, leads_comma, leads_no_comma, fails_operator, fails_close, fails_wide}

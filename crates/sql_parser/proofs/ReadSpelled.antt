@@ -1,28 +1,28 @@
 -- What the grammar spells is what the computed reading gives.
 use Rattle.std.proofs.Common.{◌≡◌, ◌≢◌, ◌<◌, ◌≤◌, ◌+◌, ◌*◌, ℕ, suc, zero, List, length, Option, Some, None, Bool, refl, sym, ap, ◌∙◌, arith}
 use Rattle.std.specs.Prelude.{IfOk, Result, Ok, Err}
-use Rattle.sql_parser.specs.declared.tree.Node.{Node}
-use Rattle.sql_parser.specs.declared.error.ParseError.{ParseError}
-use Rattle.sql_parser.specs.View.{tree_of}
-use Rattle.sql_parser.specs.Lexing.{tokens_of}
+use Rattle.sql_tree.specs.declared.tree.Node.{Node}
+use Rattle.sql_faults.specs.declared.error.ParseError.{ParseError}
+use Rattle.sql_tree.specs.View.{tree_of}
+use Rattle.sql_tokens.specs.Lexing.{tokens_of}
 use Rattle.sql_parser.specs.Text.{expression_of}
-use Rattle.sql_parser.specs.declared.token.Token.{Token}
-use Rattle.sql_parser.specs.declared.token.Kind.{Kind}
-use Rattle.sql_parser.specs.declared.token.Kind.TheVariants as kind
-use Rattle.sql_parser.specs.declared.token.Word.{Word}
-use Rattle.sql_parser.specs.declared.arguments.Shape.{Shape}
-use Rattle.sql_parser.specs.declared.arguments.Shape.TheVariants as shape
-use Rattle.sql_parser.specs.declared.level.Level.{Level}
-use Rattle.sql_parser.specs.declared.level.Level.TheVariants as level
-use Rattle.sql_parser.specs.declared.level.Sign.{Sign}
-use Rattle.sql_parser.specs.declared.level.Sign.TheVariants as sign
-use Rattle.sql_parser.specs.declared.tree.Operator.TheVariants as op
-use Rattle.sql_parser.specs.Tokens.{next, after}
-use Rattle.sql_parser.specs.Tree.{Tree, OneStep, Steps, no_steps, then, Trees, no_trees, and_tree, between, chained}
-use Rattle.sql_parser.specs.Tree as tree
-use Rattle.sql_parser.specs.Levels.{sign_at}
-use Rattle.sql_parser.specs.Calls.{IsNamed, name_of, type_of}
-use Rattle.sql_parser.specs.Reading.{one_longer}
+use Rattle.sql_tokens.specs.declared.token.Token.{Token}
+use Rattle.sql_tokens.specs.declared.token.Kind.{Kind}
+use Rattle.sql_tokens.specs.declared.token.Kind.TheVariants as kind
+use Rattle.sql_tokens.specs.declared.token.Word.{Word}
+use Rattle.sql_faults.specs.declared.arguments.Shape.{Shape}
+use Rattle.sql_faults.specs.declared.arguments.Shape.TheVariants as shape
+use Rattle.sql_tokens.specs.declared.level.Level.{Level}
+use Rattle.sql_tokens.specs.declared.level.Level.TheVariants as level
+use Rattle.sql_tokens.specs.declared.level.Sign.{Sign}
+use Rattle.sql_tokens.specs.declared.level.Sign.TheVariants as sign
+use Rattle.sql_tree.specs.declared.tree.Operator.TheVariants as op
+use Rattle.sql_tokens.specs.Tokens.{next, after}
+use Rattle.sql_tree.specs.Tree.{Tree, OneStep, Steps, no_steps, then, Trees, no_trees, and_tree, between, chained}
+use Rattle.sql_tree.specs.Tree as tree
+use Rattle.sql_tokens.specs.Levels.{sign_at}
+use Rattle.sql_faults.specs.Calls.{IsNamed, name_of, type_of}
+use Rattle.sql_faults.specs.Reading.{one_longer}
 use Rattle.sql_parser.specs.Grammar.{Class, chain, negated, signed, atom, operand, Spells, Further, SpellsStep, FurtherItems, SpellsList, SpellsNegated, SpellsBetween, a_chain, a_not, no_not, a_minus, a_plus, no_sign, a_number, a_text, a_null, in_parentheses, no_more, more, a_binary, an_is, an_is_not, an_in, a_between, a_negated, a_not_like, a_not_in, a_not_between, two_ends, no_items, some_items, last, one_more, a_column, a_table_column, a_call, a_cast, SpellsType, SpellsArguments, all_rows, distinct_arguments, plain_arguments, SpellsCounted, first_argument, FurtherArguments, last_argument, one_argument}
 use Rattle.sql_parser.specs.Whole.{IsTree}
 use Rattle.sql_parser.specs.Read.{tree_of_tokens, whole_by, ended, read, Reads, and_then, more_steps, steps_by, more_items, more_by, opened, step, negated_step, is_step, ends_of, negated_by, signed_by, atom_by, named_by, member_by, list_by, counted, arguments_by, type_by, type_named}

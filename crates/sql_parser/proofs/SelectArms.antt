@@ -1,32 +1,32 @@
 -- The arms of the descent over a select, over plain values.
 use Rattle.std.proofs.Common.{◌≡◌, ◌≢◌, ◌≤◌, ◌<◌, ◌+◌, ◌*◌, ℕ, ℤ, List, [], ◌∷◌, ◌++◌, length, Bool, true, false, ◌&&◌, Option, Some, None, Result, Ok, Err, refl, sym, ap, subst, ◌∙◌, append_assoc, arith}
-use Rattle.sql_parser.specs.declared.token.Token.{Token}
-use Rattle.sql_parser.specs.declared.token.Kind.{Kind}
-use Rattle.sql_parser.specs.declared.token.Kind.TheVariants as kind
-use Rattle.sql_parser.specs.declared.token.Clause.{Clause}
-use Rattle.sql_parser.specs.declared.token.Clause.TheVariants as clause
-use Rattle.sql_parser.specs.declared.level.Level.TheVariants as level
-use Rattle.sql_parser.specs.declared.part.Part.{Part}
-use Rattle.sql_parser.specs.declared.part.Part.TheVariants.{One, Must, May}
-use Rattle.sql_parser.specs.declared.part.Expected.{Expected}
-use Rattle.sql_parser.specs.declared.part.Expected.TheVariants as expected
-use Rattle.sql_parser.specs.declared.part.Rule.TheVariants as rule
-use Rattle.sql_parser.specs.declared.part.Optional.{Optional}
-use Rattle.sql_parser.specs.declared.part.Optional.TheVariants as optional
+use Rattle.sql_tokens.specs.declared.token.Token.{Token}
+use Rattle.sql_tokens.specs.declared.token.Kind.{Kind}
+use Rattle.sql_tokens.specs.declared.token.Kind.TheVariants as kind
+use Rattle.sql_tokens.specs.declared.token.Clause.{Clause}
+use Rattle.sql_tokens.specs.declared.token.Clause.TheVariants as clause
+use Rattle.sql_tokens.specs.declared.level.Level.TheVariants as level
+use Rattle.sql_faults.specs.declared.part.Part.{Part}
+use Rattle.sql_faults.specs.declared.part.Part.TheVariants.{One, Must, May}
+use Rattle.sql_faults.specs.declared.part.Expected.{Expected}
+use Rattle.sql_faults.specs.declared.part.Expected.TheVariants as expected
+use Rattle.sql_faults.specs.declared.part.Rule.TheVariants as rule
+use Rattle.sql_faults.specs.declared.part.Optional.{Optional}
+use Rattle.sql_faults.specs.declared.part.Optional.TheVariants as optional
 use Rattle.sql_parser.specs.declared.stop.Stop.{Stop}
-use Rattle.sql_parser.specs.declared.tree.Node.{Node}
-use Rattle.sql_parser.specs.declared.tree.Name.{Name}
+use Rattle.sql_tree.specs.declared.tree.Node.{Node}
+use Rattle.sql_tree.specs.declared.tree.Name.{Name}
 use Rattle.sql_parser.specs.declared.clauses.Form.{Form}
 use Rattle.sql_parser.specs.declared.clauses.Form.TheVariants as form
-use Rattle.sql_parser.specs.Tokens.{next, after, is_name, is_dot, is_star, is_all_of}
-use Rattle.sql_parser.specs.Calls.{name_of}
-use Rattle.sql_parser.specs.Tree.{Tree}
-use Rattle.sql_parser.specs.View.{tree_of}
+use Rattle.sql_tokens.specs.Tokens.{next, after, is_name, is_dot, is_star, is_all_of}
+use Rattle.sql_faults.specs.Calls.{name_of}
+use Rattle.sql_tree.specs.Tree.{Tree}
+use Rattle.sql_tree.specs.View.{tree_of}
 use Rattle.sql_parser.specs.Grammar.{chain}
 use Rattle.sql_parser.specs.Read.{Found, and_then}
-use Rattle.sql_parser.specs.Reading.{settled, fits, found, wide, entered, or_by, other_item_by, select_item_by, integer_by, left_join_by, distinct_by, select_items_by, alias_by, from_by, sources_by, condition_by, names_by, where_by, group_by, having_by, order_by, terms_by, direction_by, limit_by, offset_by, item_by, source_parts, term_parts, names_parts}
+use Rattle.sql_faults.specs.Reading.{settled, fits, found, wide, entered, or_by, other_item_by, select_item_by, integer_by, left_join_by, distinct_by, select_items_by, alias_by, from_by, sources_by, condition_by, names_by, where_by, group_by, having_by, order_by, terms_by, direction_by, limit_by, offset_by, item_by, source_parts, term_parts, names_parts}
 use Rattle.sql_parser.specs.Descent.{Leads, Fails, Stopped, Descends, IsRead}
-use Rattle.sql_parser.specs.Select.{ItemTree, RefTree, HavingTree, TermTree, all, all_of, one}
+use Rattle.sql_tree.specs.Select.{ItemTree, RefTree, HavingTree, TermTree, all, all_of, one}
 use Rattle.sql_parser.specs.SelectRead as read
 use Rattle.sql_parser.specs.SelectRead.{expression, comma, comma_by, further, listed, distinct, name, alias, expression_item, item, names, condition, condition_of, is_outer, source, join, outer, join_form, further_source, sources, filter, by_list, keys, having, direction, term, terms, number, integer, offset, limits, opening, select_at}
 use Rattle.sql_parser.specs.SelectDescent.{Took, IsFound, Finds, FormFound, condition_parts, form_parts, select_parts}

@@ -1,7 +1,7 @@
 -- Lists of a select, as far as they were read.
 use Rattle.std.proofs.Common.{◌≡◌, ◌<◌, ◌≤◌, ℕ, suc, zero, List, [], ◌∷◌, ◌++◌, length, Option, Some, None, refl, arith}
-use Rattle.sql_parser.specs.declared.token.Token.{Token}
-use Rattle.sql_parser.specs.declared.part.Part.{Part}
+use Rattle.sql_tokens.specs.declared.token.Token.{Token}
+use Rattle.sql_faults.specs.declared.part.Part.{Part}
 use Rattle.sql_parser.specs.Read.{Found}
 use Rattle.sql_parser.specs.Descent.{Leads}
 use Rattle.sql_parser.specs.SelectRead.{further, listed}

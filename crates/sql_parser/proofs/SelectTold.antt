@@ -1,26 +1,26 @@
 -- Each list of tokens is read by a rule of the select, or it has a fault.
 use Rattle.std.proofs.Common.{◌≡◌, ◌≢◌, ◌<◌, ◌⊎◌, inl, inr, ℕ, ℤ, suc, zero, List, [], ◌∷◌, ◌++◌, length, Bool, true, false, Option, Some, None, Ok, Err, refl, ap, ◌∙◌, arith}
-use Rattle.sql_parser.specs.declared.token.Token.{Token}
-use Rattle.sql_parser.specs.declared.token.Kind.{Kind}
-use Rattle.sql_parser.specs.declared.token.Kind.TheVariants as kind
-use Rattle.sql_parser.specs.declared.token.Clause.{Clause}
-use Rattle.sql_parser.specs.declared.token.Clause.TheVariants as clause
-use Rattle.sql_parser.specs.declared.level.Level.TheVariants as level
-use Rattle.sql_parser.specs.declared.part.Part.{Part}
-use Rattle.sql_parser.specs.declared.part.Part.TheVariants.{One, Must, May}
-use Rattle.sql_parser.specs.declared.part.Expected.TheVariants as expected
-use Rattle.sql_parser.specs.declared.part.Rule.TheVariants as rule
-use Rattle.sql_parser.specs.declared.part.Optional.{Optional}
-use Rattle.sql_parser.specs.declared.part.Optional.TheVariants as optional
+use Rattle.sql_tokens.specs.declared.token.Token.{Token}
+use Rattle.sql_tokens.specs.declared.token.Kind.{Kind}
+use Rattle.sql_tokens.specs.declared.token.Kind.TheVariants as kind
+use Rattle.sql_tokens.specs.declared.token.Clause.{Clause}
+use Rattle.sql_tokens.specs.declared.token.Clause.TheVariants as clause
+use Rattle.sql_tokens.specs.declared.level.Level.TheVariants as level
+use Rattle.sql_faults.specs.declared.part.Part.{Part}
+use Rattle.sql_faults.specs.declared.part.Part.TheVariants.{One, Must, May}
+use Rattle.sql_faults.specs.declared.part.Expected.TheVariants as expected
+use Rattle.sql_faults.specs.declared.part.Rule.TheVariants as rule
+use Rattle.sql_faults.specs.declared.part.Optional.{Optional}
+use Rattle.sql_faults.specs.declared.part.Optional.TheVariants as optional
 use Rattle.sql_parser.specs.declared.stop.Stop.TheVariants.{Refused}
 use Rattle.sql_parser.specs.declared.clauses.Form.{Form}
 use Rattle.sql_parser.specs.declared.clauses.Form.TheVariants as form
-use Rattle.sql_parser.specs.Tokens.{next, after, is_name, is_end, is_all_of}
-use Rattle.sql_parser.specs.Calls.{name_of}
+use Rattle.sql_tokens.specs.Tokens.{next, after, is_name, is_end, is_all_of}
+use Rattle.sql_faults.specs.Calls.{name_of}
 use Rattle.sql_parser.specs.Read.{Found}
-use Rattle.sql_parser.specs.Reading.{faults, entered, term_parts, names_parts, whole_select}
+use Rattle.sql_faults.specs.Reading.{faults, entered, term_parts, names_parts, whole_select}
 use Rattle.sql_parser.specs.Descent.{Fails}
-use Rattle.sql_parser.specs.Select.{ItemTree, RefTree, SelectTree, all, all_of, one}
+use Rattle.sql_tree.specs.Select.{ItemTree, RefTree, SelectTree, all, all_of, one}
 use Rattle.sql_parser.specs.SelectRead.{expression, comma, listed, with_commas, name, alias, expression_item, item, names, condition, condition_of, is_outer, source, join, outer, further_source, sources, filter, by_list, keys, having, direction, term, terms, number, integer, minus, offset, limits, opening, select_at, select_of_tokens}
 use Rattle.sql_parser.specs.SelectDescent.{IsFound, FormFound, condition_parts, form_parts, select_parts, end_parts}
 use Rattle.sql_parser.proofs.Laws.{leads_on, leads_with, fails_with, fails_later}

@@ -1,17 +1,17 @@
 -- What is read takes at least one token.
 use Rattle.std.proofs.Common.{◌≡◌, ◌≢◌, ◌<◌, ◌≤◌, List, [], ◌∷◌, length, Some, Bool, refl, ap, arith}
-use Rattle.sql_parser.specs.declared.token.Token.{Token}
-use Rattle.sql_parser.specs.declared.token.Kind.{Kind}
-use Rattle.sql_parser.specs.declared.token.Kind.TheVariants as kind
-use Rattle.sql_parser.specs.declared.level.Level.{Level}
-use Rattle.sql_parser.specs.declared.level.Sign.{Sign}
-use Rattle.sql_parser.specs.Tokens.{next, after}
-use Rattle.sql_parser.specs.Tree.{Tree, OneStep, Steps, Trees}
-use Rattle.sql_parser.specs.Levels.{sign_at}
+use Rattle.sql_tokens.specs.declared.token.Token.{Token}
+use Rattle.sql_tokens.specs.declared.token.Kind.{Kind}
+use Rattle.sql_tokens.specs.declared.token.Kind.TheVariants as kind
+use Rattle.sql_tokens.specs.declared.level.Level.{Level}
+use Rattle.sql_tokens.specs.declared.level.Sign.{Sign}
+use Rattle.sql_tokens.specs.Tokens.{next, after}
+use Rattle.sql_tree.specs.Tree.{Tree, OneStep, Steps, Trees}
+use Rattle.sql_tokens.specs.Levels.{sign_at}
 use Rattle.sql_parser.specs.Grammar.{Class, Spells, Further, SpellsStep, FurtherItems, SpellsList, SpellsNegated, SpellsBetween, a_chain, a_not, no_not, a_minus, a_plus, no_sign, a_number, a_text, a_null, in_parentheses, no_more, more, a_binary, an_is, an_is_not, an_in, a_between, a_negated, a_not_like, a_not_in, a_not_between, two_ends, no_items, some_items, last, one_more, a_column, a_table_column, a_call, a_cast, SpellsType, SpellsArguments, all_rows, distinct_arguments, plain_arguments, SpellsCounted, first_argument, FurtherArguments, last_argument, one_argument}
-use Rattle.sql_parser.specs.declared.token.Word.{Word}
-use Rattle.sql_parser.specs.declared.arguments.Shape.{Shape}
-use Rattle.sql_parser.specs.Calls.{IsNamed}
+use Rattle.sql_tokens.specs.declared.token.Word.{Word}
+use Rattle.sql_faults.specs.declared.arguments.Shape.{Shape}
+use Rattle.sql_faults.specs.Calls.{IsNamed}
 use Rattle.sql_parser.proofs.Arms.{sign_no_end}
 
 pub after_shorter : (ts : List Token) → (next ts).kind ≢ kind.End → length (after ts) < length ts

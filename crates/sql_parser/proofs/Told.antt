@@ -1,32 +1,32 @@
 -- Each list of tokens is read as an expression, or it has a fault.
 use Rattle.std.proofs.Common.{◌≡◌, ◌≢◌, ◌<◌, ◌≤◌, ◌+◌, ◌*◌, ◌⊎◌, inl, inr, ℕ, suc, zero, List, [], ◌∷◌, length, Bool, true, false, Option, Some, None, refl, sym, ap, subst, ◌∙◌, arith}
 use Rattle.std.proofs.lemmas.Bool.{cases_lt}
-use Rattle.sql_parser.specs.declared.token.Token.{Token}
-use Rattle.sql_parser.specs.declared.token.Kind.{Kind}
-use Rattle.sql_parser.specs.declared.token.Kind.TheVariants as kind
-use Rattle.sql_parser.specs.declared.token.Word.{Word}
-use Rattle.sql_parser.specs.declared.token.Word.TheVariants as word
-use Rattle.sql_parser.specs.declared.arguments.Shape.{Shape}
-use Rattle.sql_parser.specs.declared.arguments.Shape.TheVariants as shape
-use Rattle.sql_parser.specs.declared.level.Level.{Level}
-use Rattle.sql_parser.specs.declared.level.Level.TheVariants as level
-use Rattle.sql_parser.specs.declared.level.Sign.{Sign}
-use Rattle.sql_parser.specs.declared.level.Sign.TheVariants as sign
-use Rattle.sql_parser.specs.declared.tree.Operator.{Operator}
-use Rattle.sql_parser.specs.declared.tree.Operator.TheVariants as op
-use Rattle.sql_parser.specs.declared.part.Part.TheVariants.{One, Must}
-use Rattle.sql_parser.specs.declared.part.Expected.TheVariants as expected
-use Rattle.sql_parser.specs.declared.part.Rule.{Rule}
-use Rattle.sql_parser.specs.declared.part.Rule.TheVariants as rule
+use Rattle.sql_tokens.specs.declared.token.Token.{Token}
+use Rattle.sql_tokens.specs.declared.token.Kind.{Kind}
+use Rattle.sql_tokens.specs.declared.token.Kind.TheVariants as kind
+use Rattle.sql_tokens.specs.declared.token.Word.{Word}
+use Rattle.sql_tokens.specs.declared.token.Word.TheVariants as word
+use Rattle.sql_faults.specs.declared.arguments.Shape.{Shape}
+use Rattle.sql_faults.specs.declared.arguments.Shape.TheVariants as shape
+use Rattle.sql_tokens.specs.declared.level.Level.{Level}
+use Rattle.sql_tokens.specs.declared.level.Level.TheVariants as level
+use Rattle.sql_tokens.specs.declared.level.Sign.{Sign}
+use Rattle.sql_tokens.specs.declared.level.Sign.TheVariants as sign
+use Rattle.sql_tree.specs.declared.tree.Operator.{Operator}
+use Rattle.sql_tree.specs.declared.tree.Operator.TheVariants as op
+use Rattle.sql_faults.specs.declared.part.Part.TheVariants.{One, Must}
+use Rattle.sql_faults.specs.declared.part.Expected.TheVariants as expected
+use Rattle.sql_faults.specs.declared.part.Rule.{Rule}
+use Rattle.sql_faults.specs.declared.part.Rule.TheVariants as rule
 use Rattle.sql_parser.specs.declared.stop.Stop.TheVariants.{Refused}
-use Rattle.sql_parser.specs.Tokens.{next, after}
-use Rattle.sql_parser.specs.Calls.{IsNamed, name_of, call_of, is_known, is_allowed, folded_of, type_of}
-use Rattle.sql_parser.specs.Levels.{sign_at}
-use Rattle.sql_parser.specs.Tree.{Tree, OneStep, binary, among, between, Steps, no_steps, then, Trees, no_trees, and_tree, chained}
-use Rattle.sql_parser.specs.Tree as tree
+use Rattle.sql_tokens.specs.Tokens.{next, after}
+use Rattle.sql_faults.specs.Calls.{IsNamed, name_of, call_of, is_known, is_allowed, folded_of, type_of}
+use Rattle.sql_tokens.specs.Levels.{sign_at}
+use Rattle.sql_tree.specs.Tree.{Tree, OneStep, binary, among, between, Steps, no_steps, then, Trees, no_trees, and_tree, chained}
+use Rattle.sql_tree.specs.Tree as tree
 use Rattle.sql_parser.specs.Grammar.{Class, chain, negated, signed, atom, operand, Spells, no_not, no_sign, a_table_column, a_call, a_cast, all_rows, distinct_arguments, plain_arguments, last_argument}
-use Rattle.sql_parser.specs.Reading.{operand_rule, one_longer, further, list_parts, between_parts, type_parts, found}
-use Rattle.sql_parser.specs.Descent.{Fails, Refuses, IsRead, IsStep, RefusesStep, IsList, IsBetween, IsNegated, IsIs, IsCounted, IsCall, IsCast, IsType, IsClosed, counted_parts, call_parts, cast_parts}
+use Rattle.sql_faults.specs.Reading.{operand_rule, one_longer, further, list_parts, between_parts, type_parts, found, cast_parts}
+use Rattle.sql_parser.specs.Descent.{Fails, Refuses, IsRead, IsStep, RefusesStep, IsList, IsBetween, IsNegated, IsIs, IsCounted, IsCall, IsCast, IsType, IsClosed, counted_parts, call_parts}
 use Rattle.sql_parser.proofs.Laws.{leads_on, leads_with, fails_with, fails_later, leads_chain, fails_one}
 use Rattle.sql_parser.proofs.Arms.{leads_take, leads_close, fails_close, leads_not, fails_not, leads_no_not, fails_minus, fails_plus, leads_no_sign, sign_no_end, refuses_step, fails_and, fails_open, fails_deep_open, leads_parenthesis, fails_parenthesis, fails_wide, fails_atom, BeginsNone, leads_like, leads_not_in, leads_not_between, fails_negatable, fails_operator, leads_minus, leads_plus}
 use Rattle.sql_parser.proofs.Shorter.{shorter, shorter_step, after_shorter, named_no_end}

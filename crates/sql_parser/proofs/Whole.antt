@@ -1,26 +1,26 @@
 -- A whole expression, and the end behind it.
 use Rattle.std.proofs.Common.{◌≡◌, ◌≢◌, List, [], ◌∷◌, Bool, true, false, cond, ltb, Option, Some, None, refl, sym, ap, subst, ◌∙◌}
-use Rattle.sql_parser.specs.declared.token.Token.{Token}
-use Rattle.sql_parser.specs.declared.error.ParseError.{ParseError}
-use Rattle.sql_parser.specs.declared.token.Kind.{Kind}
-use Rattle.sql_parser.specs.declared.token.Kind.TheVariants as kind
-use Rattle.sql_parser.specs.declared.level.Level.TheVariants as level
-use Rattle.sql_parser.specs.declared.part.Part.TheVariants.{One, Must, May}
-use Rattle.sql_parser.specs.declared.part.Expected.TheVariants as expected
-use Rattle.sql_parser.specs.declared.part.Rule.TheVariants as rule
-use Rattle.sql_parser.specs.Tokens.{next}
-use Rattle.sql_parser.specs.Tree.{Tree}
+use Rattle.sql_tokens.specs.declared.token.Token.{Token}
+use Rattle.sql_faults.specs.declared.error.ParseError.{ParseError}
+use Rattle.sql_tokens.specs.declared.token.Kind.{Kind}
+use Rattle.sql_tokens.specs.declared.token.Kind.TheVariants as kind
+use Rattle.sql_tokens.specs.declared.level.Level.TheVariants as level
+use Rattle.sql_faults.specs.declared.part.Part.TheVariants.{One, Must, May}
+use Rattle.sql_faults.specs.declared.part.Expected.TheVariants as expected
+use Rattle.sql_faults.specs.declared.part.Rule.TheVariants as rule
+use Rattle.sql_tokens.specs.Tokens.{next}
+use Rattle.sql_tree.specs.Tree.{Tree}
 use Rattle.sql_parser.specs.Grammar.{chain}
-use Rattle.sql_parser.specs.Reading.{faults, settled, fits, found, whole, least_from}
+use Rattle.sql_faults.specs.Reading.{faults, settled, fits, found, whole, least_from}
 use Rattle.sql_parser.specs.Descent.{Fails, IsRead}
 use Rattle.sql_parser.specs.Whole.{IsWhole}
-use Rattle.sql_parser.specs.declared.part.Optional.TheVariants as optional
-use Rattle.sql_parser.specs.Tokens.{after, is_end}
-use Rattle.sql_parser.specs.Select.{SelectTree}
+use Rattle.sql_faults.specs.declared.part.Optional.TheVariants as optional
+use Rattle.sql_tokens.specs.Tokens.{after, is_end}
+use Rattle.sql_tree.specs.Select.{SelectTree}
 use Rattle.sql_parser.specs.SelectRead.{select_of_tokens, select_at, closing, closing_by, end_by}
 use Rattle.sql_parser.specs.SelectDescent.{IsFound, EndTold, select_parts, end_parts}
 use Rattle.sql_parser.specs.Descent.{Leads}
-use Rattle.sql_parser.specs.Reading.{whole_select, semicolon_by}
+use Rattle.sql_faults.specs.Reading.{whole_select, semicolon_by}
 use Rattle.sql_parser.proofs.SelectArms.{leads_word}
 use Rattle.sql_parser.proofs.Laws.{leads_with, leads_past, fails_later, fails_one}
 

@@ -1,11 +1,11 @@
 -- Tokens that have no fault as an expression have a tree.
 use Rattle.std.proofs.Common.{◌≡◌, inl, inr, List, [], ◌∷◌, Some}
-use Rattle.sql_parser.specs.declared.token.Token.{Token}
-use Rattle.sql_parser.specs.declared.part.Part.TheVariants.{One}
-use Rattle.sql_parser.specs.declared.part.Expected.TheVariants as expected
-use Rattle.sql_parser.specs.Tokens.{next, is_end}
-use Rattle.sql_parser.specs.Tree.{Tree}
-use Rattle.sql_parser.specs.Reading.{faults, whole}
+use Rattle.sql_tokens.specs.declared.token.Token.{Token}
+use Rattle.sql_faults.specs.declared.part.Part.TheVariants.{One}
+use Rattle.sql_faults.specs.declared.part.Expected.TheVariants as expected
+use Rattle.sql_tokens.specs.Tokens.{next, is_end}
+use Rattle.sql_tree.specs.Tree.{Tree}
+use Rattle.sql_faults.specs.Reading.{faults, whole}
 use Rattle.sql_parser.specs.Read.{tree_of_tokens}
 use Rattle.sql_parser.proofs.ReadSpelled.{computed_whole}
 use Rattle.sql_parser.proofs.Whole.{whole_read, whole_unended, is_end_yes, is_end_no}

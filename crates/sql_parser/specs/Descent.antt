@@ -1,32 +1,32 @@
 -- What a descent has done of a reading.
 use Rattle.std.specs.Prelude.{◌≡◌, ◌≢◌, ◌<◌, ◌+◌, ℕ, List, [], ◌∷◌, ◌++◌, Option, Some, None, Result, Ok, Err, Bool, false, ℤ}
 use Rattle.std.specs.Global.{Vec}
-use Rattle.sql_parser.specs.declared.token.Token.{Token}
-use Rattle.sql_parser.specs.declared.part.Part.{Part}
-use Rattle.sql_parser.specs.declared.part.Part.TheVariants.{Must, One}
-use Rattle.sql_parser.specs.declared.part.Expected.TheVariants as expected
-use Rattle.sql_parser.specs.declared.token.Word.{Word}
-use Rattle.sql_parser.specs.declared.tree.Name.{Name}
-use Rattle.sql_parser.specs.declared.arguments.Shape.{Shape}
-use Rattle.sql_parser.specs.Calls.{IsNamed, name_of, call_of, is_allowed, type_of}
-use Rattle.sql_parser.specs.declared.part.Rule.{Rule}
-use Rattle.sql_parser.specs.declared.part.Rule.TheVariants as rule
-use Rattle.sql_parser.specs.declared.tree.Operator.{Operator}
-use Rattle.sql_parser.specs.declared.tree.Operator.TheVariants as op
-use Rattle.sql_parser.specs.declared.token.Kind.{Kind}
-use Rattle.sql_parser.specs.declared.token.Kind.TheVariants as kind
-use Rattle.sql_parser.specs.declared.level.Level.{Level}
+use Rattle.sql_tokens.specs.declared.token.Token.{Token}
+use Rattle.sql_faults.specs.declared.part.Part.{Part}
+use Rattle.sql_faults.specs.declared.part.Part.TheVariants.{Must, One}
+use Rattle.sql_faults.specs.declared.part.Expected.TheVariants as expected
+use Rattle.sql_tokens.specs.declared.token.Word.{Word}
+use Rattle.sql_tree.specs.declared.tree.Name.{Name}
+use Rattle.sql_faults.specs.declared.arguments.Shape.{Shape}
+use Rattle.sql_faults.specs.Calls.{IsNamed, name_of, call_of, is_allowed, type_of}
+use Rattle.sql_faults.specs.declared.part.Rule.{Rule}
+use Rattle.sql_faults.specs.declared.part.Rule.TheVariants as rule
+use Rattle.sql_tree.specs.declared.tree.Operator.{Operator}
+use Rattle.sql_tree.specs.declared.tree.Operator.TheVariants as op
+use Rattle.sql_tokens.specs.declared.token.Kind.{Kind}
+use Rattle.sql_tokens.specs.declared.token.Kind.TheVariants as kind
+use Rattle.sql_tokens.specs.declared.level.Level.{Level}
 use Rattle.sql_parser.specs.declared.stop.Stop.{Stop}
 use Rattle.sql_parser.specs.declared.stop.Stop.TheVariants.{Refused, NoMemory}
-use Rattle.sql_parser.specs.declared.tree.Node.{Node}
-use Rattle.sql_parser.specs.declared.tree.Step.{Step}
-use Rattle.sql_parser.specs.Tokens.{next, after}
-use Rattle.sql_parser.specs.Tree.{Tree, OneStep, Trees, number, column, cast}
-use Rattle.sql_parser.specs.View.{tree_of, step_of, trees_of}
-use Rattle.sql_parser.specs.Levels.{sign_at}
-use Rattle.sql_parser.specs.declared.level.Level.TheVariants as level
+use Rattle.sql_tree.specs.declared.tree.Node.{Node}
+use Rattle.sql_tree.specs.declared.tree.Step.{Step}
+use Rattle.sql_tokens.specs.Tokens.{next, after}
+use Rattle.sql_tree.specs.Tree.{Tree, OneStep, Trees, number, column, cast}
+use Rattle.sql_tree.specs.View.{tree_of, step_of, trees_of}
+use Rattle.sql_tokens.specs.Levels.{sign_at}
+use Rattle.sql_tokens.specs.declared.level.Level.TheVariants as level
 use Rattle.sql_parser.specs.Grammar.{Class, chain, Spells, SpellsStep, SpellsBetween, SpellsNegated, SpellsList, SpellsArguments, SpellsCounted, SpellsType}
-use Rattle.sql_parser.specs.Reading.{faults, further, list_parts, between_parts, deeper, type_parts}
+use Rattle.sql_faults.specs.Reading.{faults, further, list_parts, between_parts, deeper, type_parts, cast_parts}
 
 -- Whatever comes behind, where `before` is expected at `old`, the faults are those where `later` is expected at `new`.
 pub record Leads (before later : List Part) (old new : List Token) : Type 0 where
@@ -179,9 +179,6 @@ abbrev pub TypeNamed : Kind → Result Bool Stop → Type 0
 TypeNamed k (Ok is_text) = (w : Word) × IsNamed k w × (type_of w ≡ Some is_text)
 TypeNamed k (Err Refused) = (w : Word) → IsNamed k w → type_of w ≡ None
 TypeNamed k (Err NoMemory) = ⊥
-
-abbrev pub cast_parts : ℕ → List Part
-cast_parts d = One (expected.Parenthesis d) ∷ Must (rule.Chain level.Or (deeper d)) ∷ type_parts
 
 pub record IsType (old : List Token) (is_text : Bool) (new : List Token) : Type 0 where
   pub spelled : SpellsType old is_text new

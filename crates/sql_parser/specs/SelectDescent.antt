@@ -1,24 +1,24 @@
 -- What a descent over a select has done of its reading.
 use Rattle.std.specs.Prelude.{◌≡◌, ◌≢◌, ◌≤◌, ◌<◌, List, [], ◌∷◌, ◌++◌, length, Option, Some, None, option_map, Result, Ok, Err, Bool, true, false}
-use Rattle.sql_parser.specs.declared.token.Token.{Token}
-use Rattle.sql_parser.specs.declared.token.Kind.{Kind}
-use Rattle.sql_parser.specs.declared.part.Part.{Part}
-use Rattle.sql_parser.specs.declared.part.Part.TheVariants.{One, May}
-use Rattle.sql_parser.specs.declared.part.Expected.TheVariants as expected
-use Rattle.sql_parser.specs.declared.select.Select.{Select}
+use Rattle.sql_tokens.specs.declared.token.Token.{Token}
+use Rattle.sql_tokens.specs.declared.token.Kind.{Kind}
+use Rattle.sql_faults.specs.declared.part.Part.{Part}
+use Rattle.sql_faults.specs.declared.part.Part.TheVariants.{One, May}
+use Rattle.sql_faults.specs.declared.part.Expected.TheVariants as expected
+use Rattle.sql_tree.specs.declared.select.Select.{Select}
 use Rattle.sql_parser.specs.declared.stop.Stop.TheVariants.{Refused, NoMemory}
-use Rattle.sql_parser.specs.Select.{SelectTree, select_of}
-use Rattle.sql_parser.specs.declared.part.Optional.TheVariants as optional
+use Rattle.sql_tree.specs.Select.{SelectTree, select_of}
+use Rattle.sql_faults.specs.declared.part.Optional.TheVariants as optional
 use Rattle.sql_parser.specs.declared.clauses.Form.{Form}
 use Rattle.sql_parser.specs.declared.clauses.Form.TheVariants as form
 use Rattle.sql_parser.specs.declared.stop.Stop.{Stop}
-use Rattle.sql_parser.specs.Tokens.{next, after}
+use Rattle.sql_tokens.specs.Tokens.{next, after}
 use Rattle.sql_parser.specs.Read.{Found}
-use Rattle.sql_parser.specs.declared.tree.Name.{Name}
-use Rattle.sql_parser.specs.declared.tree.Node.{Node}
-use Rattle.sql_parser.specs.Tree.{Tree}
-use Rattle.sql_parser.specs.View.{tree_of}
-use Rattle.sql_parser.specs.Reading.{source_parts, beginning_parts, middle_parts, whole_select, faults}
+use Rattle.sql_tree.specs.declared.tree.Name.{Name}
+use Rattle.sql_tree.specs.declared.tree.Node.{Node}
+use Rattle.sql_tree.specs.Tree.{Tree}
+use Rattle.sql_tree.specs.View.{tree_of}
+use Rattle.sql_faults.specs.Reading.{source_parts, beginning_parts, middle_parts, whole_select, faults}
 use Rattle.sql_parser.specs.Descent.{Leads, Stopped}
 use Rattle.sql_parser.specs.SelectRead.{join_form, closing_by, select_of_tokens}
 

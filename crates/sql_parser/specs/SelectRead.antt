@@ -1,19 +1,19 @@
 -- The tree of a SELECT's tokens, computed: for each rule of the grammar, what it makes of the tokens, and which tokens stand behind it.
 use Rattle.std.specs.Prelude.{ℕ, ℤ, suc, zero, ◌+◌, ◌*◌, pos, negsuc, List, [], ◌∷◌, ◌++◌, length, Option, Some, None, Bool, true, false}
-use Rattle.sql_parser.specs.declared.token.Token.{Token}
-use Rattle.sql_parser.specs.declared.token.Kind.{Kind}
-use Rattle.sql_parser.specs.declared.token.Kind.TheVariants as kind
-use Rattle.sql_parser.specs.declared.token.Clause.TheVariants as clause
-use Rattle.sql_parser.specs.declared.level.Level.TheVariants as level
+use Rattle.sql_tokens.specs.declared.token.Token.{Token}
+use Rattle.sql_tokens.specs.declared.token.Kind.{Kind}
+use Rattle.sql_tokens.specs.declared.token.Kind.TheVariants as kind
+use Rattle.sql_tokens.specs.declared.token.Clause.TheVariants as clause
+use Rattle.sql_tokens.specs.declared.level.Level.TheVariants as level
 use Rattle.sql_parser.specs.declared.clauses.Form.{Form}
 use Rattle.sql_parser.specs.declared.clauses.Form.TheVariants as form
-use Rattle.sql_parser.specs.declared.tree.Name.{Name}
-use Rattle.sql_parser.specs.Tokens.{next, after, is_all_of}
-use Rattle.sql_parser.specs.Calls.{name_of}
+use Rattle.sql_tree.specs.declared.tree.Name.{Name}
+use Rattle.sql_tokens.specs.Tokens.{next, after, is_all_of}
+use Rattle.sql_faults.specs.Calls.{name_of}
 use Rattle.sql_parser.specs.Grammar.{chain}
-use Rattle.sql_parser.specs.Tree.{Tree}
-use Rattle.sql_parser.specs.Select.{ItemTree, RefTree, HavingTree, TermTree, SelectTree}
-use Rattle.sql_parser.specs.Select as select
+use Rattle.sql_tree.specs.Tree.{Tree}
+use Rattle.sql_tree.specs.Select.{ItemTree, RefTree, HavingTree, TermTree, SelectTree}
+use Rattle.sql_tree.specs.Select as select
 use Rattle.sql_parser.specs.Read.{Found, and_then, read}
 
 -- e

@@ -1,13 +1,13 @@
 -- A text of bytes: its tree, and its least fault.
 use Rattle.std.specs.Prelude.{ℕ, nat_lt, if◌then◌else◌, List, length, Option, Some}
-use Rattle.sql_parser.specs.declared.error.ParseError.{ParseError}
-use Rattle.sql_parser.specs.declared.error.ParseKind.TheVariants.{TextTooLong}
-use Rattle.sql_parser.specs.Tree.{Tree}
-use Rattle.sql_parser.specs.Select.{SelectTree}
+use Rattle.sql_faults.specs.declared.error.ParseError.{ParseError}
+use Rattle.sql_faults.specs.declared.error.ParseKind.TheVariants.{TextTooLong}
+use Rattle.sql_tree.specs.Tree.{Tree}
+use Rattle.sql_tree.specs.Select.{SelectTree}
 use Rattle.sql_parser.specs.SelectRead.{select_of_tokens}
-use Rattle.sql_parser.specs.Lexing.{tokens_of}
+use Rattle.sql_tokens.specs.Lexing.{tokens_of}
 use Rattle.sql_parser.specs.Read.{tree_of_tokens}
-use Rattle.sql_parser.specs.Reading.{first_fault, whole, whole_select}
+use Rattle.sql_faults.specs.Reading.{first_fault, whole, whole_select}
 
 abbrev pub too_long : ParseError
 too_long = record { place = 65536; kind = TextTooLong }

@@ -1,32 +1,33 @@
 //! The descent over the clauses of a select, with one token of look-ahead.
 
 ghost use Rattle.std.specs.Prelude.{◌≡◌, [], ◌∷◌, ◌++◌, map, option_map};
-ghost use Rattle.sql_parser.specs.declared.part.Part.TheVariants.{One, Must, May};
-ghost use Rattle.sql_parser.specs.declared.part.Expected.TheVariants as expected;
-ghost use Rattle.sql_parser.specs.declared.part.Rule.TheVariants as rule;
-ghost use Rattle.sql_parser.specs.declared.part.Optional.TheVariants as optional;
-ghost use Rattle.sql_parser.specs.declared.token.Kind.TheVariants as kind;
-ghost use Rattle.sql_parser.specs.declared.level.Level.TheVariants as level;
-ghost use Rattle.sql_parser.specs.View.{tree_of};
-ghost use Rattle.sql_parser.specs.Reading.{names_parts, source_parts, term_parts};
-ghost use Rattle.sql_parser.specs.Tokens.{next, is_end};
-ghost use Rattle.sql_parser.specs.Select.{item_of, ref_of, having_of, term_of, select_of};
+ghost use Rattle.sql_faults.specs.declared.part.Part.TheVariants.{One, Must, May};
+ghost use Rattle.sql_faults.specs.declared.part.Expected.TheVariants as expected;
+ghost use Rattle.sql_faults.specs.declared.part.Rule.TheVariants as rule;
+ghost use Rattle.sql_faults.specs.declared.part.Optional.TheVariants as optional;
+ghost use Rattle.sql_tokens.specs.declared.token.Kind.TheVariants as kind;
+ghost use Rattle.sql_tokens.specs.declared.level.Level.TheVariants as level;
+ghost use Rattle.sql_tree.specs.View.{tree_of};
+ghost use Rattle.sql_faults.specs.Reading.{names_parts, source_parts, term_parts};
+ghost use Rattle.sql_tokens.specs.Tokens.{next, is_end};
+ghost use Rattle.sql_tree.specs.Select.{item_of, ref_of, having_of, term_of, select_of};
 ghost use Rattle.sql_parser.specs.SelectRead as read;
 ghost use Rattle.sql_parser.specs.SelectDescent.{Took, IsFound, Finds, FormFound, form_parts, condition_parts, condition_tree, select_parts, EndTold};
 
 use crate::descent::{self, name_of};
-use crate::level::Level;
-use crate::reader::{Reader, is_name_kind};
-use crate::select::{
+use crate::stop::Stop;
+use sql_tokens::level::Level;
+use sql_tokens::reader::{Reader, is_name_kind};
+use sql_tokens::token::{Clause, Kind};
+use sql_tree::select::{
     Having, Item, ItemList, NameList, NodeList, Select, TableRef, TableRefList, Term, TermList,
 };
-use crate::stop::Stop;
-use crate::token::{Clause, Kind, Span};
-use crate::tree::{Name, Node};
+use sql_tree::span::Span;
+use sql_tree::tree::{Name, Node};
 use std::alloc::Global;
 
 /// How a further table is brought in.
-#[derive(Clone, Copy, Debug, PartialEq, Eq)]
+#[derive(Clone, Copy)]
 pub enum Form {
     /// By FROM, a comma or CROSS JOIN: without a condition.
     Plain,

@@ -1,23 +1,24 @@
 //! The descent, with one token of look-ahead.
 
 ghost use Rattle.std.specs.Prelude.{◌≡◌, ◌≤◌};
-ghost use Rattle.sql_parser.specs.Tokens.{next};
-ghost use Rattle.sql_parser.specs.View.{tree_of, trees_of};
-ghost use Rattle.sql_parser.specs.Calls.{IsNamed, name_of as token_name};
+ghost use Rattle.sql_tokens.specs.Tokens.{next};
+ghost use Rattle.sql_tree.specs.View.{tree_of, trees_of};
+ghost use Rattle.sql_faults.specs.Calls.{IsNamed, name_of as token_name};
 ghost use Rattle.sql_parser.specs.Grammar.{chain as chain_class, negated as negated_class, signed as signed_class, atom as atom_class, operand as operand_class};
-ghost use Rattle.sql_parser.specs.Reading.{operand_rule};
+ghost use Rattle.sql_faults.specs.Reading.{operand_rule};
 ghost use Rattle.sql_parser.specs.Descent.{Descends, StepDescends, ListDescends, NegatedDescends, BetweenDescends, IsIs, NumberRead, MemberRead, CallDescends, CountedDescends, CloseDescends, CallAllowed, CastDescends, TypeDescends, TypeNamed};
 
-use crate::arguments::{
+use crate::making;
+use crate::stop::Stop;
+use sql_faults::arguments::{
     Shape, folds_shape, is_function, one_more_argument, takes_call, type_of_word,
 };
-use crate::level::{Level, Sign, sign_at_level};
-use crate::making;
-use crate::part::Rule;
-use crate::reader::Reader;
-use crate::stop::Stop;
-use crate::token::{Kind, MAX_DEPTH, MAX_OPERATORS, Token, Word};
-use crate::tree::{Name, Node, Operator, Step};
+use sql_faults::part::Rule;
+use sql_tokens::level::{Level, Sign, sign_at_level};
+use sql_tokens::reader::Reader;
+use sql_tokens::token::{Kind, MAX_DEPTH, MAX_OPERATORS, Token, Word};
+use sql_tree::nodes;
+use sql_tree::tree::{Name, Node, Operator, Step};
 use std::alloc::Global;
 
 /// A chain of one level: an operand, and as many operators as follow.
@@ -74,7 +75,7 @@ fn negated(alloc: Global, reader: &mut Reader<'_>, depth: usize) -> Result<Node,
             }
             reader.advance();
             let inner = negated(alloc, reader, depth + 1)?;
-            Ok(making::negation(alloc, inner)?)
+            Ok(nodes::negation(alloc, inner)?)
         }
         _ => chain(alloc, reader, Level::Equal, depth),
     }
@@ -92,7 +93,7 @@ fn signed(alloc: Global, reader: &mut Reader<'_>, depth: usize) -> Result<Node, 
             }
             reader.advance();
             let inner = signed(alloc, reader, depth + 1)?;
-            Ok(making::minus(alloc, inner)?)
+            Ok(nodes::minus(alloc, inner)?)
         }
         Kind::Plus => {
             if depth == MAX_DEPTH {
@@ -100,7 +101,7 @@ fn signed(alloc: Global, reader: &mut Reader<'_>, depth: usize) -> Result<Node, 
             }
             reader.advance();
             let inner = signed(alloc, reader, depth + 1)?;
-            Ok(making::plus(alloc, inner)?)
+            Ok(nodes::plus(alloc, inner)?)
         }
         _ => atom(alloc, reader, depth),
     }
@@ -479,7 +480,7 @@ fn cast(alloc: Global, reader: &mut Reader<'_>, depth: usize) -> Result<Node, St
     reader.advance();
     let inner = chain(alloc, reader, Level::Or, depth + 1)?;
     let is_text = cast_type(reader)?;
-    Ok(making::cast(alloc, inner, is_text)?)
+    Ok(nodes::cast(alloc, inner, is_text)?)
 }
 
 /// AS, a type's name and the parenthesis that closes a cast.

@@ -1,22 +1,14 @@
-//! The SQL parser: tokens, trees, and the descent that makes one of the other.
+//! The SQL parser: the descent over a text's tokens that makes its tree.
 #![tactic(auto)]
 
-pub mod arguments;
 mod clauses;
-pub mod copy;
-mod copy_select;
 mod descent;
-pub mod error;
-pub mod level;
-mod lexer;
-pub mod list;
 mod making;
 pub mod parse;
-pub mod part;
-mod reader;
-mod recognizer;
-pub mod select;
 mod stop;
-pub mod token;
-pub mod tree;
-mod words;
+
+pub use sql_faults::error::{ParseError, ParseKind};
+pub use sql_tree::functions::{Fold, Function};
+pub use sql_tree::select::Select;
+pub use sql_tree::span::Span;
+pub use sql_tree::tree::{Name, Node, Operator, Step};

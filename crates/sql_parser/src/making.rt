@@ -1,47 +1,15 @@
 //! Making a node over the ones below it.
 
 ghost use Rattle.std.specs.Prelude.{◌≡◌, ◌++◌, [], ◌∷◌, IfOk, OnOk};
-ghost use Rattle.sql_parser.specs.Tree.{chained, negation as negation_tree, minus as minus_tree, plus as plus_tree, cast as cast_tree, call as call_tree, folded as folded_tree, then, and_tree};
-ghost use Rattle.sql_parser.specs.Calls.{only, folded_of};
-ghost use Rattle.sql_parser.specs.View.{tree_of, step_of, steps_of, trees_of};
+ghost use Rattle.sql_tree.specs.Tree.{chained, call as call_tree, folded as folded_tree, then, and_tree};
+ghost use Rattle.sql_faults.specs.Calls.{only, folded_of};
+ghost use Rattle.sql_tree.specs.View.{tree_of, step_of, steps_of, trees_of};
 
-use crate::arguments::Shape;
-use crate::token::{Fold, Function};
-use crate::tree::{Node, Step};
+use sql_faults::arguments::Shape;
+use sql_tree::functions::{Fold, Function};
+use sql_tree::nodes;
+use sql_tree::tree::{Node, Step};
 use std::alloc::{AllocError, Global};
-
-pub(crate) fn negation(alloc: Global, inner: Node) -> Result<Node, AllocError>
-    ensures { IfOk result (λ n. tree_of n ≡ negation_tree (tree_of inner)) }
-{
-    Ok(Node::Negation {
-        inner: Box::new(alloc, inner)?,
-    })
-}
-
-pub(crate) fn minus(alloc: Global, inner: Node) -> Result<Node, AllocError>
-    ensures { IfOk result (λ n. tree_of n ≡ minus_tree (tree_of inner)) }
-{
-    Ok(Node::Minus {
-        inner: Box::new(alloc, inner)?,
-    })
-}
-
-pub(crate) fn plus(alloc: Global, inner: Node) -> Result<Node, AllocError>
-    ensures { IfOk result (λ n. tree_of n ≡ plus_tree (tree_of inner)) }
-{
-    Ok(Node::Plus {
-        inner: Box::new(alloc, inner)?,
-    })
-}
-
-pub(crate) fn cast(alloc: Global, inner: Node, is_text: bool) -> Result<Node, AllocError>
-    ensures { IfOk result (λ n. tree_of n ≡ cast_tree (tree_of inner) is_text) }
-{
-    Ok(Node::Cast {
-        inner: Box::new(alloc, inner)?,
-        is_text,
-    })
-}
 
 /// A chain of no operator is its operand.
 pub(crate) fn chain(alloc: Global, first: Node, steps: Vec<Step>) -> Result<Node, AllocError>
@@ -50,10 +18,8 @@ pub(crate) fn chain(alloc: Global, first: Node, steps: Vec<Step>) -> Result<Node
     if steps.is_empty() {
         return Ok(first);
     }
-    Ok(Node::Chain {
-        first: Box::new(alloc, first)?,
-        steps,
-    })
+    let node = nodes::chain(alloc, first, steps)?;
+    Ok(node)
 }
 
 pub(crate) fn call(function: Function, arguments: Vec<Node>) -> Node
@@ -85,13 +51,7 @@ fn folded_over(
 ) -> Result<Node, AllocError>
     ensures { IfOk result (λ n. tree_of n ≡ folded_tree place fold is_distinct (only (trees_of arguments.items))) }
 {
-    let argument = Box::new(alloc, only_argument(arguments))?;
-    Ok(Node::Folded {
-        place,
-        fold,
-        is_distinct,
-        argument: Some(argument),
-    })
+    nodes::folded(alloc, place, fold, is_distinct, only_argument(arguments))
 }
 
 /// An aggregate over such arguments, its name at a place.

@@ -1,26 +1,28 @@
 //! The tree of a text, or its least fault.
 
 ghost use Rattle.std.specs.Prelude.{List, ℕ, ◌≡◌, ◌≢◌, OnOk, IfOk, Some, None};
-ghost use Rattle.sql_parser.specs.View.{tree_of};
-ghost use Rattle.sql_parser.specs.Reading.{first_fault, whole as whole_expression, whole_select};
+ghost use Rattle.sql_tree.specs.View.{tree_of};
+ghost use Rattle.sql_faults.specs.Reading.{first_fault, whole as whole_expression, whole_select};
 ghost use Rattle.sql_parser.specs.Read.{tree_of_tokens};
-ghost use Rattle.sql_parser.specs.Tree.{Tree};
-ghost use Rattle.sql_parser.specs.Lexing.{tokens_of};
+ghost use Rattle.sql_tree.specs.Tree.{Tree};
+ghost use Rattle.sql_tokens.specs.Lexing.{tokens_of};
 ghost use Rattle.sql_parser.specs.Text.{expression_of, expression_fault, select_of_text, select_fault, too_long};
 ghost use Rattle.sql_parser.specs.Whole.{IsTree, WholeDescends};
-ghost use Rattle.sql_parser.specs.Select.{SelectTree, select_of};
+ghost use Rattle.sql_tree.specs.Select.{SelectTree, select_of};
 ghost use Rattle.sql_parser.specs.SelectRead.{select_of_tokens};
 ghost use Rattle.sql_parser.specs.SelectDescent.{SelectDescends};
-ghost use Rattle.sql_parser.specs.declared.error.ParseKind.TheVariants.{NoMemory};
+ghost use Rattle.sql_faults.specs.declared.error.ParseKind.TheVariants.{NoMemory};
 
-use crate::error::{ParseError, ParseKind};
-use crate::level::Level;
-use crate::reader::Reader;
-use crate::select::Select;
 use crate::stop::Stop;
-use crate::token::{Kind, Token};
-use crate::tree::Node;
-use crate::{clauses, descent, lexer, recognizer};
+use crate::{clauses, descent};
+use sql_faults::error::{ParseError, ParseKind};
+use sql_faults::recognizer;
+use sql_tokens::level::Level;
+use sql_tokens::lexer;
+use sql_tokens::reader::Reader;
+use sql_tokens::token::{Kind, Token};
+use sql_tree::select::Select;
+use sql_tree::tree::Node;
 use std::alloc::Global;
 
 /// How many bytes a text may have.

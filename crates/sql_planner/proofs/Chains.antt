@@ -1,9 +1,9 @@
 -- Chains that have not one step alone.
 use Rattle.std.proofs.Common.{◌≡◌, refl, sym, ap, ◌∙◌, ◌==◌, Bool, false, true≢false, ◌-◌, drop, take, arith, List, [], ◌∷◌, length, map, None}
 use Rattle.std.specs.Option.{option_and_then}
-use Rattle.sql_names.specs.Exprs.{ExprTree, OneExprStep, ExprSteps, then, no_steps}
-use Rattle.sql_names.specs.View.{steps_after, steps_of, step_of}
-use Rattle.sql_names.specs.declared.tree.ExprStep.{ExprStep}
+use Rattle.sql_query.specs.Exprs.{ExprTree, OneExprStep, ExprSteps, then, no_steps}
+use Rattle.sql_query.specs.View.{steps_after, steps_of, step_of}
+use Rattle.sql_query.specs.declared.tree.ExprStep.{ExprStep}
 use Rattle.sql_planner.specs.Comparisons.{only_step, sides_by}
 
 many : (before : ExprSteps) (one other : OneExprStep) (rest : List OneExprStep) → only_step (steps_after (then (then before one) other) rest) ≡ None

@@ -4,15 +4,15 @@ use Rattle.std.proofs.lemmas.List.{take_more, map-append}
 use Rattle.osq_value.specs.declared.value.Value.{Value}
 use Rattle.osq_value.specs.declared.value.Value.TheVariants.{Null}
 use Rattle.osq_value.specs.declared.catalogue.Affinity.{Affinity}
-use Rattle.sql_parser.specs.declared.tree.Operator.{Operator}
-use Rattle.sql_parser.specs.declared.tree.Operator.TheVariants as operator
-use Rattle.sql_names.specs.Exprs.{ExprTree}
-use Rattle.sql_names.specs.Exprs as expr
-use Rattle.sql_names.specs.Resolved.{SourceTree, QueryTree, source_of}
-use Rattle.sql_names.specs.View.{expr_of}
-use Rattle.sql_names.specs.declared.query.QuerySource.{QuerySource}
-use Rattle.sql_names.specs.declared.tree.Expr.{Expr}
-use Rattle.sql_names.specs.declared.scope.Place.{Place}
+use Rattle.sql_tree.specs.declared.tree.Operator.{Operator}
+use Rattle.sql_tree.specs.declared.tree.Operator.TheVariants as operator
+use Rattle.sql_query.specs.Exprs.{ExprTree}
+use Rattle.sql_query.specs.Exprs as expr
+use Rattle.sql_query.specs.Resolved.{SourceTree, QueryTree, source_of}
+use Rattle.sql_query.specs.View.{expr_of}
+use Rattle.sql_query.specs.declared.query.QuerySource.{QuerySource}
+use Rattle.sql_query.specs.declared.tree.Expr.{Expr}
+use Rattle.sql_query.specs.declared.place.Place.{Place}
 use Rattle.sql_meaning.specs.Expressions.{alone, holds, is_true, is_true_truth, value_of}
 use Rattle.sql_meaning.specs.Finished.{seen}
 use Rattle.sql_meaning.specs.Joins.{View, joins, product}

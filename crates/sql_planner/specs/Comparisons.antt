@@ -3,12 +3,12 @@ use Rattle.std.specs.Prelude.{ℤ, neg_ℤ, Option, Some, None}
 use Rattle.std.specs.Option.{option_and_then, option_map, option_or}
 use Rattle.osq_value.specs.declared.value.Value.{Value}
 use Rattle.osq_value.specs.declared.value.Value.TheVariants.{Null, Int, Text}
-use Rattle.sql_parser.specs.declared.tree.Operator.{Operator}
-use Rattle.sql_parser.specs.declared.tree.Operator.TheVariants as operator
+use Rattle.sql_tree.specs.declared.tree.Operator.{Operator}
+use Rattle.sql_tree.specs.declared.tree.Operator.TheVariants as operator
 use Rattle.sql_scalar.specs.Arithmetic.{within}
-use Rattle.sql_names.specs.declared.scope.Place.{Place}
-use Rattle.sql_names.specs.Exprs.{ExprTree, OneExprStep, ExprSteps}
-use Rattle.sql_names.specs.Exprs as expr
+use Rattle.sql_query.specs.declared.place.Place.{Place}
+use Rattle.sql_query.specs.Exprs.{ExprTree, OneExprStep, ExprSteps}
+use Rattle.sql_query.specs.Exprs as expr
 use Rattle.virtual_tables.specs.declared.constraint.Constraint.{Constraint}
 use Rattle.virtual_tables.specs.declared.constraint.ConstraintOp.{ConstraintOp}
 use Rattle.virtual_tables.specs.declared.constraint.ConstraintOp.TheVariants.{Eq, Lt, Le, Gt, Ge}

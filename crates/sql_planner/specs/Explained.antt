@@ -4,8 +4,8 @@ use Rattle.std.specs.Fmt.{decimal, signed_decimal}
 use Rattle.std.specs.Option.{option_map_or}
 use Rattle.osq_value.specs.declared.value.Value.{Value}
 use Rattle.osq_value.specs.declared.value.Value.TheVariants.{Null, Int, Text}
-use Rattle.sql_names.specs.declared.query.SourceColumn.{SourceColumn}
-use Rattle.sql_names.specs.Resolved.{SourceTree, QueryTree}
+use Rattle.sql_query.specs.declared.query.SourceColumn.{SourceColumn}
+use Rattle.sql_query.specs.Resolved.{SourceTree, QueryTree}
 use Rattle.virtual_tables.specs.declared.constraint.Constraint.{Constraint}
 use Rattle.virtual_tables.specs.declared.constraint.ConstraintOp.{ConstraintOp}
 use Rattle.virtual_tables.specs.declared.constraint.ConstraintOp.TheVariants.{Eq, Lt, Le, Gt, Ge}

@@ -4,9 +4,9 @@ use Rattle.std.specs.List.{list_all}
 use Rattle.osq_value.specs.declared.value.Value.{Value}
 use Rattle.osq_value.specs.declared.value.Value.TheVariants.{Null}
 use Rattle.osq_value.specs.declared.catalogue.Affinity.{Affinity}
-use Rattle.sql_parser.specs.declared.tree.Operator.TheVariants.{Like}
+use Rattle.sql_tree.specs.declared.tree.Operator.TheVariants.{Like}
 use Rattle.sql_scalar.specs.Likeness.{like_of}
-use Rattle.sql_names.specs.Exprs.{ExprTree, chain, column, then, no_steps, binary, literal}
+use Rattle.sql_query.specs.Exprs.{ExprTree, chain, column, then, no_steps, binary, literal}
 use Rattle.sql_meaning.specs.Expressions.{is_true}
 use Rattle.sql_planner.specs.declared.likes.Likened.{Likened}
 

@@ -1,7 +1,7 @@
 -- What borrowed parts of an expression stand for.
 use Rattle.osq_value.specs.declared.value.Value.{Value}
 use Rattle.osq_value.specs.declared.value.Value.TheVariants.{Int, Text}
-use Rattle.sql_names.specs.View.{expr_of}
+use Rattle.sql_query.specs.View.{expr_of}
 use Rattle.sql_planner.specs.declared.comparison.Literal.{Literal}
 use Rattle.sql_planner.specs.declared.comparison.Literal.TheVariants as literal
 use Rattle.sql_planner.specs.declared.comparison.Comparison.{Comparison}

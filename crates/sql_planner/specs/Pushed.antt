@@ -1,6 +1,6 @@
 -- A conjunct that is tested where its table is read.
 use Rattle.std.specs.Prelude.{◌≡◌, ℕ}
-use Rattle.sql_names.specs.Exprs.{ExprTree, chain, column, then, no_steps, binary, literal}
+use Rattle.sql_query.specs.Exprs.{ExprTree, chain, column, then, no_steps, binary, literal}
 use Rattle.virtual_tables.specs.Constraints.{operator_of}
 use Rattle.sql_planner.specs.declared.column_test.ColumnTest.{ColumnTest}
 use Rattle.sql_planner.specs.declared.single.Compared.{Compared}

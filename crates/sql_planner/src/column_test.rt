@@ -1,13 +1,13 @@
 //! Conjuncts that test a column with a literal behind it.
 ghost use Rattle.std.specs.Prelude.{◌≡◌, IfSome};
-ghost use Rattle.sql_names.specs.Exprs.{binary, chain, literal, no_steps, then};
-ghost use Rattle.sql_names.specs.View.{expr_of, step_of, steps_of};
+ghost use Rattle.sql_query.specs.Exprs.{binary, chain, literal, no_steps, then};
+ghost use Rattle.sql_query.specs.View.{expr_of, step_of, steps_of};
 ghost use Rattle.sql_planner.specs.Pushed.{IsColumnTest};
 
 use crate::comparison::column_in;
 use osq_value::{Affinity, Value};
-use sql_names::tree::{Expr, ExprStep};
-use sql_parser::tree::Operator;
+use sql_query::tree::{Expr, ExprStep};
+use sql_tree::tree::Operator;
 
 /// A column, by its place and affinity, and a literal behind it, with the operator between them.
 #[derive(Clone, Copy)]

@@ -2,14 +2,14 @@
 ghost use Rattle.std.specs.Prelude.{◌≡◌, IfOk};
 ghost use Rattle.std.specs.Option.{option_and_then, option_map};
 ghost use Rattle.osq_value.specs.declared.value.Value.TheVariants.{Int};
-ghost use Rattle.sql_names.specs.View.{expr_of, step_of, steps_of};
+ghost use Rattle.sql_query.specs.View.{expr_of, step_of, steps_of};
 ghost use Rattle.sql_planner.specs.Comparisons.{column_in, compared, comparison_in, compares_by, known, literal_in, mirrored, number_in, of_sides, only_step, opposite, sides_by, sides_in, whole_number};
 ghost use Rattle.sql_planner.specs.Literals.{comparison_tree, literal_value, sides_tree};
 
 use osq_value::{Copied, NoMemory, Str, Value};
-use sql_names::scope::Place;
-use sql_names::tree::{Expr, ExprStep};
-use sql_parser::tree::Operator;
+use sql_query::place::Place;
+use sql_query::tree::{Expr, ExprStep};
+use sql_tree::tree::Operator;
 use std::alloc::Global;
 use virtual_tables::ConstraintOp;
 

@@ -1,12 +1,12 @@
 //! The text that shows a plan.
 ghost use Rattle.std.specs.Prelude.{◌≡◌, ◌++◌, IfOk, OnOk, flat_map, map};
-ghost use Rattle.sql_names.specs.Resolved.{query_of, source_of};
+ghost use Rattle.sql_query.specs.Resolved.{query_of, source_of};
 ghost use Rattle.sql_planner.specs.Explained.{behind_and, column_name, constraint_text, doubled, explained, filter_line, form_text, heading, line, lines, literal_text, on_text, place_text, sign_of, step_line, steps_text, where_text};
 ghost use Rattle.sql_planner.specs.Plans.{plan_tree};
 
 use crate::plan::{JoinForm, Plan, Scan};
 use osq_value::{Bytes, NoMemory, Value};
-use sql_names::query::{Query, QuerySource};
+use sql_query::query::{Query, QuerySource};
 use std::alloc::Global;
 use virtual_tables::{Constraint, ConstraintOp};
 

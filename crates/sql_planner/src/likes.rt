@@ -1,16 +1,16 @@
 //! Rows of a table in which columns are like the literals of WHERE.
 ghost use Rattle.std.specs.Prelude.{◌≡◌, ◌∷◌, [], ◌++◌, IfOk, IfSome, List, OnOk, filter, map, true};
 ghost use Rattle.osq_value.specs.declared.value.Value.{Value as ValueOf};
-ghost use Rattle.sql_names.specs.View.{expr_of};
+ghost use Rattle.sql_query.specs.View.{expr_of};
 ghost use Rattle.sql_meaning.specs.Expressions.{alone, holds, is_true, value_of};
 ghost use Rattle.sql_planner.specs.Likes.{IsLikened, are_like, is_like};
 ghost use Rattle.sql_planner.specs.declared.likes.Likened.{Likened as LikenedOf};
 
 use crate::column_test::column_test;
 use osq_value::{NoMemory, Row, Sequence, Value};
-use sql_names::tree::Expr;
-use sql_parser::tree::Operator;
+use sql_query::tree::Expr;
 use sql_scalar::{apply, truth};
+use sql_tree::tree::Operator;
 use std::alloc::Global;
 use virtual_tables::RowRefs;
 

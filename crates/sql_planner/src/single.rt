@@ -1,8 +1,8 @@
 //! Queries of one table, whose rows are those of FROM.
 ghost use Rattle.std.specs.Prelude.{◌≡◌, [], IfOk, IfSome, List, OnOk, drop, false, map, true};
 ghost use Rattle.osq_value.specs.declared.value.Value.{Value};
-ghost use Rattle.sql_names.specs.Resolved.{query_of, source_of};
-ghost use Rattle.sql_names.specs.View.{expr_of};
+ghost use Rattle.sql_query.specs.Resolved.{query_of, source_of};
+ghost use Rattle.sql_query.specs.View.{expr_of};
 ghost use Rattle.sql_meaning.specs.Expressions.{alone, holds, is_true, value_of};
 ghost use Rattle.sql_meaning.specs.Joins.{View, joins as joins_of, product as product_of};
 ghost use Rattle.sql_meaning.specs.Steps.{behind_from};
@@ -15,8 +15,8 @@ use crate::likes::like_rows;
 use osq_value::{Affinity, Copied, NoMemory, RowList, TableId, Tables, Value, column_of};
 use sql_groups::rows_behind;
 use sql_meaning::singles;
-use sql_names::query::{Query, QuerySource};
-use sql_names::tree::Expr;
+use sql_query::query::{Query, QuerySource};
+use sql_query::tree::Expr;
 use std::alloc::Global;
 use virtual_tables::{Constraint, ConstraintList, ConstraintOp, scan};
 

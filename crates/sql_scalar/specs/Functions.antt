@@ -2,8 +2,8 @@
 use Rattle.std.specs.Prelude.{List, [], ◌∷◌}
 use Rattle.osq_value.specs.declared.value.Value.{Value}
 use Rattle.osq_value.specs.declared.value.Value.TheVariants.{Null}
-use Rattle.sql_parser.specs.declared.token.Function.{Function}
-use Rattle.sql_parser.specs.declared.token.Function.TheVariants.{Length, Lower, Upper, Trim, Substr, Instr, Replace, Abs, Typeof, Coalesce, Ifnull, Nullif}
+use Rattle.sql_tree.specs.declared.functions.Function.{Function}
+use Rattle.sql_tree.specs.declared.functions.Function.TheVariants.{Length, Lower, Upper, Trim, Substr, Instr, Replace, Abs, Typeof, Coalesce, Ifnull, Nullif}
 use Rattle.sql_scalar.specs.Choices.{abs_of, typeof_of, first_known, nullif_of}
 use Rattle.sql_scalar.specs.Finds.{instr_of, replace_of}
 use Rattle.sql_scalar.specs.Texts.{length_of, lower_of, upper_of, trim_of}

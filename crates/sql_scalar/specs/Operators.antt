@@ -2,8 +2,8 @@
 use Rattle.std.specs.Prelude.{Option}
 use Rattle.osq_value.specs.declared.value.Value.{Value}
 use Rattle.osq_value.specs.declared.catalogue.Affinity.{Affinity}
-use Rattle.sql_parser.specs.declared.tree.Operator.{Operator}
-use Rattle.sql_parser.specs.declared.tree.Operator.TheVariants.{Or, And, Equal, NotEqual, Is, IsNot, Less, LessEqual, Greater, GreaterEqual, Like, NotLike, Add, Subtract, Multiply, Divide, Remainder, Concat}
+use Rattle.sql_tree.specs.declared.tree.Operator.{Operator}
+use Rattle.sql_tree.specs.declared.tree.Operator.TheVariants.{Or, And, Equal, NotEqual, Is, IsNot, Less, LessEqual, Greater, GreaterEqual, Like, NotLike, Add, Subtract, Multiply, Divide, Remainder, Concat}
 use Rattle.sql_scalar.specs.Arithmetic.{sum_of, difference_of, product_of, quotient_of, remainder_of}
 use Rattle.sql_scalar.specs.Comparison.{equal_of, not_equal_of, is_of, is_not_of, less_of, less_equal_of, greater_of, greater_equal_of}
 use Rattle.sql_scalar.specs.Likeness.{like_of, not_like_of}

@@ -7,7 +7,7 @@ use crate::finds::{instr, replace};
 use crate::texts::{length, lower, trim, upper};
 use crate::windows::{substr_from, substr_within};
 use osq_value::{Copied, NoMemory, Row, Value};
-use sql_parser::token::Function;
+use sql_tree::functions::Function;
 use std::alloc::Global;
 
 /// What a function gives for its arguments: Null for a number of arguments that it doesn't take, and, but for `typeof`, `coalesce`,

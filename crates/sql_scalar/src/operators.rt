@@ -8,7 +8,7 @@ use crate::like::like;
 use crate::logic::{both, either, from_truth, negation, truth};
 use crate::texts::concat;
 use osq_value::{Affinity, NoMemory, Value};
-use sql_parser::tree::Operator;
+use sql_tree::tree::Operator;
 use std::alloc::Global;
 
 /// What an operator gives for two values. `affinities` are those of the left and of the right side, which comparisons alone look at.

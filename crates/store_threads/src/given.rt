@@ -11,8 +11,8 @@ use entry_model::restored::Restored;
 use osq_value::{Event, EventList, NoMemory, Reading, Row, Str, TableId, TextList, Value};
 use pack_rules::schedule::{Form, Mode, QueryKey, Schedule, Scheduled, ScheduledList};
 use shared_store::{Store, StoreSeat};
-use sql_names::answers::is_evented;
-use sql_names::text::query_of_text;
+use sql_query::answers::is_evented;
+use sql_texts::text::query_of_text;
 use std::alloc::Global;
 use std::sync::Wait;
 
@@ -21,7 +21,7 @@ pub(crate) const FILES: TableId = TableId(2);
 const PATHS: &str = "SELECT target_path FROM file_events";
 
 /// The query `fe`, which asks for the paths of new files each minute; want of memory stands for a text that is refused.
-#[tactic(auto, unfolding(sql_meaning::specs::Meaning::is_accepted, sql_meaning::specs::Meaning::names_evented))]
+#[tactic(auto, unfolding(sql_texts::specs::Meaning::is_accepted, sql_texts::specs::Meaning::names_evented))]
 fn paths(alloc: Global) -> Result<Scheduled, NoMemory>
     ensures { IfOk result IsRunnable }
 {

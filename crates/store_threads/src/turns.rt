@@ -1,7 +1,7 @@
 //! Single turns of a seat.
 
 ghost use Rattle.std.specs.Prelude.{◌≡◌, ◌+◌, IfOk, OnOk, OnErr};
-ghost use Rattle.sql_meaning.specs.Meaning.{meaning};
+ghost use Rattle.sql_texts.specs.Meaning.{meaning};
 ghost use Rattle.event_store.specs.Contents.{rows_in};
 ghost use Rattle.turn_lock.specs.Words.{IsAtRest, IsSame};
 ghost use Rattle.shared_store.specs.Words.{IsSeatOf};
@@ -14,7 +14,7 @@ use osq_value::{NoMemory, RowList, Str};
 use session_state::{AppendError, CommitRefusal, Cut};
 use shared_store::{Store, StoreSeat};
 use sql_meaning::plain_rows;
-use sql_names::text::query_of_text;
+use sql_texts::text::query_of_text;
 use std::alloc::Global;
 use std::sync::Wait;
 
@@ -59,7 +59,7 @@ pub(crate) fn claimed<R: Wait>(
 }
 
 /// The rows that answer a cut.
-#[tactic(auto, unfolding(sql_meaning::specs::Meaning::meaning))]
+#[tactic(auto, unfolding(sql_texts::specs::Meaning::meaning))]
 fn answer(alloc: Global, cut: &Cut) -> Result<RowList, NoMemory>
     ensures { IfOk result (λ rows. rows ≡ meaning cut.now.key.text (rows_in cut.now.view)) }
 {

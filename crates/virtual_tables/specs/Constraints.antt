@@ -6,8 +6,8 @@ use Rattle.osq_value.specs.declared.value.Value.{Value}
 use Rattle.osq_value.specs.declared.value.Value.TheVariants.{Null}
 use Rattle.osq_value.specs.declared.catalogue.Affinity.{Affinity}
 use Rattle.osq_value.specs.Catalogue.{Column, columns_of}
-use Rattle.sql_parser.specs.declared.tree.Operator.{Operator}
-use Rattle.sql_parser.specs.declared.tree.Operator.TheVariants as operator
+use Rattle.sql_tree.specs.declared.tree.Operator.{Operator}
+use Rattle.sql_tree.specs.declared.tree.Operator.TheVariants as operator
 use Rattle.sql_scalar.specs.Operators.{apply_of}
 use Rattle.sql_scalar.specs.Truth.{truth_of}
 use Rattle.virtual_tables.specs.declared.constraint.Constraint.{Constraint}

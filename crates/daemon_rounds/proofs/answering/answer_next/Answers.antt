@@ -1,6 +1,6 @@
 use Rattle.std.proofs.Common.{◌+◌, Err, Ok, sym, ap, ◌∙◌}
 use Rattle.pack_rules.specs.declared.schedule.QueryKey.{QueryKey}
-use Rattle.sql_meaning.specs.Meaning.{is_accepted}
+use Rattle.sql_texts.specs.Meaning.{is_accepted}
 use Rattle.session_state.specs.Cut.{batch_of}
 use Rattle.daemon_rounds.proofs.Answered.{accepted, answers_first, brings_batch, fewer, given, none_due, only_spent, own_place, spent, stands_cut, still_due, tellable}
 use Rattle.daemon_rounds.proofs.answering.answer_next.Goals as goal

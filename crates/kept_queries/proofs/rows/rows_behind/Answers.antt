@@ -1,5 +1,5 @@
 use Rattle.std.proofs.Common.{IfOk, Result, Ok, Err}
-use Rattle.sql_names.specs.Resolved.{query_of}
+use Rattle.sql_query.specs.Resolved.{query_of}
 use Rattle.kept_queries.proofs.Meant.{meant}
 use Rattle.kept_queries.proofs.rows.rows_behind.Goals as goal
 

@@ -1,5 +1,5 @@
 use Rattle.std.proofs.Common.{◌++◌, ℕ, List, ap, take, ◌∙◌, refl}
-use Rattle.sql_names.specs.Resolved.{query_of}
+use Rattle.sql_query.specs.Resolved.{query_of}
 use Rattle.osq_program.proofs.Explainings.{explained_partly, explained_whole, plan_shown, unexplained}
 use Rattle.osq_program.proofs.explain.run_explain.Goals as goal
 

@@ -1,8 +1,8 @@
 use Rattle.std.proofs.Common.{Err, refl, ℕ, List, ap, sym, subst, ◌∙◌, ◌++◌, map, length}
 use Rattle.program_words.specs.declared.source.SourceName.{SourceName}
-use Rattle.sql_names.specs.Resolved.{query_of}
-use Rattle.sql_names.specs.TextFaults.{text_fault}
-use Rattle.sql_names.specs.Texts.{query_in}
+use Rattle.sql_query.specs.Resolved.{query_of}
+use Rattle.sql_texts.specs.TextFaults.{text_fault}
+use Rattle.sql_texts.specs.Texts.{query_in}
 use Rattle.query_rounds.specs.Asking.{IsAnswer}
 use Rattle.osq_program.specs.Ending.{IsAnswerTo}
 use Rattle.osq_program.specs.Setups.{source_in}

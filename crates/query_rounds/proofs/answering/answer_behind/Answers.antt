@@ -1,5 +1,5 @@
 use Rattle.std.proofs.Common.{IfOk, Result, Ok, Err}
-use Rattle.sql_names.specs.Resolved.{query_of}
+use Rattle.sql_query.specs.Resolved.{query_of}
 use Rattle.query_rounds.proofs.Answered.{text_means}
 use Rattle.query_rounds.proofs.answering.answer_behind.Goals as goal
 

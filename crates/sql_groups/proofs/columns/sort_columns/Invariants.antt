@@ -1,5 +1,5 @@
 use Rattle.std.proofs.Common.{map, take}
-use Rattle.sql_names.specs.Resolved.{order_of}
+use Rattle.sql_query.specs.Resolved.{order_of}
 use Rattle.sql_groups.specs.Columns.{AreColumns, AreDirections}
 use Rattle.sql_groups.proofs.columns.sort_columns.Given as goal
 

@@ -1,5 +1,5 @@
 use Rattle.std.proofs.Common.{map, take}
-use Rattle.sql_names.specs.View.{expr_of}
+use Rattle.sql_query.specs.View.{expr_of}
 use Rattle.sql_groups.specs.Different.{Stands}
 use Rattle.sql_groups.proofs.different.different.Given as goal
 

@@ -1,5 +1,5 @@
 use Rattle.std.proofs.Common.{map, take}
-use Rattle.sql_names.specs.View.{expr_of}
+use Rattle.sql_query.specs.View.{expr_of}
 use Rattle.sql_groups.specs.Grouping.{Folds}
 use Rattle.sql_groups.proofs.grouped.groups_by_column.Given as goal
 

@@ -3,7 +3,7 @@ use Rattle.std.proofs.lemmas.Option.{unwrap_or-slice_get}
 use Rattle.std.proofs.lemmas.Result.{IfOk-weaker}
 use Rattle.osq_value.specs.declared.value.Value.{Value}
 use Rattle.osq_value.specs.declared.value.Value.TheVariants.{Null}
-use Rattle.sql_names.specs.View.{expr_of}
+use Rattle.sql_query.specs.View.{expr_of}
 use Rattle.sql_meaning.specs.Lent.{values_in}
 use Rattle.sql_groups.proofs.Gathered.{folds-more}
 use Rattle.sql_groups.proofs.grouped.look_at.Goals as goal

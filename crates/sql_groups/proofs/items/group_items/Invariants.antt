@@ -1,6 +1,6 @@
 use Rattle.std.proofs.Common.{◌≡◌, ◌++◌, List, map, take}
 use Rattle.osq_value.specs.declared.value.Value.{Value}
-use Rattle.sql_names.specs.Resolved.{OrderTree, ResultTree, order_of, result_of}
+use Rattle.sql_query.specs.Resolved.{OrderTree, ResultTree, order_of, result_of}
 use Rattle.sql_meaning.specs.Expressions.{value_of}
 use Rattle.sql_meaning.specs.Steps.{together}
 use Rattle.sql_groups.specs.Folding.{item_over}

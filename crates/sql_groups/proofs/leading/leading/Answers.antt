@@ -1,5 +1,5 @@
 use Rattle.std.proofs.Common.{◌-◌, List, drop, length, map, subst, sym}
-use Rattle.sql_names.specs.View.{expr_of}
+use Rattle.sql_query.specs.View.{expr_of}
 use Rattle.sql_meaning.specs.declared.joined.Joined.{Joined}
 use Rattle.sql_groups.specs.Columns.{is_before}
 use Rattle.sql_groups.specs.Leading.{Climbs}

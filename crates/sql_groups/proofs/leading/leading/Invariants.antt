@@ -1,5 +1,5 @@
 use Rattle.std.proofs.Common.{◌≡◌, ◌-◌, length, map, drop}
-use Rattle.sql_names.specs.View.{expr_of}
+use Rattle.sql_query.specs.View.{expr_of}
 use Rattle.sql_groups.specs.Leading.{leading}
 use Rattle.sql_groups.proofs.leading.leading.Given as goal
 

@@ -1,8 +1,8 @@
 use Rattle.std.proofs.Common.{◌≡◌, Option, None, [], ap, false, true, subst, sym, ◌∙◌, ◌∷◌, is_some}
 use Rattle.std.proofs.lemmas.Option.{IfSome_then}
 use Rattle.osq_value.specs.declared.value.Value.{Value}
-use Rattle.sql_parser.specs.declared.token.Fold.{Fold}
-use Rattle.sql_parser.specs.declared.token.Fold.TheVariants.{Count, Sum}
+use Rattle.sql_tree.specs.declared.functions.Fold.{Fold}
+use Rattle.sql_tree.specs.declared.functions.Fold.TheVariants.{Count, Sum}
 use Rattle.sql_meaning.specs.Expressions.{value_at}
 use Rattle.sql_groups.specs.declared.items.GroupItem.TheVariants as item
 use Rattle.sql_groups.specs.declared.so_far.SoFar.TheVariants as so_far

@@ -1,8 +1,8 @@
 use Rattle.std.proofs.Common.{◌≡◌, ◌∙◌, IfSome, List, Option, Vec, [], ap, map, subst, sym, arith}
 use Rattle.std.proofs.lemmas.Result.{IfOk-weaker}
 use Rattle.osq_value.specs.declared.value.Value.{Value}
-use Rattle.sql_names.specs.Resolved.{query_of}
-use Rattle.sql_names.specs.View.{expr_of}
+use Rattle.sql_query.specs.Resolved.{query_of}
+use Rattle.sql_query.specs.View.{expr_of}
 use Rattle.sql_meaning.specs.declared.worth.Worth.{Worth}
 use Rattle.sql_meaning.specs.Finished.{finished}
 use Rattle.sql_meaning.specs.Worths.{worths}

@@ -1,8 +1,8 @@
 use Rattle.std.proofs.Common.{◌∙◌, IfSome, List, Option, ap, map, subst}
 use Rattle.std.proofs.lemmas.Result.{IfOk-weaker}
-use Rattle.sql_names.specs.declared.query.Order.{Order}
-use Rattle.sql_names.specs.Resolved.{order_of, query_of}
-use Rattle.sql_names.specs.View.{expr_of}
+use Rattle.sql_query.specs.declared.query.Order.{Order}
+use Rattle.sql_query.specs.Resolved.{order_of, query_of}
+use Rattle.sql_query.specs.View.{expr_of}
 use Rattle.sql_meaning.specs.declared.joined.Joined.{Joined}
 use Rattle.sql_meaning.specs.Lent.{values_in}
 use Rattle.sql_meaning.specs.Steps.{behind_from}

@@ -1,5 +1,5 @@
 use Rattle.std.proofs.Common.{◌≡◌, map, take}
-use Rattle.sql_names.specs.View.{expr_of, steps_of, exprs_of}
+use Rattle.sql_query.specs.View.{expr_of, steps_of, exprs_of}
 use Rattle.sql_meaning.specs.Expressions.{affinity_after, alone, value_of, value_after, values_of}
 use Rattle.sql_meaning.specs.Lent.{values_in}
 use Rattle.sql_meaning.specs.Over.{environment_of}

@@ -1,5 +1,5 @@
 use Rattle.std.proofs.Common.{◌≡◌, map, length}
-use Rattle.sql_names.specs.View.{expr_of}
+use Rattle.sql_query.specs.View.{expr_of}
 use Rattle.sql_meaning.specs.Expressions.{holds}
 use Rattle.sql_meaning.specs.Over.{environment_of}
 use Rattle.sql_meaning.proofs.expressions.holds.Given as goal

@@ -1,8 +1,8 @@
 use Rattle.std.proofs.Common.{◌≡◌, drop, map}
-use Rattle.sql_parser.specs.View.{tree_of}
+use Rattle.sql_tree.specs.View.{tree_of}
 use Rattle.sql_names.specs.Kinds.{key_wrong}
 use Rattle.sql_names.specs.Least.{lesser, least}
-use Rattle.sql_names.specs.Shown.{shown_of}
+use Rattle.sql_scope.specs.Shown.{shown_of}
 use Rattle.sql_names.proofs.aggregates.keys_wrong.Given as goal
 
 abbrev pub invariant-loop-key : goal.invariant-loop-key

@@ -1,8 +1,8 @@
 use Rattle.std.proofs.Common.{◌≡◌, take, map}
-use Rattle.sql_parser.specs.View.{steps_of, trees_of}
+use Rattle.sql_tree.specs.View.{steps_of, trees_of}
 use Rattle.sql_names.specs.Bare.{bare_steps, bare_trees}
-use Rattle.sql_names.specs.Shown.{names_of}
-use Rattle.sql_names.specs.View.{expr_of}
+use Rattle.sql_scope.specs.Shown.{names_of}
+use Rattle.sql_query.specs.View.{expr_of}
 use Rattle.sql_names.proofs.bare.+bare.Given as goal
 
 abbrev pub invariant-bare_nodes-loop-node : goal.invariant-bare_nodes-loop-node

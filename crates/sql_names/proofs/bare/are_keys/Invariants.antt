@@ -1,7 +1,7 @@
 use Rattle.std.proofs.Common.{◌≡◌, drop, map}
 use Rattle.sql_names.specs.Bare.{are_keys}
-use Rattle.sql_names.specs.Shown.{shown_of}
-use Rattle.sql_names.specs.View.{expr_of}
+use Rattle.sql_scope.specs.Shown.{shown_of}
+use Rattle.sql_query.specs.View.{expr_of}
 use Rattle.sql_names.proofs.bare.are_keys.Given as goal
 
 abbrev pub invariant-loop-column : goal.invariant-loop-column

@@ -1,6 +1,6 @@
 use Rattle.std.proofs.Common.{◌≡◌, drop, map}
 use Rattle.sql_names.specs.Bare.{is_key}
-use Rattle.sql_names.specs.View.{expr_of}
+use Rattle.sql_query.specs.View.{expr_of}
 use Rattle.sql_names.proofs.bare.is_key.Given as goal
 
 abbrev pub invariant-loop-key : goal.invariant-loop-key

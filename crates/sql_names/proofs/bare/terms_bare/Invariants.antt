@@ -1,9 +1,9 @@
 use Rattle.std.proofs.Common.{◌≡◌, drop, map}
-use Rattle.sql_parser.specs.Select.{term_of}
+use Rattle.sql_tree.specs.Select.{term_of}
 use Rattle.sql_names.specs.Bare.{term_bare}
 use Rattle.sql_names.specs.Least.{lesser, least}
-use Rattle.sql_names.specs.Shown.{names_of}
-use Rattle.sql_names.specs.View.{expr_of}
+use Rattle.sql_scope.specs.Shown.{names_of}
+use Rattle.sql_query.specs.View.{expr_of}
 use Rattle.sql_names.proofs.bare.terms_bare.Given as goal
 
 abbrev pub invariant-loop-term : goal.invariant-loop-term

@@ -1,5 +1,5 @@
 use Rattle.std.proofs.Common.{◌≡◌, take}
-use Rattle.sql_parser.specs.View.{steps_of}
+use Rattle.sql_tree.specs.View.{steps_of}
 use Rattle.sql_names.specs.Results.{are_ands}
 use Rattle.sql_names.proofs.conditions.are_ands.Given as goal
 

@@ -1,9 +1,9 @@
 use Rattle.std.proofs.Common.{◌≡◌, ◌++◌, take, map}
-use Rattle.sql_parser.specs.View.{steps_of}
-use Rattle.sql_names.specs.Naming.{expr_of as expr_among}
+use Rattle.sql_tree.specs.View.{steps_of}
+use Rattle.sql_scope.specs.Naming.{expr_of as expr_among}
 use Rattle.sql_names.specs.Results.{rights_of}
-use Rattle.sql_names.specs.Shown.{names_of}
-use Rattle.sql_names.specs.View.{expr_of}
+use Rattle.sql_scope.specs.Shown.{names_of}
+use Rattle.sql_query.specs.View.{expr_of}
 use Rattle.sql_names.proofs.conditions.push_rights.Given as goal
 
 abbrev pub invariant-loop-step : goal.invariant-loop-step

@@ -1,5 +1,5 @@
 use Rattle.std.proofs.Common.{◌≡◌, drop, map}
-use Rattle.sql_parser.specs.Select.{item_of}
+use Rattle.sql_tree.specs.Select.{item_of}
 use Rattle.sql_names.specs.Kinds.{item_missing}
 use Rattle.sql_names.specs.Least.{lesser, least}
 use Rattle.sql_names.proofs.faults.items_missing.Given as goal

@@ -1,5 +1,5 @@
 use Rattle.std.proofs.Common.{◌≡◌, drop, map}
-use Rattle.sql_parser.specs.View.{tree_of}
+use Rattle.sql_tree.specs.View.{tree_of}
 use Rattle.sql_names.specs.Kinds.{number_missing}
 use Rattle.sql_names.specs.Least.{lesser, least}
 use Rattle.sql_names.proofs.faults.keys_missing.Given as goal

@@ -1,8 +1,8 @@
 use Rattle.std.proofs.Common.{◌≡◌, drop, map}
-use Rattle.sql_names.specs.declared.mention.Mention.{Mention}
+use Rattle.sql_scope.specs.declared.mention.Mention.{Mention}
 use Rattle.sql_names.specs.Kinds.{names_in, mentioned_twice}
 use Rattle.sql_names.specs.Least.{lesser, least}
-use Rattle.sql_names.specs.Shown.{names_of}
+use Rattle.sql_scope.specs.Shown.{names_of}
 use Rattle.sql_names.proofs.faults.mentions_twice.Given as goal
 
 abbrev pub invariant-loop-mention : goal.invariant-loop-mention

@@ -1,4 +1,4 @@
-use Rattle.sql_names.proofs.Widths.{narrow_at}
+use Rattle.sql_scope.proofs.Widths.{narrow_at}
 use Rattle.sql_names.proofs.faults.place_at.Goals as goal
 
 pub place_in-requires : goal.place_in-requires

@@ -1,7 +1,7 @@
 use Rattle.std.proofs.Common.{◌≡◌, drop, map}
 use Rattle.sql_names.specs.Kinds.{using_missing}
 use Rattle.sql_names.specs.Least.{lesser, least}
-use Rattle.sql_names.specs.Shown.{names_of}
+use Rattle.sql_scope.specs.Shown.{names_of}
 use Rattle.sql_names.proofs.faults.source_missing.Given as goal
 
 abbrev pub invariant-loop-name : goal.invariant-loop-name

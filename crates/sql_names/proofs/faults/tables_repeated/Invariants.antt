@@ -1,5 +1,5 @@
 use Rattle.std.proofs.Common.{◌≡◌, drop, map}
-use Rattle.sql_parser.specs.Select.{ref_of}
+use Rattle.sql_tree.specs.Select.{ref_of}
 use Rattle.sql_names.specs.Kinds.{tables_repeated}
 use Rattle.sql_names.specs.Least.{lesser}
 use Rattle.sql_names.proofs.faults.tables_repeated.Given as goal

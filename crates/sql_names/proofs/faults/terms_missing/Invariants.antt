@@ -1,5 +1,5 @@
 use Rattle.std.proofs.Common.{◌≡◌, drop, map}
-use Rattle.sql_parser.specs.Select.{term_of}
+use Rattle.sql_tree.specs.Select.{term_of}
 use Rattle.sql_names.specs.Kinds.{term_missing}
 use Rattle.sql_names.specs.Least.{lesser, least}
 use Rattle.sql_names.proofs.faults.terms_missing.Given as goal

@@ -1,8 +1,8 @@
 use Rattle.std.proofs.Common.{◌≡◌, drop, map}
-use Rattle.sql_parser.specs.Select.{ref_of}
+use Rattle.sql_tree.specs.Select.{ref_of}
 use Rattle.sql_names.specs.Kinds.{usings_missing}
 use Rattle.sql_names.specs.Least.{lesser}
-use Rattle.sql_names.specs.Shown.{names_of}
+use Rattle.sql_scope.specs.Shown.{names_of}
 use Rattle.sql_names.proofs.faults.usings_missing.Given as goal
 
 abbrev pub invariant-loop-source : goal.invariant-loop-source

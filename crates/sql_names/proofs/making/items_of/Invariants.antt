@@ -1,6 +1,7 @@
 use Rattle.std.proofs.Common.{◌≡◌, map}
-use Rattle.sql_names.specs.Resolved.{result_of, result_tree}
-use Rattle.sql_names.specs.Shown.{shown_of}
+use Rattle.sql_query.specs.Resolved.{result_of}
+use Rattle.sql_names.specs.Making.{result_tree}
+use Rattle.sql_scope.specs.Shown.{shown_of}
 use Rattle.sql_names.proofs.making.items_of.Given as goal
 
 abbrev pub invariant-loop-column : goal.invariant-loop-column

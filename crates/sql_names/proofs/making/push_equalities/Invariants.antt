@@ -1,7 +1,7 @@
 use Rattle.std.proofs.Common.{◌≡◌, ◌++◌, take, map}
-use Rattle.sql_names.specs.Resolved.{joined_name}
-use Rattle.sql_names.specs.Shown.{names_of}
-use Rattle.sql_names.specs.View.{expr_of}
+use Rattle.sql_names.specs.Making.{joined_name}
+use Rattle.sql_scope.specs.Shown.{names_of}
+use Rattle.sql_query.specs.View.{expr_of}
 use Rattle.sql_names.proofs.making.push_equalities.Given as goal
 
 abbrev pub invariant-loop-name : goal.invariant-loop-name

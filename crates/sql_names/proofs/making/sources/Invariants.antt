@@ -1,7 +1,8 @@
 use Rattle.std.proofs.Common.{◌≡◌, ◌++◌, drop, map}
-use Rattle.sql_parser.specs.Select.{ref_of}
-use Rattle.sql_names.specs.Resolved.{source_of, source_trees}
-use Rattle.sql_names.specs.Shown.{names_of}
+use Rattle.sql_tree.specs.Select.{ref_of}
+use Rattle.sql_query.specs.Resolved.{source_of}
+use Rattle.sql_names.specs.Making.{source_trees}
+use Rattle.sql_scope.specs.Shown.{names_of}
 use Rattle.sql_names.proofs.making.sources.Given as goal
 
 abbrev pub invariant-loop-table : goal.invariant-loop-table

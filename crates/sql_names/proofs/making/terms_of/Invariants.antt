@@ -1,7 +1,8 @@
 use Rattle.std.proofs.Common.{◌≡◌, take, map}
-use Rattle.sql_parser.specs.Select.{term_of}
-use Rattle.sql_names.specs.Resolved.{order_of, order_by}
-use Rattle.sql_names.specs.Shown.{names_of}
+use Rattle.sql_tree.specs.Select.{term_of}
+use Rattle.sql_query.specs.Resolved.{order_of}
+use Rattle.sql_names.specs.Making.{order_by}
+use Rattle.sql_scope.specs.Shown.{names_of}
 use Rattle.sql_names.proofs.making.terms_of.Given as goal
 
 abbrev pub invariant-loop-term : goal.invariant-loop-term

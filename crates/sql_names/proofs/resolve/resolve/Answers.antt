@@ -1,8 +1,8 @@
 use Rattle.std.proofs.Common.{◌≡◌, List, map, ap, ◌∙◌, None}
-use Rattle.sql_parser.specs.declared.select.TableRef.{TableRef}
-use Rattle.sql_parser.specs.Select.{select_of, ref_of}
+use Rattle.sql_tree.specs.declared.select.TableRef.{TableRef}
+use Rattle.sql_tree.specs.Select.{select_of, ref_of}
 use Rattle.sql_names.specs.Kinds.{too_many_tables}
-use Rattle.sql_names.specs.Scope.{scope_of}
+use Rattle.sql_scope.specs.Scope.{scope_of}
 use Rattle.sql_names.proofs.Answered.{whole_fault, whole_query}
 use Rattle.sql_names.proofs.QueryStands.{result_stands}
 use Rattle.sql_names.proofs.resolve.resolve.Goals as goal

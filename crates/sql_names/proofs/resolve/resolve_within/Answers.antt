@@ -1,11 +1,12 @@
 use Rattle.std.proofs.Common.{◌≡◌, List, map, ap, ◌∙◌}
-use Rattle.sql_parser.specs.declared.tree.Node.{Node}
-use Rattle.sql_parser.specs.Select.{select_of}
-use Rattle.sql_parser.specs.View.{tree_of}
+use Rattle.sql_tree.specs.declared.tree.Node.{Node}
+use Rattle.sql_tree.specs.Select.{select_of}
+use Rattle.sql_tree.specs.View.{tree_of}
 use Rattle.sql_names.specs.Resolve.{whole_names, shown_in}
-use Rattle.sql_names.specs.Resolved.{key_exprs, query_of}
-use Rattle.sql_names.specs.Shown.{shown_of}
-use Rattle.sql_names.specs.View.{expr_of}
+use Rattle.sql_names.specs.Making.{key_exprs}
+use Rattle.sql_query.specs.Resolved.{query_of}
+use Rattle.sql_scope.specs.Shown.{shown_of}
+use Rattle.sql_query.specs.View.{expr_of}
 use Rattle.sql_names.proofs.Answered.{found_fault, found_query}
 use Rattle.sql_names.proofs.resolve.resolve_within.Goals as goal
 

@@ -1,5 +1,5 @@
 use Rattle.std.proofs.Common.{◌≡◌, drop, map}
-use Rattle.sql_names.specs.declared.mention.Mention.{Mention}
+use Rattle.sql_scope.specs.declared.mention.Mention.{Mention}
 use Rattle.sql_names.specs.Least.{lesser, least}
 use Rattle.sql_names.specs.Results.{aggregate_place}
 use Rattle.sql_names.proofs.results.least_aggregate.Given as goal

@@ -1,7 +1,7 @@
 use Rattle.std.proofs.Common.{◌≡◌, ◌++◌, drop, map}
 use Rattle.sql_names.specs.Results.{all_columns}
-use Rattle.sql_names.specs.Scope.{AreNarrow}
-use Rattle.sql_names.specs.Shown.{shown_of}
+use Rattle.sql_scope.specs.Scope.{AreNarrow}
+use Rattle.sql_scope.specs.Shown.{shown_of}
 use Rattle.sql_names.proofs.results.push_all.Given as goal
 
 abbrev pub invariant-loop-seen : goal.invariant-loop-seen

@@ -1,6 +1,6 @@
 use Rattle.std.proofs.Common.{◌≡◌, ◌++◌, drop, map}
 use Rattle.sql_names.specs.Results.{columns_from}
-use Rattle.sql_names.specs.Shown.{shown_of}
+use Rattle.sql_scope.specs.Shown.{shown_of}
 use Rattle.sql_names.proofs.results.push_columns.Given as goal
 
 abbrev pub invariant-loop-column : goal.invariant-loop-column

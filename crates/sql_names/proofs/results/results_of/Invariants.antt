@@ -1,7 +1,7 @@
 use Rattle.std.proofs.Common.{◌≡◌, ◌++◌, drop, map}
-use Rattle.sql_parser.specs.Select.{item_of}
+use Rattle.sql_tree.specs.Select.{item_of}
 use Rattle.sql_names.specs.Results.{results}
-use Rattle.sql_names.specs.Shown.{shown_of, names_of}
+use Rattle.sql_scope.specs.Shown.{shown_of, names_of}
 use Rattle.sql_names.proofs.results.results_of.Given as goal
 
 abbrev pub invariant-loop-item : goal.invariant-loop-item

@@ -1,7 +1,7 @@
 use Rattle.std.proofs.lemmas.Result.{err_from_is_err_and}
-use Rattle.sql_parser.specs.declared.token.Kind.TheVariants as kind
-use Rattle.sql_parser.specs.declared.token.Clause.TheVariants as clause
-use Rattle.sql_parser.specs.View.{tree_of}
+use Rattle.sql_tokens.specs.declared.token.Kind.TheVariants as kind
+use Rattle.sql_tokens.specs.declared.token.Clause.TheVariants as clause
+use Rattle.sql_tree.specs.View.{tree_of}
 use Rattle.sql_parser.proofs.SelectArms.{took_yes, took_no, an_on, stopped_on, a_using, stopped_using, no_condition}
 use Rattle.sql_parser.proofs.clauses.condition.Goals as goal
 

@@ -1,4 +1,4 @@
-use Rattle.sql_parser.specs.View.{tree_of}
+use Rattle.sql_tree.specs.View.{tree_of}
 use Rattle.std.proofs.Common.{refl}
 use Rattle.sql_parser.proofs.SelectArms.{an_expression_item}
 use Rattle.sql_parser.proofs.clauses.expression_item.Goals as goal

@@ -1,4 +1,4 @@
-use Rattle.sql_parser.specs.declared.token.Kind.TheVariants as kind
+use Rattle.sql_tokens.specs.declared.token.Kind.TheVariants as kind
 use Rattle.std.proofs.Common.{ap, ◌∙◌}
 use Rattle.sql_parser.proofs.SelectArms.{cross_form, inner_form, left_form, join_word_form, no_form_word}
 use Rattle.sql_parser.proofs.clauses.form_of_word.Goals as goal

@@ -1,9 +1,9 @@
 use Rattle.std.proofs.lemmas.Result.{err_from_is_err_and}
-use Rattle.sql_parser.specs.declared.token.Kind.TheVariants as kind
-use Rattle.sql_parser.specs.declared.token.Clause.TheVariants as clause
-use Rattle.sql_parser.specs.View.{tree_of}
+use Rattle.sql_tokens.specs.declared.token.Kind.TheVariants as kind
+use Rattle.sql_tokens.specs.declared.token.Clause.TheVariants as clause
+use Rattle.sql_tree.specs.View.{tree_of}
 use Rattle.std.proofs.Common.{ap}
-use Rattle.sql_parser.specs.declared.token.Token.{Token}
+use Rattle.sql_tokens.specs.declared.token.Token.{Token}
 use Rattle.sql_parser.proofs.SelectArms.{took_yes, took_no, no_having, stopped_having, a_having}
 use Rattle.sql_parser.proofs.clauses.having.Goals as goal
 

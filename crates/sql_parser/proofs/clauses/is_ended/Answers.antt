@@ -1,7 +1,7 @@
 use Rattle.sql_parser.proofs.Arms.{kind_at, kind_not}
 use Rattle.std.proofs.Common.{ap, ◌∙◌}
-use Rattle.sql_parser.specs.declared.token.Token.{Token}
-use Rattle.sql_parser.specs.Tokens.{is_end}
+use Rattle.sql_tokens.specs.declared.token.Token.{Token}
+use Rattle.sql_tokens.specs.Tokens.{is_end}
 use Rattle.sql_parser.proofs.Whole.{told_behind, told_here}
 use Rattle.sql_parser.proofs.clauses.is_ended.Goals as goal
 

@@ -1,8 +1,8 @@
 use Rattle.std.proofs.Common.{ap, ◌∙◌, sym}
-use Rattle.sql_parser.specs.declared.token.Token.{Token}
-use Rattle.sql_parser.specs.Tokens.{after}
-use Rattle.sql_parser.specs.Calls.{name_of as token_name}
-use Rattle.sql_parser.specs.Select.{item_of, all, all_of}
+use Rattle.sql_tokens.specs.declared.token.Token.{Token}
+use Rattle.sql_tokens.specs.Tokens.{after}
+use Rattle.sql_faults.specs.Calls.{name_of as token_name}
+use Rattle.sql_tree.specs.Select.{item_of, all, all_of}
 use Rattle.sql_parser.proofs.Arms.{kind_at, kind_not}
 use Rattle.sql_parser.proofs.SelectArms.{an_all_of, an_all, an_other_item}
 use Rattle.sql_parser.proofs.clauses.item.Goals as goal

@@ -1,8 +1,8 @@
 use Rattle.std.proofs.Common.{length, map, [], ◌∷◌}
-use Rattle.sql_parser.specs.declared.part.Part.TheVariants.{Must, May}
-use Rattle.sql_parser.specs.declared.part.Rule.TheVariants as rule
-use Rattle.sql_parser.specs.declared.part.Optional.TheVariants as optional
-use Rattle.sql_parser.specs.Select.{item_of}
+use Rattle.sql_faults.specs.declared.part.Part.TheVariants.{Must, May}
+use Rattle.sql_faults.specs.declared.part.Rule.TheVariants as rule
+use Rattle.sql_faults.specs.declared.part.Optional.TheVariants as optional
+use Rattle.sql_tree.specs.Select.{item_of}
 use Rattle.sql_parser.specs.SelectRead as read
 use Rattle.sql_parser.proofs.SelectLists.{IsSoFar}
 use Rattle.sql_parser.proofs.clauses.items.Given as goal

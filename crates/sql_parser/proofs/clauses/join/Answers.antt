@@ -1,5 +1,5 @@
-use Rattle.sql_parser.specs.declared.token.Kind.TheVariants as kind
-use Rattle.sql_parser.specs.declared.token.Clause.TheVariants as clause
+use Rattle.sql_tokens.specs.declared.token.Kind.TheVariants as kind
+use Rattle.sql_tokens.specs.declared.token.Clause.TheVariants as clause
 use Rattle.sql_parser.proofs.SelectArms.{a_join, took_yes, took_no, fails_join}
 use Rattle.sql_parser.proofs.clauses.join.Goals as goal
 

@@ -1,5 +1,5 @@
 use Rattle.std.proofs.Common.{true, false, ap, ◌∙◌}
-use Rattle.sql_parser.specs.Calls.{name_of as token_name}
+use Rattle.sql_faults.specs.Calls.{name_of as token_name}
 use Rattle.sql_parser.proofs.SelectArms.{is_name_at, a_name, no_name}
 use Rattle.sql_parser.proofs.clauses.name.Goals as goal
 

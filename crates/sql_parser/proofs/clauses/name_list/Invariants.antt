@@ -1,7 +1,7 @@
 use Rattle.std.proofs.Common.{length, [], ◌∷◌}
-use Rattle.sql_parser.specs.declared.part.Part.TheVariants.{One, May}
-use Rattle.sql_parser.specs.declared.part.Expected.TheVariants as expected
-use Rattle.sql_parser.specs.declared.part.Optional.TheVariants as optional
+use Rattle.sql_faults.specs.declared.part.Part.TheVariants.{One, May}
+use Rattle.sql_faults.specs.declared.part.Expected.TheVariants as expected
+use Rattle.sql_faults.specs.declared.part.Optional.TheVariants as optional
 use Rattle.sql_parser.specs.SelectRead as read
 use Rattle.sql_parser.proofs.SelectLists.{IsSoFar}
 use Rattle.sql_parser.proofs.clauses.name_list.Given as goal

@@ -1,4 +1,4 @@
-use Rattle.sql_parser.specs.declared.token.Kind.TheVariants as kind
+use Rattle.sql_tokens.specs.declared.token.Kind.TheVariants as kind
 use Rattle.std.proofs.Common.{rules, w64, FitsSigned}
 use Rattle.std.proofs.lemmas.Int.{to_z-of_z}
 use Rattle.std.proofs.Common.{ap, ◌∙◌}

@@ -1,5 +1,5 @@
-use Rattle.sql_parser.specs.declared.token.Kind.TheVariants as kind
-use Rattle.sql_parser.specs.declared.token.Clause.TheVariants as clause
+use Rattle.sql_tokens.specs.declared.token.Kind.TheVariants as kind
+use Rattle.sql_tokens.specs.declared.token.Clause.TheVariants as clause
 use Rattle.sql_parser.proofs.Arms.{kind_at, kind_not}
 use Rattle.std.proofs.Common.{true, false}
 use Rattle.sql_parser.proofs.SelectArms.{took_yes, took_no, no_opening, an_opening, a_distinct, no_distinct}

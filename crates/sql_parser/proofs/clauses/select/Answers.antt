@@ -1,6 +1,6 @@
-use Rattle.sql_parser.specs.View.{tree_of}
+use Rattle.sql_tree.specs.View.{tree_of}
 use Rattle.std.proofs.Common.{option_map, map}
-use Rattle.sql_parser.specs.Select.{item_of, ref_of, having_of, term_of}
+use Rattle.sql_tree.specs.Select.{item_of, ref_of, having_of, term_of}
 use Rattle.sql_parser.proofs.SelectArms.{a_select}
 use Rattle.sql_parser.proofs.clauses.select.Goals as goal
 

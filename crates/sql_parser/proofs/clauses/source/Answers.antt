@@ -1,4 +1,4 @@
-use Rattle.sql_parser.specs.View.{tree_of}
+use Rattle.sql_tree.specs.View.{tree_of}
 use Rattle.std.proofs.Common.{option_map}
 use Rattle.sql_parser.proofs.SelectArms.{a_source}
 use Rattle.sql_parser.proofs.clauses.source.Goals as goal

@@ -2,7 +2,7 @@ use Rattle.std.proofs.Common.{[], ◌∷◌}
 use Rattle.std.proofs.Common.{◌++◌, ap, ◌∙◌, map, Ok, Option, subst}
 use Rattle.std.proofs.lemmas.List.{map-append}
 use Rattle.sql_parser.specs.declared.clauses.Form.{Form}
-use Rattle.sql_parser.specs.Select.{ref_of}
+use Rattle.sql_tree.specs.Select.{ref_of}
 use Rattle.sql_parser.specs.SelectDescent.{FormFound}
 use Rattle.sql_parser.proofs.SelectArms.{sources_start, sources_more, sources_end}
 use Rattle.sql_parser.proofs.clauses.source_list.Goals as goal

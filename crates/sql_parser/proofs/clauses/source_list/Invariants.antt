@@ -1,9 +1,9 @@
 use Rattle.std.proofs.Common.{length, map, [], ◌∷◌}
-use Rattle.sql_parser.specs.declared.part.Part.TheVariants.{One, May}
-use Rattle.sql_parser.specs.declared.part.Expected.TheVariants as expected
-use Rattle.sql_parser.specs.declared.part.Optional.TheVariants as optional
+use Rattle.sql_faults.specs.declared.part.Part.TheVariants.{One, May}
+use Rattle.sql_faults.specs.declared.part.Expected.TheVariants as expected
+use Rattle.sql_faults.specs.declared.part.Optional.TheVariants as optional
 use Rattle.sql_parser.specs.declared.clauses.Form.TheVariants as form
-use Rattle.sql_parser.specs.Select.{ref_of}
+use Rattle.sql_tree.specs.Select.{ref_of}
 use Rattle.sql_parser.specs.SelectRead as read
 use Rattle.sql_parser.proofs.SelectLists.{IsSoFar}
 use Rattle.sql_parser.proofs.clauses.source_list.Given as goal

@@ -1,7 +1,7 @@
-use Rattle.sql_parser.specs.declared.token.Kind.TheVariants as kind
-use Rattle.sql_parser.specs.declared.token.Clause.TheVariants as clause
+use Rattle.sql_tokens.specs.declared.token.Kind.TheVariants as kind
+use Rattle.sql_tokens.specs.declared.token.Clause.TheVariants as clause
 use Rattle.std.proofs.Common.{map}
-use Rattle.sql_parser.specs.Select.{ref_of}
+use Rattle.sql_tree.specs.Select.{ref_of}
 use Rattle.sql_parser.proofs.SelectArms.{took_yes, took_no, no_sources, finds_sources}
 use Rattle.sql_parser.proofs.clauses.sources.Goals as goal
 

@@ -1,4 +1,4 @@
-use Rattle.sql_parser.specs.View.{tree_of}
+use Rattle.sql_tree.specs.View.{tree_of}
 use Rattle.sql_parser.proofs.SelectArms.{a_term}
 use Rattle.sql_parser.proofs.clauses.term.Goals as goal
 

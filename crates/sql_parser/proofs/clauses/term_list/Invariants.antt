@@ -1,9 +1,9 @@
 use Rattle.std.proofs.Common.{length, map, [], ◌∷◌}
-use Rattle.sql_parser.specs.declared.part.Part.TheVariants.{Must, May}
-use Rattle.sql_parser.specs.declared.part.Rule.TheVariants as rule
-use Rattle.sql_parser.specs.declared.part.Optional.TheVariants as optional
-use Rattle.sql_parser.specs.declared.level.Level.TheVariants as level
-use Rattle.sql_parser.specs.Select.{term_of}
+use Rattle.sql_faults.specs.declared.part.Part.TheVariants.{Must, May}
+use Rattle.sql_faults.specs.declared.part.Rule.TheVariants as rule
+use Rattle.sql_faults.specs.declared.part.Optional.TheVariants as optional
+use Rattle.sql_tokens.specs.declared.level.Level.TheVariants as level
+use Rattle.sql_tree.specs.Select.{term_of}
 use Rattle.sql_parser.specs.SelectRead as read
 use Rattle.sql_parser.proofs.SelectLists.{IsSoFar}
 use Rattle.sql_parser.proofs.clauses.term_list.Given as goal

@@ -1,27 +1,27 @@
 use Rattle.std.proofs.Common.{◌≡◌, ◌+◌, [], ◌∷◌, length, Some, None, true, false, sym, ap, ◌∙◌, arith}
 use Rattle.std.proofs.lemmas.Result.{err_from_is_err_and}
-use Rattle.sql_parser.specs.declared.token.Token.{Token}
-use Rattle.sql_parser.specs.declared.token.Kind.TheVariants as kind
-use Rattle.sql_parser.specs.declared.part.Part.TheVariants.{One, Must}
-use Rattle.sql_parser.specs.declared.part.Expected.TheVariants as expected
-use Rattle.sql_parser.specs.declared.part.Rule.TheVariants as rule
-use Rattle.sql_parser.specs.declared.level.Level.TheVariants as level
-use Rattle.sql_parser.specs.declared.level.Sign.TheVariants as sign
-use Rattle.sql_parser.specs.declared.tree.Operator.TheVariants as op
-use Rattle.sql_parser.specs.Tokens.{next}
-use Rattle.sql_parser.specs.Tree.{no_steps, no_trees, Trees, and_tree}
-use Rattle.sql_parser.specs.declared.tree.Node.{Text}
-use Rattle.sql_parser.specs.Levels.{sign_at}
-use Rattle.sql_parser.specs.View.{tree_of, step_of, steps_of, trees_of}
-use Rattle.sql_parser.specs.Reading.{operand_rule, further}
+use Rattle.sql_tokens.specs.declared.token.Token.{Token}
+use Rattle.sql_tokens.specs.declared.token.Kind.TheVariants as kind
+use Rattle.sql_faults.specs.declared.part.Part.TheVariants.{One, Must}
+use Rattle.sql_faults.specs.declared.part.Expected.TheVariants as expected
+use Rattle.sql_faults.specs.declared.part.Rule.TheVariants as rule
+use Rattle.sql_tokens.specs.declared.level.Level.TheVariants as level
+use Rattle.sql_tokens.specs.declared.level.Sign.TheVariants as sign
+use Rattle.sql_tree.specs.declared.tree.Operator.TheVariants as op
+use Rattle.sql_tokens.specs.Tokens.{next}
+use Rattle.sql_tree.specs.Tree.{no_steps, no_trees, Trees, and_tree}
+use Rattle.sql_tree.specs.declared.tree.Node.{Text}
+use Rattle.sql_tokens.specs.Levels.{sign_at}
+use Rattle.sql_tree.specs.View.{tree_of, step_of, steps_of, trees_of}
+use Rattle.sql_faults.specs.Reading.{operand_rule, further}
 use Rattle.sql_parser.proofs.Laws.{leads_on, leads_with, leads_chain, fails_with, fails_later}
-use Rattle.sql_parser.proofs.Trees.{view-Binary, view-In, view-Between, view-Text, view-Null, view-Column}
+use Rattle.sql_tree.proofs.Trees.{view-Binary, view-In, view-Between, view-Text, view-Null, view-Column}
 use Rattle.sql_parser.proofs.Arms.{stopped_later, stopped_with, same_descent, kind_at, kind_not, sign_is, leads_not, fails_not, leads_no_not, leads_minus, fails_minus, leads_plus, fails_plus, leads_no_sign, stopped_step, fails_close, fails_and, fails_open, fails_deep_open, leads_parenthesis, fails_parenthesis, refuses_atom, leads_like, leads_not_in, fails_negatable}
 use Rattle.sql_parser.specs.Grammar.{no_not, no_sign}
 use Rattle.sql_parser.specs.Grammar as grammar
 use Rattle.sql_parser.proofs.Read.{read_not, read_minus, read_plus, number_descent, read_text, read_null, read_parentheses, read_binary, is_leads, read_is, read_in, read_between, read_negated, read_not_like, read_not_in, read_two_ends, stopped_high, same_negated, stopped_chain, chain_full, no_step, list_unclosed, chain_start, chain_more, chain_end, stopped_first, list_start, stopped_item, list_more, list_end, list_empty}
-use Rattle.sql_parser.specs.Tree as tree
-use Rattle.sql_parser.specs.Calls.{name_of as token_name}
+use Rattle.sql_tree.specs.Tree as tree
+use Rattle.sql_faults.specs.Calls.{name_of as token_name}
 use Rattle.sql_parser.proofs.Calls.{IsOpening, read_column, member_descent, call_descent, fails_unknown, fails_deep_call, fails_empty_call, all_descent, distinct_descent, plain_descent, counted_start, stopped_argument, counted_more, counted_end, fails_cast_open, fails_deep_cast, stopped_inner, stopped_type, cast_read, cast_descent}
 use Rattle.sql_parser.proofs.Shorter.{shorter, after_shorter}
 use Rattle.sql_parser.proofs.descent.+descent.Goals as goal

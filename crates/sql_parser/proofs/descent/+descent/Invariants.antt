@@ -1,6 +1,6 @@
 use Rattle.std.proofs.Common.{◌+◌, ◌-◌, ◌*◌, length}
-use Rattle.sql_parser.specs.Levels.{rank}
-use Rattle.sql_parser.specs.View.{tree_of, steps_of, trees_of}
+use Rattle.sql_tokens.specs.Levels.{rank}
+use Rattle.sql_tree.specs.View.{tree_of, steps_of, trees_of}
 use Rattle.sql_parser.proofs.Read.{IsChainSoFar, IsListSoFar}
 use Rattle.sql_parser.proofs.Calls.{IsCountedSoFar}
 use Rattle.sql_parser.proofs.descent.+descent.Given as goal

@@ -1,5 +1,5 @@
 use Rattle.std.proofs.lemmas.Result.{err_from_is_err_and}
-use Rattle.sql_parser.specs.View.{trees_of}
+use Rattle.sql_tree.specs.View.{trees_of}
 use Rattle.sql_parser.proofs.Arms.{kind_at, kind_not}
 use Rattle.sql_parser.proofs.Calls.{call_unclosed, call_refused}
 use Rattle.sql_parser.proofs.descent.close_call.Goals as goal

@@ -1,10 +1,10 @@
 use Rattle.std.proofs.Common.{ap, ◌∙◌, sym, ◌++◌, List}
 use Rattle.std.specs.Prelude.{option_to_list, Option}
-use Rattle.sql_parser.specs.declared.tree.Node.{Node}
-use Rattle.sql_parser.specs.Tree.{no_trees}
-use Rattle.sql_parser.specs.Calls.{only}
-use Rattle.sql_parser.specs.View.{trees_of}
-use Rattle.sql_parser.proofs.Trees.{trees_after-push}
+use Rattle.sql_tree.specs.declared.tree.Node.{Node}
+use Rattle.sql_tree.specs.Tree.{no_trees}
+use Rattle.sql_faults.specs.Calls.{only}
+use Rattle.sql_tree.specs.View.{trees_of}
+use Rattle.sql_tree.proofs.Trees.{trees_after-push}
 use Rattle.sql_parser.proofs.making.only_argument.Goals as goal
 
 pub returns-in-Some : goal.returns-in-Some

@@ -1,7 +1,7 @@
 use Rattle.std.proofs.Common.{ltb, length}
-use Rattle.sql_parser.specs.Lexing.{tokens_of}
+use Rattle.sql_tokens.specs.Lexing.{tokens_of}
 use Rattle.sql_parser.specs.Text.{too_long}
-use Rattle.sql_parser.specs.Reading.{faults, whole_select}
+use Rattle.sql_faults.specs.Reading.{faults, whole_select}
 use Rattle.sql_parser.proofs.Whole.{no_fault}
 use Rattle.sql_parser.proofs.SelectTold.{faultless_tree}
 use Rattle.sql_parser.proofs.parse.faultless_select.Goals as goal

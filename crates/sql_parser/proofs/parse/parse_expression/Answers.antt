@@ -1,5 +1,5 @@
 use Rattle.std.proofs.Common.{ap, ◌∙◌}
-use Rattle.sql_parser.specs.Lexing.{tokens_of}
+use Rattle.sql_tokens.specs.Lexing.{tokens_of}
 use Rattle.sql_parser.proofs.ReadSpelled.{computed_ok}
 use Rattle.sql_parser.proofs.parse.parse_expression.Goals as goal
 

@@ -1,5 +1,5 @@
 use Rattle.std.proofs.Common.{sym, ◌∙◌}
-use Rattle.sql_parser.specs.Reading.{faults, whole}
+use Rattle.sql_faults.specs.Reading.{faults, whole}
 use Rattle.sql_parser.proofs.Whole.{no_least}
 use Rattle.sql_parser.proofs.parse.parse_tokens.Goals as goal
 

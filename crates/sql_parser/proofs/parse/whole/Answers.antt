@@ -1,4 +1,4 @@
-use Rattle.sql_parser.specs.View.{tree_of}
+use Rattle.sql_tree.specs.View.{tree_of}
 use Rattle.sql_parser.proofs.Arms.{kind_at, kind_not}
 use Rattle.sql_parser.proofs.Whole.{whole_read, whole_unended}
 use Rattle.sql_parser.proofs.parse.whole.Goals as goal

@@ -1,4 +1,4 @@
-use Rattle.sql_parser.specs.Select.{select_of}
+use Rattle.sql_tree.specs.Select.{select_of}
 use Rattle.sql_parser.proofs.Whole.{whole_select_read}
 use Rattle.sql_parser.proofs.parse.whole_select.Goals as goal
 

@@ -1,4 +1,4 @@
-use Rattle.sql_names.specs.View.{expr_of}
+use Rattle.sql_query.specs.View.{expr_of}
 use Rattle.sql_planner.proofs.Chains.{more, no-sides}
 use Rattle.sql_planner.proofs.comparison.chain_sides.Goals as goal
 

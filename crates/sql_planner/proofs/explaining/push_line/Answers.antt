@@ -1,5 +1,5 @@
 use Rattle.std.proofs.Common.{ap, ◌∙◌, ◌++◌, List}
-use Rattle.sql_names.specs.Resolved.{source_of}
+use Rattle.sql_query.specs.Resolved.{source_of}
 use Rattle.virtual_tables.specs.declared.constraint.Constraint.{Constraint}
 use Rattle.sql_planner.specs.Explained.{where_text}
 use Rattle.sql_planner.proofs.Pieces.{four}

@@ -1,5 +1,5 @@
 use Rattle.std.proofs.Common.{◌≡◌, ◌++◌, length, map}
-use Rattle.sql_names.specs.Resolved.{source_of}
+use Rattle.sql_query.specs.Resolved.{source_of}
 use Rattle.sql_planner.specs.Explained.{lines}
 use Rattle.sql_planner.proofs.explaining.push_lines.Given as goal
 

@@ -1,6 +1,6 @@
 use Rattle.std.proofs.Common.{◌≡◌, ◌++◌, length}
 use Rattle.std.specs.Prelude.{flat_map}
-use Rattle.sql_names.specs.Resolved.{source_of}
+use Rattle.sql_query.specs.Resolved.{source_of}
 use Rattle.sql_planner.specs.Explained.{behind_and}
 use Rattle.sql_planner.proofs.explaining.push_others.Given as goal
 

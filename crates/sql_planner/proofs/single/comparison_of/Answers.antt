@@ -1,5 +1,5 @@
 use Rattle.std.proofs.Common.{ap, ◌∙◌}
-use Rattle.sql_names.specs.Exprs.{binary, chain, column, literal, no_steps, then}
+use Rattle.sql_query.specs.Exprs.{binary, chain, column, literal, no_steps, then}
 use Rattle.sql_planner.proofs.OneTable.{compared-by}
 use Rattle.sql_planner.proofs.single.comparison_of.Goals as goal
 

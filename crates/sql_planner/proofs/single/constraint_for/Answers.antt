@@ -1,4 +1,4 @@
-use Rattle.sql_names.specs.View.{expr_of}
+use Rattle.sql_query.specs.View.{expr_of}
 use Rattle.sql_planner.proofs.OneTable.{met-where}
 use Rattle.sql_planner.proofs.single.constraint_for.Goals as goal
 

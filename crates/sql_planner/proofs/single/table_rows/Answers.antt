@@ -2,9 +2,9 @@ use Rattle.std.proofs.Common.{◌≡◌, ◌∙◌, List, ap, map, subst, sym, t
 use Rattle.std.specs.List.{filter}
 use Rattle.std.proofs.lemmas.Result.{IfOk-weaker}
 use Rattle.osq_value.specs.declared.value.Value.{Value}
-use Rattle.sql_names.specs.declared.tree.Expr.{Expr}
-use Rattle.sql_names.specs.Resolved.{query_of}
-use Rattle.sql_names.specs.View.{expr_of}
+use Rattle.sql_query.specs.declared.tree.Expr.{Expr}
+use Rattle.sql_query.specs.Resolved.{query_of}
+use Rattle.sql_query.specs.View.{expr_of}
 use Rattle.sql_meaning.specs.Expressions.{alone, holds}
 use Rattle.sql_meaning.specs.Lent.{values_in}
 use Rattle.sql_meaning.specs.Steps.{behind_from}

@@ -1,0 +1,40 @@
+//! Why a text has no tree.
+
+ghost use Rattle.std.specs.Prelude.{◌≡◌};
+ghost use Rattle.sql_faults.specs.declared.error.ParseKind.TheVariants.{NoMemory};
+
+use std::alloc::AllocError;
+
+/// What is wrong with a text.
+#[derive(Clone, Copy)]
+pub enum ParseKind {
+    /// The text is not in the grammar. The place is that of the first token that cannot stand
+    /// there, or of the name of a function or a type that cannot.
+    NotInGrammar,
+    /// A number is above 9223372036854775807.
+    NumberTooWide,
+    /// The text has more than 65536 bytes.
+    TextTooLong,
+    /// A token opens a 65th nesting, or is the 1001st operator of a chain.
+    TooDeep,
+    /// Memory ran out. The place says nothing.
+    NoMemory,
+}
+
+/// The least fault of a text, with its byte place.
+#[derive(Clone, Copy)]
+pub struct ParseError {
+    pub place: usize,
+    pub kind: ParseKind,
+}
+
+impl From<AllocError> for ParseError {
+    ghost from_gives = { λ _ e. e.kind ≡ NoMemory };
+
+    fn from(_error: AllocError) -> ParseError {
+        ParseError {
+            place: 0,
+            kind: ParseKind::NoMemory,
+        }
+    }
+}

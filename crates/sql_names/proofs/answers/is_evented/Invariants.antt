@@ -1,7 +1,0 @@
-use Rattle.std.proofs.Common.{◌≡◌, drop, map}
-use Rattle.sql_names.specs.Answers.{is_evented_among}
-use Rattle.sql_names.specs.Resolved.{source_of}
-use Rattle.sql_names.proofs.answers.is_evented.Given as goal
-
-abbrev pub invariant-loop-source : goal.invariant-loop-source
-invariant-loop-source l = is_evented_among (map source_of l.query.sources) ≡ is_evented_among (map source_of (drop l.source-index l.source-items))

@@ -1,6 +1,0 @@
-use Rattle.std.proofs.Common.{◌≡◌, take, map}
-use Rattle.sql_names.specs.Spelling.{name_text}
-use Rattle.sql_names.proofs.tables.name_texts.Given as goal
-
-abbrev pub invariant-loop-name : goal.invariant-loop-name
-invariant-loop-name l = l.texts ≡ map (name_text l.text) (take l.name-index l.names)

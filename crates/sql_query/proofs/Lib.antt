@@ -1,0 +1,6 @@
+pub mod Pushed
+pub mod Sames
+pub mod Widths
+pub mod StandingLaws
+pub mod StandingRows
+pub mod NamesLength

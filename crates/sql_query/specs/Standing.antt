@@ -1,0 +1,76 @@
+-- Where the columns and the aggregates of a query stand.
+use Rattle.std.specs.Prelude.{◌≡◌, ℕ, ◌+◌, ◌<◌, ◌≤◌, Bool, false, List, [], ◌∷◌, length, take, map, slice_get, Option, Some, IsTrue, ⊤}
+use Rattle.std.specs.List.{All}
+use Rattle.osq_value.specs.declared.catalogue.Affinity.{Affinity}
+use Rattle.osq_value.specs.Catalogue.{tables as catalogue, table_name, columns_of}
+use Rattle.sql_query.specs.declared.query.SourceColumn.{SourceColumn}
+use Rattle.sql_query.specs.Resolved.{source_column}
+use Rattle.sql_query.specs.Exprs.{ExprTree, OneExprStep, ExprSteps, Exprs}
+use Rattle.sql_query.specs.Exprs as expr
+use Rattle.sql_query.specs.Resolved.{SourceTree, ResultTree, OrderTree, QueryTree}
+
+-- the number of columns of these tables, which is that of the values of a row of their product
+abbrev pub row_width : List (List SourceColumn) → ℕ
+row_width [] = 0
+row_width (columns ∷ tables) = length columns + row_width tables
+
+-- The column of that number of the table of that number: it stands in a row of the product of the tables behind the columns of the tables before, and has the affinity that its table gives it.
+pub record IsColumn (tables : List (List SourceColumn)) (source column at : ℕ) (affinity : Option Affinity) : Type 0 where
+  pub columns : List SourceColumn
+  pub found : SourceColumn
+  pub of_table : slice_get tables source ≡ Some columns
+  pub of_column : slice_get columns column ≡ Some found
+  pub has_affinity : affinity ≡ found.affinity
+  pub stands_at : at ≡ row_width (take source tables) + column
+  pub is_within : at < row_width tables
+
+abbrev mutual
+  -- each column is one of these tables'; an aggregate stands only where one may, and none within another
+  pub Stands : List (List SourceColumn) → Bool → ExprTree → Type 0
+  Stands tables may_fold (expr.literal value) = ⊤
+  Stands tables may_fold (expr.column source column at affinity) = IsColumn tables source column at affinity
+  Stands tables may_fold (expr.chain first steps) = Stands tables may_fold first × StepsStand tables may_fold steps
+  Stands tables may_fold (expr.negation e) = Stands tables may_fold e
+  Stands tables may_fold (expr.minus e) = Stands tables may_fold e
+  Stands tables may_fold (expr.plus e) = Stands tables may_fold e
+  Stands tables may_fold (expr.cast e affinity) = Stands tables may_fold e
+  Stands tables may_fold (expr.call function arguments) = ExprsStand tables may_fold arguments
+  Stands tables may_fold (expr.folded fold is_distinct e) = IsTrue may_fold × Stands tables false e
+  Stands tables may_fold (expr.count_all fold is_distinct) = IsTrue may_fold
+
+  pub StepStands : List (List SourceColumn) → Bool → OneExprStep → Type 0
+  StepStands tables may_fold (expr.binary op right) = Stands tables may_fold right
+  StepStands tables may_fold (expr.among is_negated items) = ExprsStand tables may_fold items
+  StepStands tables may_fold (expr.between is_negated low high) = Stands tables may_fold low × Stands tables may_fold high
+
+  pub StepsStand : List (List SourceColumn) → Bool → ExprSteps → Type 0
+  StepsStand tables may_fold expr.no_steps = ⊤
+  StepsStand tables may_fold (expr.then before step) = StepsStand tables may_fold before × StepStands tables may_fold step
+
+  pub ExprsStand : List (List SourceColumn) → Bool → Exprs → Type 0
+  ExprsStand tables may_fold expr.no_exprs = ⊤
+  ExprsStand tables may_fold (expr.and_expr before e) = ExprsStand tables may_fold before × Stands tables may_fold e
+
+abbrev pub StandAll : List (List SourceColumn) → Bool → List ExprTree → Type 0
+StandAll tables may_fold exprs = All (Stands tables may_fold) exprs
+
+-- a FROM table is one of the catalogue's, with the name and the columns that the catalogue gives it
+pub record IsOfCatalogue (source : SourceTree) : Type 0 where
+  pub is_known : source.table < length catalogue
+  pub has_name : source.name ≡ table_name source.table
+  pub has_columns : source.columns ≡ map source_column (columns_of source.table)
+
+abbrev pub columns_in : List SourceTree → List (List SourceColumn)
+columns_in sources = map (λ (s : SourceTree). s.columns) sources
+
+-- A query whose columns and aggregates stand where they may: those of an ON see the tables up to its own, all others see all tables; aggregates stand in the columns of the result, in HAVING and in ORDER BY alone, and only where rows are grouped, as GROUP BY and HAVING do.
+pub record IsStanding (query : QueryTree) : Type 0 where
+  pub few : length query.sources ≤ 16
+  pub sources : All IsOfCatalogue query.sources
+  pub ons : (k : ℕ) (source : SourceTree) → slice_get query.sources k ≡ Some source → StandAll (take (k + 1) (columns_in query.sources)) false source.on
+  pub filter : StandAll (columns_in query.sources) false query.filter
+  pub keys : StandAll (columns_in query.sources) false query.keys
+  pub having : StandAll (columns_in query.sources) query.is_grouped query.having
+  pub items : All (λ (item : ResultTree). Stands (columns_in query.sources) query.is_grouped item.expr) query.items
+  pub terms : All (λ (term : OrderTree). Stands (columns_in query.sources) query.is_grouped term.expr) query.terms
+  pub ungrouped : query.is_grouped ≡ false → (query.keys ≡ []) × (query.having ≡ [])

@@ -1,0 +1,93 @@
+//! A query whose names are resolved.
+
+ghost use Rattle.std.specs.Prelude.{◌≡◌};
+
+use crate::tree::Expr;
+use osq_value::{Affinity, Sequence, Str, TableId};
+
+/// Expressions in their order.
+pub type ExprList = Sequence<Expr>;
+
+/// A condition by its conjuncts. It is true where each of them is true, so the empty one is true.
+#[derive(Drop)]
+pub struct Condition {
+    pub parts: ExprList,
+}
+
+impl Condition {
+    /// The condition of these conjuncts.
+    pub fn of(parts: Vec<Expr>) -> Condition
+        ensures { result.parts ≡ parts.items }
+    {
+        Condition {
+            parts: Sequence::from_vec(parts),
+        }
+    }
+}
+
+/// A column of a FROM table.
+#[derive(Drop)]
+pub struct SourceColumn {
+    pub name: Str,
+    pub affinity: Option<Affinity>,
+}
+
+/// Columns in their order.
+pub type SourceColumnList = Sequence<SourceColumn>;
+
+/// A FROM table.
+#[derive(Drop)]
+pub struct QuerySource {
+    pub table: TableId,
+    /// The catalogue's name of the table.
+    pub name: Str,
+    /// The alias, or the catalogue's name where the text has none.
+    pub alias: Str,
+    pub columns: SourceColumnList,
+    /// Whether LEFT JOIN brings this table in.
+    pub is_outer: bool,
+    /// The condition of ON, or the equalities of USING.
+    pub on: Condition,
+}
+
+/// FROM tables in their order.
+pub type QuerySourceList = Sequence<QuerySource>;
+
+/// A column of the result.
+#[derive(Drop)]
+pub struct QueryItem {
+    pub name: Str,
+    pub expr: Expr,
+}
+
+/// Columns of the result in their order.
+pub type QueryItemList = Sequence<QueryItem>;
+
+/// What the result is sorted by.
+#[derive(Drop)]
+pub struct Order {
+    pub expr: Expr,
+    pub is_descending: bool,
+}
+
+/// What the result is sorted by, the first before the others.
+pub type OrderList = Sequence<Order>;
+
+/// A SELECT whose names are resolved.
+#[derive(Drop)]
+pub struct Query {
+    pub sources: QuerySourceList,
+    /// The condition of WHERE.
+    pub filter: Condition,
+    /// Whether GROUP BY or an aggregate is there.
+    pub is_grouped: bool,
+    /// The expressions of GROUP BY.
+    pub keys: ExprList,
+    pub having: Condition,
+    pub items: QueryItemList,
+    pub is_distinct: bool,
+    pub terms: OrderList,
+    pub limit: Option<i64>,
+    /// The number of OFFSET.
+    pub skip: Option<i64>,
+}

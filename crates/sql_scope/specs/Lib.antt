@@ -1,0 +1,5 @@
+pub mod Spelling
+pub mod Scope
+pub mod Mentions
+pub mod Shown
+pub mod Naming

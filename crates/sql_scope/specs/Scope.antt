@@ -1,0 +1,85 @@
+-- The FROM tables as names see them, and which column a name is.
+use Rattle.std.specs.Prelude.{ℕ, ◌+◌, ◌^◌, ◌<◌, ◌&&◌, if◌then◌else◌, Bool, true, false, not, List, [], ◌∷◌, length, map, Option, Some, None}
+use Rattle.std.specs.Option.{option_map_or}
+use Rattle.osq_value.specs.Catalogue.{id_of, columns_of}
+use Rattle.sql_tree.specs.Select.{RefTree}
+use Rattle.sql_query.specs.declared.query.SourceColumn.{SourceColumn}
+use Rattle.sql_scope.specs.declared.scope.Seen.{Seen}
+use Rattle.sql_query.specs.declared.place.Place.{Place}
+use Rattle.sql_query.specs.Resolved.{source_column}
+use Rattle.sql_scope.specs.Spelling.{name_text, same_name}
+
+-- The number of the table of that name. A name that the catalogue lacks, which is a fault, has a number that the catalogue lacks.
+unfoldable pub table_number : List ℕ → ℕ
+table_number name = option_map_or (λ (id : ℕ). id) (id_of name) 255
+
+-- A table is known by its alias, or else by its name.
+unfoldable pub known_as : List ℕ → RefTree → List ℕ
+known_as text ref = option_map_or (name_text text) ref.alias (name_text text ref.table)
+
+abbrev pub columns_seen : List ℕ → RefTree → List SourceColumn
+columns_seen text ref = map source_column (columns_of (table_number (name_text text ref.table)))
+
+-- a FROM table, by its number among them and the place of its first column in a row of the product
+abbrev pub seen_at : List ℕ → ℕ → ℕ → RefTree → Seen
+seen_at text source at ref = record { source = source; at = at; table = record { 0 = table_number (name_text text ref.table) }; known = known_as text ref; columns = columns_seen text ref; joined = map (name_text text) ref.using }
+
+abbrev pub scope_from : List ℕ → ℕ → ℕ → List RefTree → List Seen
+scope_from text source at [] = []
+scope_from text source at (ref ∷ refs) = seen_at text source at ref ∷ scope_from text (source + 1) (at + length (columns_seen text ref)) refs
+
+-- the FROM tables of a select, in their order
+unfoldable pub scope_of : List ℕ → List RefTree → List Seen
+scope_of text refs = scope_from text 0 0 refs
+
+-- the first of a table's columns that has the name; the first of those here is the table's column of that number
+abbrev pub place_from : Seen → List ℕ → ℕ → List SourceColumn → Option Place
+place_from seen name number [] = None
+place_from seen name number (column ∷ columns) = if same_name column.name name then Some (record { source = seen.source; column = number; at = seen.at + number; affinity = column.affinity }) else place_from seen name (number + 1) columns
+
+unfoldable pub place_in : List ℕ → Seen → Option Place
+place_in name seen = place_from seen name 0 seen.columns
+
+abbrev pub is_some : {A : Type 0} → Option A → Bool
+is_some None = false
+is_some (Some x) = true
+
+abbrev pub or_else : {A : Type 0} → Option A → Option A → Option A
+or_else None other = other
+or_else (Some x) other = Some x
+
+-- the column of that name in the first table that has it
+abbrev pub plain_place : List ℕ → List Seen → Option Place
+plain_place name [] = None
+plain_place name (seen ∷ scope) = or_else (place_in name seen) (plain_place name scope)
+
+-- the same among the tables that are known by a name
+abbrev pub known_place : List ℕ → List ℕ → List Seen → Option Place
+known_place table name [] = None
+known_place table name (seen ∷ scope) = if same_name seen.known table then or_else (place_in name seen) (known_place table name scope) else known_place table name scope
+
+-- some table is known by a name
+abbrev pub is_known : List ℕ → List Seen → Bool
+is_known table [] = false
+is_known table (seen ∷ scope) = if same_name seen.known table then true else is_known table scope
+
+abbrev pub is_listed : List ℕ → List (List ℕ) → Bool
+is_listed name [] = false
+is_listed name (listed ∷ rest) = if same_name listed name then true else is_listed name rest
+
+-- the table has the column, and its USING does not join it to that of an earlier table
+abbrev pub has_own : List ℕ → Seen → Bool
+has_own name seen = is_some (place_in name seen) && not (is_listed name seen.joined)
+
+-- how many tables have a column of that name of their own
+abbrev pub owners : List ℕ → List Seen → ℕ
+owners name [] = 0
+owners name (seen ∷ scope) = (if has_own name seen then 1 else 0) + owners name scope
+
+-- the places of a table's columns are numbers of 32 bits
+abbrev pub IsNarrow : Seen → Type 0
+IsNarrow seen = seen.at + length seen.columns < 2 ^ 32
+
+abbrev pub AreNarrow : List Seen → Type 0
+AreNarrow [] = Unit {0}
+AreNarrow (seen ∷ scope) = IsNarrow seen × AreNarrow scope

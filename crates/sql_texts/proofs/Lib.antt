@@ -1,0 +1,4 @@
+pub mod TextAnswers
+pub mod TextStands
+pub mod Known
+pub mod KnownMeaning

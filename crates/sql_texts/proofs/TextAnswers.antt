@@ -1,0 +1,33 @@
+-- What a text's grammar and its names say of its query and of its fault.
+use Rattle.std.proofs.Common.{◌≡◌, ℕ, List, Option, Some, None, ap, ◌∙◌}
+use Rattle.std.specs.Option.{option_map}
+use Rattle.sql_faults.specs.declared.error.ParseError.{ParseError}
+use Rattle.sql_tree.specs.Select.{SelectTree}
+use Rattle.sql_parser.specs.Text.{select_of_text, select_fault}
+use Rattle.sql_names.specs.declared.error.NameError.{NameError}
+use Rattle.sql_texts.specs.declared.text.TextError.TheVariants.{Parse, Name}
+use Rattle.sql_scope.specs.Mentions.{mentions_of_select}
+use Rattle.sql_names.specs.Resolve.{name_fault, resolved, unless_fault, names_of_select}
+use Rattle.sql_names.specs.Making.{query_tree}
+use Rattle.sql_texts.specs.Texts.{query_unless, query_in}
+use Rattle.sql_texts.specs.TextFaults.{fault_or, text_fault}
+
+pub unparsed_fault : (text : List ℕ) (fault : ParseError) → select_fault text ≡ Some fault → text_fault text ≡ Some (Parse fault)
+unfolding text_fault
+unparsed_fault text fault f = ap (λ (x : Option ParseError). fault_or x text (select_of_text text)) f
+
+pub unparsed_query : (text : List ℕ) (fault : ParseError) → select_fault text ≡ Some fault → query_in text ≡ None
+unfolding query_in
+unparsed_query text fault f = ap (λ (x : Option ParseError). query_unless x text (select_of_text text)) f
+
+pub parsed_fault : (text : List ℕ) (tree : SelectTree) → select_fault text ≡ None → select_of_text text ≡ Some tree → text_fault text ≡ option_map Name (name_fault text tree)
+unfolding text_fault
+parsed_fault text tree n t = ap (λ (x : Option ParseError). fault_or x text (select_of_text text)) n ∙ ap (λ (x : Option SelectTree). fault_or None text x) t
+
+pub parsed_query : (text : List ℕ) (tree : SelectTree) → select_fault text ≡ None → select_of_text text ≡ Some tree → query_in text ≡ resolved text tree
+unfolding query_in
+parsed_query text tree n t = ap (λ (x : Option ParseError). query_unless x text (select_of_text text)) n ∙ ap (λ (x : Option SelectTree). query_unless None text x) t
+
+pub unresolved : (text : List ℕ) (tree : SelectTree) (fault : NameError) → name_fault text tree ≡ Some fault → resolved text tree ≡ None
+unfolding resolved
+unresolved text tree fault f = ap (λ (x : Option NameError). unless_fault x (query_tree (names_of_select text tree) tree (mentions_of_select tree))) f

@@ -1,0 +1,123 @@
+//! What a text asks for.
+
+ghost use Rattle.std.specs.Prelude.{◌≡◌, ◌≢◌, Some, None, IfOk, IfErr, OnOk};
+ghost use Rattle.sql_faults.specs.declared.error.ParseKind.TheVariants.{NoMemory as ParseWantsMemory};
+ghost use Rattle.sql_names.specs.declared.error.NameKind.TheVariants.{NoMemory as NameWantsMemory};
+ghost use Rattle.sql_texts.specs.declared.text.TextError.TheVariants.{Parse, Name, NoMemory};
+ghost use Rattle.sql_query.specs.Resolved.{query_of};
+ghost use Rattle.sql_query.specs.Standing.{IsStanding};
+ghost use Rattle.sql_texts.specs.Texts.{query_in};
+ghost use Rattle.sql_texts.specs.TextFaults.{text_fault, place_of_fault, parse_kind_name, name_kind_name, name_of_fault};
+
+use sql_names::error::{NameError, NameKind};
+use sql_names::resolve::resolve;
+use sql_parser::parse::parse;
+use sql_parser::{ParseError, ParseKind};
+use sql_query::query::Query;
+use std::alloc::Global;
+
+/// Why a text has no query.
+#[derive(Clone, Copy)]
+pub enum TextError {
+    /// Its grammar's least fault.
+    Parse(ParseError),
+    /// The first kind of fault of its names, at that kind's least place.
+    Name(NameError),
+    /// Memory ran out.
+    NoMemory,
+}
+
+impl TextError {
+    /// The byte place of the fault; 0 where memory ran out.
+    pub fn place(&self) -> usize
+        ensures { result ≡ place_of_fault self.now }
+    {
+        match self {
+            TextError::Parse(error) => error.place,
+            TextError::Name(error) => error.place,
+            TextError::NoMemory => 0,
+        }
+    }
+
+    /// The name of the fault's kind.
+    pub fn name(&self) -> &'static str
+        ensures { result.now ≡ name_of_fault self.now }
+    {
+        match self {
+            TextError::Parse(error) => parse_kind_name(error.kind),
+            TextError::Name(error) => name_kind_name(error.kind),
+            TextError::NoMemory => "NoMemory",
+        }
+    }
+}
+
+fn parse_kind_name(kind: ParseKind) -> &'static str
+    ensures { result.now ≡ parse_kind_name kind }
+{
+    match kind {
+        ParseKind::NotInGrammar => "NotInGrammar",
+        ParseKind::NumberTooWide => "NumberTooWide",
+        ParseKind::TextTooLong => "TextTooLong",
+        ParseKind::TooDeep => "TooDeep",
+        ParseKind::NoMemory => "NoMemory",
+    }
+}
+
+fn name_kind_name(kind: NameKind) -> &'static str
+    ensures { result.now ≡ name_kind_name kind }
+{
+    match kind {
+        NameKind::TooManyTables => "TooManyTables",
+        NameKind::NoTable => "NoTable",
+        NameKind::NoColumn => "NoColumn",
+        NameKind::Ambiguous => "Ambiguous",
+        NameKind::BadAggregate => "BadAggregate",
+        NameKind::BareColumn => "BareColumn",
+        NameKind::NoMemory => "NoMemory",
+    }
+}
+
+fn not_parsed(error: ParseError) -> TextError
+    ensures fault { result ≢ NoMemory → result ≡ Parse error }
+    ensures memory { result ≢ NoMemory → error.kind ≢ ParseWantsMemory }
+{
+    match error.kind {
+        ParseKind::NoMemory => TextError::NoMemory,
+        ParseKind::NotInGrammar => TextError::Parse(error),
+        ParseKind::NumberTooWide => TextError::Parse(error),
+        ParseKind::TextTooLong => TextError::Parse(error),
+        ParseKind::TooDeep => TextError::Parse(error),
+    }
+}
+
+fn not_resolved(error: NameError) -> TextError
+    ensures fault { result ≢ NoMemory → result ≡ Name error }
+    ensures memory { result ≢ NoMemory → error.kind ≢ NameWantsMemory }
+{
+    match error.kind {
+        NameKind::NoMemory => TextError::NoMemory,
+        NameKind::TooManyTables => TextError::Name(error),
+        NameKind::NoTable => TextError::Name(error),
+        NameKind::NoColumn => TextError::Name(error),
+        NameKind::Ambiguous => TextError::Name(error),
+        NameKind::BadAggregate => TextError::Name(error),
+        NameKind::BareColumn => TextError::Name(error),
+    }
+}
+
+/// The query that a text asks for, or its fault: that of its grammar, else that of its names.
+pub fn query_of_text(alloc: Global, text: &str) -> Result<Query, TextError>
+    ensures ok { IfOk result (λ q. query_in text.now ≡ Some (query_of q)) }
+    ensures standing { IfOk result (λ q. IsStanding (query_of q)) }
+    ensures sound { OnOk result (text_fault text.now ≡ None) }
+    ensures fault { IfErr result (λ e. e ≢ NoMemory → text_fault text.now ≡ Some e) }
+    ensures refused { IfErr result (λ e. e ≢ NoMemory → query_in text.now ≡ None) }
+{
+    match parse(alloc, text) {
+        Err(error) => Err(not_parsed(error)),
+        Ok(select) => match resolve(alloc, text, &select) {
+            Err(error) => Err(not_resolved(error)),
+            Ok(query) => Ok(query),
+        },
+    }
+}

@@ -1,0 +1,27 @@
+//! The functions that an expression may call.
+
+/// A scalar function.
+#[derive(Clone, Copy)]
+pub enum Function {
+    Length,
+    Lower,
+    Upper,
+    Trim,
+    Substr,
+    Instr,
+    Replace,
+    Abs,
+    Typeof,
+    Coalesce,
+    Ifnull,
+    Nullif,
+}
+
+/// An aggregate.
+#[derive(Clone, Copy)]
+pub enum Fold {
+    Count,
+    Sum,
+    Min,
+    Max,
+}
