@@ -1,7 +1,7 @@
 use osq_value::NoMemory;
 
 /// Why a line wasn't read: it isn't in the grammar, or memory was wanting.
-#[derive(Clone, Copy, PartialEq, Eq, Debug)]
+#[derive(Clone, Copy)]
 pub enum LineError {
     BadLine,
     NoMemory,

@@ -4,7 +4,7 @@ use osq_value::{Copied, NoMemory, Sequence, Str};
 use std::alloc::Global;
 
 /// What the lines of one audit event share: the moment, in whole seconds and milliseconds since 1970, and the kernel's serial number.
-#[derive(Clone, Copy, PartialEq, Eq, Debug)]
+#[derive(Clone, Copy, PartialEq, Eq)]
 pub struct AuditId {
     pub seconds: u64,
     pub millis: u64,
@@ -12,7 +12,7 @@ pub struct AuditId {
 }
 
 /// A `key=value` of a line. `text` is the value, without its quotes where it was quoted.
-#[derive(Drop, PartialEq)]
+#[derive(Drop)]
 pub struct Field {
     pub key: Str,
     pub quoted: bool,
@@ -32,7 +32,7 @@ impl Copied for Field {
 pub type FieldList = Sequence<Field>;
 
 /// A line of the log. `kind` is its type, as `SYSCALL`, and its fields stand in the line's order.
-#[derive(Drop, PartialEq)]
+#[derive(Drop)]
 pub struct AuditLine {
     pub id: AuditId,
     pub kind: Str,

@@ -2,7 +2,7 @@ use osq_value::NoMemory;
 use std::alloc::AllocError;
 
 /// Why a line wasn't read: it isn't in the form, or memory was wanting.
-#[derive(Clone, Copy, PartialEq, Eq, Debug)]
+#[derive(Clone, Copy)]
 pub enum LineError {
     BadLine,
     NoMemory,

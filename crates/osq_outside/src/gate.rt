@@ -1,7 +1,7 @@
 //! Places at which a test may hold a thread up.
 
 /// A place between two turns of a publisher or a worker.
-#[derive(Clone, Copy, PartialEq, Eq, Debug)]
+#[derive(Clone, Copy)]
 pub enum Point {
     AfterCut,
     BeforeCommit,
@@ -17,7 +17,7 @@ pub trait Gate: Sync {
 }
 
 /// A gate that holds nothing up.
-#[derive(Clone, Copy, PartialEq, Eq, Debug)]
+#[derive(Clone, Copy)]
 pub struct OpenGate;
 
 impl Gate for OpenGate {

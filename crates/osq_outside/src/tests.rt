@@ -24,12 +24,12 @@ fn memory_source(rt: HostRuntime) -> Result<(), Failed> {
     let alloc = rt.alloc();
     let mut source = MemorySource::new(Bytes::of(alloc, b"abcde".as_slice())?, fails_at(alloc, 2)?);
     let mut room = [0u8; 3];
-    assert_eq!(rt; source.read(&mut room), Ok(3));
+    assert!(rt; matches!(source.read(&mut room), Ok(3)));
     assert_eq!(rt; room, *b"abc");
-    assert_eq!(rt; source.read(&mut room), Err(SourceFault));
-    assert_eq!(rt; source.read(&mut room), Ok(2));
+    assert!(rt; matches!(source.read(&mut room), Err(SourceFault)));
+    assert!(rt; matches!(source.read(&mut room), Ok(2)));
     assert_eq!(rt; room, *b"dec");
-    assert_eq!(rt; source.read(&mut room), Ok(0));
+    assert!(rt; matches!(source.read(&mut room), Ok(0)));
     assert_eq!(rt; (source.failures.calls, source.failures.faults), (4, 1));
     Ok(())
 }
@@ -38,9 +38,9 @@ fn memory_source(rt: HostRuntime) -> Result<(), Failed> {
 fn memory_sink(rt: HostRuntime) -> Result<(), Failed> {
     let alloc = rt.alloc();
     let mut sink = MemorySink::new(alloc, fails_at(alloc, 2)?);
-    assert_eq!(rt; sink.write(b"ab"), Ok(2));
-    assert_eq!(rt; sink.write(b"cd"), Err(SinkFault));
-    assert_eq!(rt; write_all(&mut sink, b"ef"), Ok(()));
+    assert!(rt; matches!(sink.write(b"ab"), Ok(2)));
+    assert!(rt; matches!(sink.write(b"cd"), Err(SinkFault)));
+    assert!(rt; matches!(write_all(&mut sink, b"ef"), Ok(())));
     assert_eq!(rt; sink.written().as_slice(), b"abef".as_slice());
     Ok(())
 }
@@ -86,13 +86,14 @@ impl Write for Narrow {
 #[test]
 fn streams_of_the_machine(rt: HostRuntime) -> Result<(), Failed> {
     let alloc = rt.alloc();
-    for (width, answer, written) in [(1, Ok(()), "abc"), (0, Err(SinkFault), "")] {
+    for (width, is_whole, written) in [(1, true, "abc"), (0, false, "")] {
         let mut narrow = Narrow {
             width,
             taken: Bytes::new(alloc),
         };
         let mut sink = FileSink::new(&mut narrow);
-        assert_eq!(rt; write_all(&mut sink, b"abc"), answer, "at width {width}");
+        let is_written = write_all(&mut sink, b"abc").is_ok();
+        assert_eq!(rt; is_written, is_whole, "at width {width}");
         assert_eq!(rt;
             narrow.taken.as_slice(),
             written.as_bytes(),
@@ -102,10 +103,10 @@ fn streams_of_the_machine(rt: HostRuntime) -> Result<(), Failed> {
 
     let mut source = FileSource::new(b"abcde".as_slice());
     let mut room = [0u8; 3];
-    assert_eq!(rt; source.read(&mut room), Ok(3));
+    assert!(rt; matches!(source.read(&mut room), Ok(3)));
     assert_eq!(rt; room, *b"abc");
-    assert_eq!(rt; source.read(&mut room), Ok(2));
-    assert_eq!(rt; source.read(&mut room), Ok(0));
+    assert!(rt; matches!(source.read(&mut room), Ok(2)));
+    assert!(rt; matches!(source.read(&mut room), Ok(0)));
     Ok(())
 }
 

@@ -14,14 +14,14 @@ pub enum Affinity {
 }
 
 /// A column of a table.
-#[derive(Clone, Copy, Debug)]
+#[derive(Clone, Copy)]
 pub struct ColumnDesc {
     pub name: &'static str,
     pub affinity: Affinity,
 }
 
 /// Where the rows of a table come from: events, recorded rows, or what the program knows itself.
-#[derive(Clone, Copy, PartialEq, Eq, Debug)]
+#[derive(Clone, Copy, PartialEq, Eq)]
 pub enum TableKind {
     Evented,
     Recorded,
@@ -29,7 +29,7 @@ pub enum TableKind {
 }
 
 /// A table of the catalogue. Its width is the number of its columns.
-#[derive(Clone, Copy, Debug)]
+#[derive(Clone, Copy)]
 pub struct TableDesc {
     pub id: TableId,
     pub name: &'static str,

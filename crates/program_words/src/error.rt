@@ -3,7 +3,7 @@
 use osq_value::NoMemory;
 
 /// Why words give no command.
-#[derive(Clone, Copy, PartialEq, Eq, Debug)]
+#[derive(Clone, Copy)]
 pub enum WordsError {
     /// They are the words of no command.
     Usage,

@@ -3,7 +3,7 @@
 use osq_value::{Sequence, Str};
 
 /// What the lines of a source are.
-#[derive(Clone, Copy, PartialEq, Eq, Debug)]
+#[derive(Clone, Copy)]
 pub enum SourceKind {
     /// Lines of an audit log.
     Audit,

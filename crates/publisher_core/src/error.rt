@@ -4,7 +4,7 @@ use osq_value::NoMemory;
 use std::alloc::AllocError;
 
 /// Why a call on a publisher refused. The publisher is spent then.
-#[derive(Clone, Copy, PartialEq, Eq, Debug)]
+#[derive(Clone, Copy)]
 pub enum StepError {
     /// The source failed: its count of faults rose in this call.
     SourceFault,

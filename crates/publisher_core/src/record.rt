@@ -5,7 +5,7 @@ use change_records::Change;
 use osq_value::{Event, RowList, Sequence, TableId};
 
 /// What the lines of a source are.
-#[derive(Clone, Copy, PartialEq, Eq, Debug)]
+#[derive(Clone, Copy)]
 pub enum SourceKind {
     /// Lines of an audit log, as auditd writes them.
     Audit,

@@ -8,6 +8,3 @@ mod partial;
 
 pub use cutter::LineCutter;
 pub use line::{Cut, Line};
-
-#[cfg(test)]
-mod tests;

@@ -6,6 +6,3 @@ pub mod laws;
 mod skips;
 
 pub use feed::Feed;
-
-#[cfg(test)]
-mod tests;

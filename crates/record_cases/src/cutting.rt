@@ -1,0 +1,76 @@
+//! A stream that is cut into lines.
+
+use crate::given::Given;
+use osq_value::{Bytes, NoMemory};
+use record_lines::{Cut, LineCutter};
+use std::alloc::Global;
+use std::str;
+
+/// Feeds the text by so many bytes. A piece that is refused is told.
+fn feed(
+    text: &mut String,
+    cutter: &mut LineCutter,
+    bytes: &Bytes,
+    width: usize,
+) -> Result<(), NoMemory> {
+    for piece in bytes.as_slice().chunks(width.max(1)) {
+        match cutter.feed(piece) {
+            Ok(()) => {}
+            Err(NoMemory) => text.push_str(" refused")?,
+        }
+    }
+    Ok(())
+}
+
+/// Adds a line and the offset behind it; a dash in its place where it was too long.
+fn push_one(text: &mut String, cut: &Cut) -> Result<(), NoMemory> {
+    match cut {
+        Cut::Line(line) => {
+            let shown = str::from_utf8(line.text.as_slice()).unwrap_or("no UTF-8");
+            write!(text, " '{shown}'@{}", line.end)?;
+        }
+        Cut::Skipped { end } => write!(text, " -@{end}")?,
+    }
+    Ok(())
+}
+
+/// Adds each line that is whole, and a dot where there is no further one.
+fn push_taken(text: &mut String, cutter: &mut LineCutter) -> Result<(), NoMemory> {
+    for _ in 0..u64::MAX {
+        match cutter.take_line() {
+            Some(cut) => push_one(text, &cut)?,
+            None => break,
+        }
+    }
+    text.push_str(" .")?;
+    Ok(())
+}
+
+/// Adds what a cutter gives behind each of the texts, which are fed by so many bytes.
+fn push_run(
+    alloc: Global,
+    text: &mut String,
+    given: Given<'_>,
+    width: usize,
+) -> Result<(), NoMemory> {
+    let limit = given.number("limit").unwrap_or(0);
+    let offset = given.number("offset").unwrap_or(0);
+    let mut cutter = LineCutter::new(alloc, limit, offset);
+    write!(text, "  by {width}:")?;
+    for item in given.items("cut") {
+        let bytes = given.text(alloc, item)?;
+        feed(text, &mut cutter, &bytes, width)?;
+        push_taken(text, &mut cutter)?;
+    }
+    text.push_str("\n")?;
+    Ok(())
+}
+
+/// Adds a line for each width.
+pub(crate) fn push_cut(alloc: Global, text: &mut String, given: Given<'_>) -> Result<(), NoMemory> {
+    let widths = given.widths(alloc)?;
+    for width in widths.as_slice() {
+        push_run(alloc, text, given, *width)?;
+    }
+    Ok(())
+}

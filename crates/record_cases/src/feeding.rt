@@ -1,0 +1,95 @@
+//! A feed over a source.
+
+ghost use Rattle.std.specs.Prelude.{◌≡◌, true, false, IfOk};
+ghost use Rattle.source_feeds.specs.Feeding.{IsOpen};
+
+use crate::given::Given;
+use crate::readings::{push_end, push_readings, push_refusal};
+use crate::sips::Sips;
+use osq_value::{NoMemory, ReadingList, Str};
+use publisher_core::record::SourceKind;
+use source_feeds::Feed;
+use std::alloc::Global;
+
+/// A feed that isn't begun, of the kept bytes and under the categories that the line gives.
+fn opened(alloc: Global, given: Given<'_>, kind: SourceKind) -> Result<Feed, NoMemory>
+    ensures { IfOk result (λ feed. IsOpen feed) }
+{
+    let name = Str::of(alloc, "source")?;
+    let kept = given.number("kept").unwrap_or(0);
+    let paths = given.categories(alloc)?;
+    match Feed::open(alloc, name, kind, kept, paths) {
+        Ok(feed) => Ok(feed),
+        Err(NoMemory) => Err(NoMemory),
+    }
+}
+
+/// Adds the readings of a step, how far the source is taken, and how many lines are skipped so far.
+fn push_step(
+    alloc: Global,
+    text: &mut String,
+    feed: &Feed,
+    readings: &ReadingList,
+    is_whole: bool,
+) -> Result<(), NoMemory> {
+    push_readings(alloc, text, readings, is_whole)?;
+    write!(text, " ={}-{}", feed.taken(), feed.skipped())?;
+    push_end(text, feed.at_end())
+}
+
+/// Adds what so many steps give.
+fn push_steps(
+    alloc: Global,
+    text: &mut String,
+    feed: &mut Feed,
+    source: &mut Sips,
+    given: Given<'_>,
+) -> Result<(), NoMemory>
+    requires { (feed.old.reader.is_begun ≡ true) × (feed.old.reader.is_spent ≡ false) }
+{
+    let most = given.number("most").unwrap_or(1);
+    for _ in 0..given.number("steps").unwrap_or(1) {
+        match feed.step(source, most) {
+            Ok(readings) => push_step(alloc, text, feed, &readings, given.is_set("is_whole"))?,
+            Err(error) => return push_refusal(text, error),
+        }
+    }
+    Ok(())
+}
+
+/// Adds what a feed gives of the source by so many bytes.
+fn push_run(
+    alloc: Global,
+    text: &mut String,
+    given: Given<'_>,
+    kind: SourceKind,
+    width: usize,
+) -> Result<(), NoMemory> {
+    let mut source = given.source(alloc, width)?;
+    let mut feed = opened(alloc, given, kind)?;
+    write!(text, "  by {width}:")?;
+    match feed.start(&mut source) {
+        Ok(()) => push_steps(alloc, text, &mut feed, &mut source, given),
+        Err(error) => {
+            text.push_str(" start")?;
+            push_refusal(text, error)
+        }
+    }
+}
+
+/// Adds a line for each width.
+pub(crate) fn push_feed(
+    alloc: Global,
+    text: &mut String,
+    given: Given<'_>,
+) -> Result<(), NoMemory> {
+    let Some(kind) = given.kind("feed") else {
+        return Ok(text.push_str("  no kind of source\n")?);
+    };
+    let widths = given.widths(alloc)?;
+    for width in widths.as_slice() {
+        push_run(alloc, text, given, kind, *width)?;
+        text.push_str("\n")?;
+    }
+    Ok(())
+}

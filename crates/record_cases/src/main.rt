@@ -1,0 +1,46 @@
+//! Reads rows over records as data, and prints what the readers make of them. A line of standard input is a JSON object of one kind:
+//! `texts` names texts and `categories` says under which categories changes stand, each an array of its name and its path patterns,
+//! those of excluded paths with a `!` before them; `audit` has a line of an audit log; `groups` has lines as serial number and type,
+//! and `gathers` has such lines, null for one that is skipped, and `"finish"`; `event` has the lines of a group; `change` has a line of
+//! a change; `pattern` has a path pattern, with `paths`; `table` has a line of a table; `cut` has texts that are fed to a cutter, with
+//! `limit` and `offset`; `publisher` and `feed` have what the lines of a `source` are, with the `kept` bytes, the `most` records of a
+//! step, the `steps`, the call of the source that `fails`, and `is_whole` where the rows of events are printed whole. `by` says by how
+//! many bytes a text is fed or a source gives, each for a run of its own.
+//!
+//! A text is a string, a number for the byte, `{"text": .., "times": ..}`, or an array of these one behind another; `$NAME` stands for
+//! the text of that name. Empty lines and lines that begin with `#` are passed over. Of each other line that isn't `texts` or
+//! `categories` it prints the line, and below it, indented, what is made of it:
+//! - of an audit line its moment, serial number, type and fields, `key=value` or, where it was quoted, `key~value`;
+//! - of a line of `groups` the lines of the group before it that it ends, and those of its own group that it ends;
+//! - of a line of `gathers` its records: their lines, their skipped lines, and the number of their last line, counted from 1;
+//! - of a step its readings: the offset behind a reading and either the skipped lines and the first value of each event, or the table
+//!   and how many rows it has; then the bytes that were taken (of a feed also the skipped lines so far), and `!` at the source's end.
+#![tactic(auto)]
+
+mod audit;
+mod bench;
+mod changes;
+mod cutting;
+mod feeding;
+mod gathering;
+mod given;
+mod publishing;
+mod readings;
+mod sips;
+mod text;
+
+use bench::Bench;
+use osq_value::NoMemory;
+use std::io::{self, ErrorKind};
+
+fn main(rt: HostRuntime) -> io::Result<()> {
+    let alloc = rt.alloc();
+    let mut bench = Bench::new();
+    for line in rt.lines(alloc) {
+        match bench.take_line(alloc, line?.as_str()) {
+            Ok(text) => print!(rt; "{text}")?,
+            Err(NoMemory) => return Err(io::Error::from(ErrorKind::OutOfMemory)),
+        }
+    }
+    Ok(())
+}
