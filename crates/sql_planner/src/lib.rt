@@ -9,12 +9,8 @@ mod likes;
 pub mod plan;
 mod planning;
 mod running;
-#[cfg(test)]
-mod running_tests;
 mod single;
 mod tables;
-#[cfg(test)]
-mod tests;
 
 pub use explaining::explain;
 pub use plan::{JoinForm, Plan, Scan, ScanList};

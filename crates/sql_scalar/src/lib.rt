@@ -18,6 +18,3 @@ pub use arithmetic::{minus, whole};
 pub use functions::call;
 pub use logic::{negation, truth};
 pub use operators::apply;
-
-#[cfg(test)]
-mod tests;

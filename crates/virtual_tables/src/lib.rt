@@ -3,8 +3,6 @@
 
 pub mod constraint;
 mod rows;
-#[cfg(test)]
-mod tests;
 
 pub use constraint::{Constraint, ConstraintList, ConstraintOp};
 pub use rows::{RowRefs, scan};
