@@ -6,6 +6,3 @@ mod text;
 
 pub use discovery::{found_packs, schedule_for};
 pub use text::{answer, names};
-
-#[cfg(test)]
-mod tests;

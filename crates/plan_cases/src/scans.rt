@@ -1,0 +1,78 @@
+//! Lines with constraints of a table.
+
+use crate::sql::{Constraint, ConstraintList, ConstraintOp, scan};
+use crate::view::ThreeTables;
+use case_text::{items_of, member_text, push_row, value_of};
+use osq_value::{NoMemory, TableId, table_of};
+use serde_json::Value as Json;
+use std::alloc::Global;
+
+const SIGNS: [(&str, ConstraintOp); 5] = [
+    ("=", ConstraintOp::Eq),
+    ("<", ConstraintOp::Lt),
+    ("<=", ConstraintOp::Le),
+    (">", ConstraintOp::Gt),
+    (">=", ConstraintOp::Ge),
+];
+
+fn sign_of(sign: &str) -> Option<ConstraintOp> {
+    let found = SIGNS.iter().find(|known| known.0 == sign)?;
+    Some(found.1)
+}
+
+fn place_of(item: &Json) -> Option<u32> {
+    u32::try_from(item.as_u64()?).ok()
+}
+
+/// The column and the comparison of a constraint, and its literal.
+fn compared(item: &Json) -> Option<(u32, ConstraintOp, &Json)> {
+    match items_of(Some(item)) {
+        [column, sign, literal] => Some((place_of(column)?, sign_of(sign.as_str()?)?, literal)),
+        _ => None,
+    }
+}
+
+/// The constraints that the items give: nothing where one of them is none.
+fn constraints_of(alloc: Global, items: &[Json]) -> Result<Option<ConstraintList>, NoMemory> {
+    let mut list = ConstraintList::new(alloc);
+    for item in items {
+        let Some((column, op, literal)) = compared(item) else {
+            return Ok(None);
+        };
+        list.push(Constraint {
+            column,
+            op,
+            value: value_of(alloc, literal)?,
+        })?;
+    }
+    Ok(Some(list))
+}
+
+fn push_met(
+    alloc: Global,
+    shown: &mut String,
+    view: &ThreeTables,
+    table: TableId,
+    constraints: &ConstraintList,
+) -> Result<(), NoMemory> {
+    let met = scan(alloc, view, table, constraints)?;
+    for row in met.as_slice() {
+        shown.push_str(" ")?;
+        push_row(shown, *row)?;
+    }
+    Ok(shown.push_str(if met.len() == 0 { " no rows" } else { "" })?)
+}
+
+/// Adds the rows of a table that meet constraints.
+pub(crate) fn push_scan(
+    alloc: Global,
+    shown: &mut String,
+    line: &Json,
+    view: &ThreeTables,
+) -> Result<(), NoMemory> {
+    let constraints = constraints_of(alloc, items_of(line.get("where")))?;
+    match (table_of(member_text(line, "scan")), constraints) {
+        (Some(table), Some(list)) => push_met(alloc, shown, view, table.id, &list),
+        _ => Ok(shown.push_str(" no table, or a constraint that is none")?),
+    }
+}

@@ -1,0 +1,11 @@
+//! What the rows ask of the libraries.
+
+pub(crate) use query_answers::{answer, found_packs, names, schedule_for};
+pub(crate) use sql_joins::{
+    KeyColumns, LaidRows, hashed_join, laid_out, nested_join, parts, rule_of,
+};
+pub(crate) use sql_meaning::{Joined, plain_rows, singles};
+pub(crate) use sql_names::query::{Query, QuerySource};
+pub(crate) use sql_names::text::{TextError, query_of_text};
+pub(crate) use sql_planner::{Plan, explain, plan_of, run_plan};
+pub(crate) use virtual_tables::{Constraint, ConstraintList, ConstraintOp, scan};

@@ -1,0 +1,104 @@
+//! The tables that queries are over.
+
+use case_text::{items_of, rows_of};
+use osq_value::{NoMemory, Row, RowList, TableId, Tables, Value};
+use serde_json::Value as Json;
+use std::alloc::Global;
+
+/// A view with rows of `users`, of `groups` and of `user_groups`.
+#[derive(Drop)]
+pub(crate) struct ThreeTables {
+    users: RowList,
+    groups: RowList,
+    user_groups: RowList,
+}
+
+impl Tables for ThreeTables {
+    ghost use Rattle.std.specs.Prelude.{◌==◌, if◌then◌else◌, []};
+    ghost use Rattle.std.proofs.Common.{arith};
+
+    ghost rows_of = { λ s table. if table == 3 then s.users else (if table == 4 then s.groups else (if table == 5 then s.user_groups else [])) };
+
+    fn count(&self, table: TableId) -> usize {
+        if table.0 == 3 {
+            self.users.len()
+        } else if table.0 == 4 {
+            self.groups.len()
+        } else if table.0 == 5 {
+            self.user_groups.len()
+        } else {
+            0
+        }
+    }
+
+    fn row(&self, table: TableId, at: usize) -> Option<&Row> {
+        if table.0 == 3 {
+            self.users.get(at)
+        } else if table.0 == 4 {
+            self.groups.get(at)
+        } else if table.0 == 5 {
+            self.user_groups.get(at)
+        } else {
+            None
+        }
+    }
+
+    ghost outside = { λ s table past. Prim.grind (arith) };
+}
+
+impl ThreeTables {
+    /// The view without rows.
+    pub(crate) fn empty(alloc: Global) -> ThreeTables {
+        ThreeTables {
+            users: RowList::new(alloc),
+            groups: RowList::new(alloc),
+            user_groups: RowList::new(alloc),
+        }
+    }
+
+    /// The view with the rows of these members.
+    pub(crate) fn of(alloc: Global, tables: &Json) -> Result<ThreeTables, NoMemory> {
+        Ok(ThreeTables {
+            users: table_rows(alloc, tables.get("users"))?,
+            groups: table_rows(alloc, tables.get("groups"))?,
+            user_groups: table_rows(alloc, tables.get("user_groups"))?,
+        })
+    }
+}
+
+/// The rows of arrays, or as many rows as a member `numbered` says, of its `width`.
+fn table_rows(alloc: Global, rows: Option<&Json>) -> Result<RowList, NoMemory> {
+    match number_of(rows) {
+        Some(count) => numbered_rows(alloc, count, width_of(rows).unwrap_or(2)),
+        None => rows_of(alloc, items_of(rows)),
+    }
+}
+
+fn number_of(rows: Option<&Json>) -> Option<i64> {
+    rows?.get("numbered")?.as_i64()
+}
+
+fn width_of(rows: Option<&Json>) -> Option<u64> {
+    rows?.get("width")?.as_u64()
+}
+
+/// Rows with the same number in their first two columns, from 0, and Nulls behind it up to the width.
+fn numbered_rows(alloc: Global, count: i64, width: u64) -> Result<RowList, NoMemory> {
+    let mut rows = RowList::new(alloc);
+    for number in 0..count {
+        rows.push(numbered_row(alloc, number, width)?)?;
+    }
+    Ok(rows)
+}
+
+fn numbered_row(alloc: Global, number: i64, width: u64) -> Result<Row, NoMemory> {
+    let mut row = Row::new(alloc);
+    for at in 0..width {
+        row.push(if at < 2 {
+            Value::Int(number)
+        } else {
+            Value::Null
+        })?;
+    }
+    Ok(row)
+}
