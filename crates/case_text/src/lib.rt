@@ -2,7 +2,13 @@
 #![tactic(auto)]
 
 mod given;
+mod line;
+mod outside;
+mod parts;
 mod shown;
 
 pub use given::{items_of, member_text, row_of, rows_of, value_of};
+pub use line::{json_of_line, kind_of_row};
+pub use outside::{fails_of, files_of};
+pub use parts::bytes_of;
 pub use shown::{push_row, push_rows, push_value};

@@ -1,0 +1,35 @@
+//! Reads the words of command lines, and prints what they are read as. Standard input has a row of JSON a line; empty lines and lines
+//! that begin with `#` are passed over. Each row is printed behind `> `, and then what it gives. A row has one member, `words`: a text or
+//! an array of parts of it, as `bytes_of` of case_text takes it, whose words stand each behind one space. Of a command it prints
+//! what each of its options is, then its sources, of which the first are named, and at last what is opened for it; and `Usage` of words that
+//! are those of no command. A dash stands for what isn't given.
+#![tactic(auto)]
+
+mod answer;
+mod shown;
+
+use case_text::json_of_line;
+use osq_value::NoMemory;
+use std::alloc::Global;
+use std::io::{self, ErrorKind};
+
+/// What is printed of a line.
+fn told(alloc: Global, line: &str) -> Result<String, NoMemory> {
+    let mut text = String::new(alloc);
+    if let Some(row) = json_of_line(alloc, line)? {
+        writeln!(text, "> {line}")?;
+        answer::push_answer(alloc, &mut text, &row)?;
+    }
+    Ok(text)
+}
+
+fn main(rt: HostRuntime) -> io::Result<()> {
+    let alloc = rt.alloc();
+    for line in rt.lines(alloc) {
+        match told(alloc, line?.as_str()) {
+            Ok(text) => print!(rt; "{text}")?,
+            Err(NoMemory) => return Err(io::Error::from(ErrorKind::OutOfMemory)),
+        }
+    }
+    Ok(())
+}
