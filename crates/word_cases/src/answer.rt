@@ -8,7 +8,7 @@ use serde_json::Value as Json;
 use std::alloc::Global;
 use std::str;
 
-const KINDS: [&[&str]; 1] = [&["words"]];
+const KINDS: [&[&str]; 2] = [&["words"], &["count"]];
 
 /// Tells that there is no command.
 fn push_error(text: &mut String, error: WordsError, usage: &str) -> Result<(), NoMemory> {
@@ -37,18 +37,34 @@ fn push_opened(alloc: Global, text: &mut String, words: &[&str]) -> Result<(), N
     }
 }
 
-/// Tells what words are read as, and what is opened for them.
-fn push_words(alloc: Global, text: &mut String, line: &str) -> Result<(), NoMemory> {
-    let words: Vec<&str> = line.split(' ').collect(alloc)?;
-    push_read(alloc, text, words.as_slice())?;
-    push_opened(alloc, text, words.as_slice())
+/// Tells how many sources words name, without reading them.
+fn push_counted(text: &mut String, words: &[&str]) -> Result<(), NoMemory> {
+    match count_sources(words) {
+        Some(count) => Ok(writeln!(text, "{count} sources")?),
+        None => Ok(text.push_str("Usage\n")?),
+    }
 }
 
-fn push_line(alloc: Global, text: &mut String, line: &[u8]) -> Result<(), NoMemory> {
-    match str::from_utf8(line) {
-        Ok(line) => push_words(alloc, text, line),
-        Err(_) => Ok(text.push_str("words that aren't UTF-8\n")?),
+/// Tells of words what the row's kind asks.
+fn push_words(
+    alloc: Global,
+    text: &mut String,
+    kind: &str,
+    words: &[&str],
+) -> Result<(), NoMemory> {
+    if kind == "count" {
+        return push_counted(text, words);
     }
+    push_read(alloc, text, words)?;
+    push_opened(alloc, text, words)
+}
+
+fn push_line(alloc: Global, text: &mut String, kind: &str, line: &[u8]) -> Result<(), NoMemory> {
+    let Ok(line) = str::from_utf8(line) else {
+        return Ok(text.push_str("words that aren't UTF-8\n")?);
+    };
+    let words: Vec<&str> = line.split(' ').collect(alloc)?;
+    push_words(alloc, text, kind, words.as_slice())
 }
 
 /// Adds what a row gives.
@@ -56,7 +72,7 @@ pub(crate) fn push_answer(alloc: Global, text: &mut String, row: &Json) -> Resul
     match kind_of_row(&KINDS, row) {
         Some(kind) => {
             let line = bytes_of(alloc, row.get(kind).unwrap_or(row))?;
-            push_line(alloc, text, line.as_slice())
+            push_line(alloc, text, kind, line.as_slice())
         }
         None => Ok(text.push_str("no such row\n")?),
     }
