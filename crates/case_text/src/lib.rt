@@ -1,10 +1,14 @@
-//! What programs of rows share: lines and their kinds, values, rows and members of JSON lines as osqd's values, and osqd's values as text.
+//! What programs of rows share: values, rows and members of JSON lines as osqd's values, and osqd's values as text.
 #![tactic(auto)]
 
 mod given;
-mod lines;
+mod line;
+mod outside;
+mod parts;
 mod shown;
 
 pub use given::{items_of, member_text, row_of, rows_of, value_of};
-pub use lines::{LineKind, kind_of, line_of, odd_member};
+pub use line::{LineKind, json_of_line, kind_of, kind_of_row, odd_member};
+pub use outside::{fails_of, files_of};
+pub use parts::bytes_of;
 pub use shown::{push_row, push_rows, push_value};

@@ -11,6 +11,3 @@ mod text;
 pub use configured::{Configured, read_configured};
 pub use error::ConfiguredError;
 pub use naming::{key_of, kind_of};
-
-#[cfg(test)]
-mod tests;

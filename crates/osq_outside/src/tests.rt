@@ -1,65 +1,15 @@
-use crate::fails::{Fail, FailList};
+//! Adapters over the machine.
+
 use crate::{
-    Clock, FileSink, FileSource, Files, FilesError, Gate, HostClock, HostFiles, MemoryFiles,
-    MemorySink, MemorySource, NamedFile, NamedFileList, OpenGate, Point, Sink, SinkFault, Source,
-    SourceFault, StepClock, write_all,
+    Clock, FileSink, FileSource, Files, FilesError, Gate, HostClock, HostFiles, OpenGate, Point,
+    SinkFault, Source, write_all,
 };
-use osq_value::{Bytes, NoMemory, Str};
-use std::alloc::Global;
+use osq_value::Bytes;
 use std::cell::Cell;
 use std::io::{self, ErrorKind, Write};
 use std::test::Fail as Failed;
 use std::time::Duration;
 use std::{env, fs};
-
-/// The call of this number is to fail.
-fn fails_at(alloc: Global, call: u64) -> Result<FailList, NoMemory> {
-    let mut fails = FailList::new(alloc);
-    fails.push(Fail { call })?;
-    Ok(fails)
-}
-
-#[test]
-fn memory_source(rt: HostRuntime) -> Result<(), Failed> {
-    let alloc = rt.alloc();
-    let mut source = MemorySource::new(Bytes::of(alloc, b"abcde".as_slice())?, fails_at(alloc, 2)?);
-    let mut room = [0u8; 3];
-    assert!(rt; matches!(source.read(&mut room), Ok(3)));
-    assert_eq!(rt; room, *b"abc");
-    assert!(rt; matches!(source.read(&mut room), Err(SourceFault)));
-    assert!(rt; matches!(source.read(&mut room), Ok(2)));
-    assert_eq!(rt; room, *b"dec");
-    assert!(rt; matches!(source.read(&mut room), Ok(0)));
-    assert_eq!(rt; (source.failures.calls, source.failures.faults), (4, 1));
-    Ok(())
-}
-
-#[test]
-fn memory_sink(rt: HostRuntime) -> Result<(), Failed> {
-    let alloc = rt.alloc();
-    let mut sink = MemorySink::new(alloc, fails_at(alloc, 2)?);
-    assert!(rt; matches!(sink.write(b"ab"), Ok(2)));
-    assert!(rt; matches!(sink.write(b"cd"), Err(SinkFault)));
-    assert!(rt; matches!(write_all(&mut sink, b"ef"), Ok(())));
-    assert_eq!(rt; sink.written().as_slice(), b"abef".as_slice());
-    Ok(())
-}
-
-#[test]
-fn memory_files(rt: HostRuntime) -> Result<(), Failed> {
-    let alloc = rt.alloc();
-    let mut named = NamedFileList::new(alloc);
-    named.push(NamedFile {
-        path: Str::of(alloc, "a")?,
-        text: Bytes::of(alloc, b"text".as_slice())?,
-    })?;
-    let mut files = MemoryFiles::new(named, fails_at(alloc, 2)?);
-    let found = files.read(alloc, "a");
-    assert!(rt; matches!(&found, Ok(Some(bytes)) if bytes.as_slice() == "text".as_bytes()));
-    assert!(rt; matches!(files.read(alloc, "a"), Err(FilesError::Fault)));
-    assert!(rt; matches!(files.read(alloc, "b"), Ok(None)));
-    Ok(())
-}
 
 /// A writer that takes at most so many bytes at a time.
 #[derive(Drop)]
@@ -86,14 +36,13 @@ impl Write for Narrow {
 #[test]
 fn streams_of_the_machine(rt: HostRuntime) -> Result<(), Failed> {
     let alloc = rt.alloc();
-    for (width, is_whole, written) in [(1, true, "abc"), (0, false, "")] {
+    for (width, answer, written) in [(1, Ok(()), "abc"), (0, Err(SinkFault), "")] {
         let mut narrow = Narrow {
             width,
             taken: Bytes::new(alloc),
         };
         let mut sink = FileSink::new(&mut narrow);
-        let is_written = write_all(&mut sink, b"abc").is_ok();
-        assert_eq!(rt; is_written, is_whole, "at width {width}");
+        assert_eq!(rt; write_all(&mut sink, b"abc"), answer, "at width {width}");
         assert_eq!(rt;
             narrow.taken.as_slice(),
             written.as_bytes(),
@@ -103,10 +52,10 @@ fn streams_of_the_machine(rt: HostRuntime) -> Result<(), Failed> {
 
     let mut source = FileSource::new(b"abcde".as_slice());
     let mut room = [0u8; 3];
-    assert!(rt; matches!(source.read(&mut room), Ok(3)));
+    assert_eq!(rt; source.read(&mut room), Ok(3));
     assert_eq!(rt; room, *b"abc");
-    assert!(rt; matches!(source.read(&mut room), Ok(2)));
-    assert!(rt; matches!(source.read(&mut room), Ok(0)));
+    assert_eq!(rt; source.read(&mut room), Ok(2));
+    assert_eq!(rt; source.read(&mut room), Ok(0));
     Ok(())
 }
 
@@ -154,13 +103,6 @@ impl std::rt::Clock for Script {
 
 #[test]
 fn clocks_and_gates(rt: HostRuntime) {
-    let mut clock = StepClock {
-        next: u64::MAX - 1,
-        step: 2,
-    };
-    for moment in [u64::MAX - 1, u64::MAX, u64::MAX] {
-        assert_eq!(rt; clock.now(), moment);
-    }
     let script = Script {
         moments: [7, 5],
         next: Cell::new(0),

@@ -14,8 +14,3 @@ mod version;
 pub use choice::schedule_of;
 pub use host::{Host, host_number};
 pub use rules::rules_hold;
-
-#[cfg(test)]
-mod schedule_tests;
-#[cfg(test)]
-mod tests;

@@ -5,7 +5,7 @@ use crate::joins::push_join;
 use crate::queries::push_query;
 use crate::scans::push_scan;
 use crate::view::ThreeTables;
-use case_text::{LineKind, kind_of, line_of, member_text, odd_member};
+use case_text::{LineKind, json_of_line, kind_of, member_text, odd_member};
 use osq_value::NoMemory;
 use serde_json::Value as Json;
 use std::alloc::Global;
@@ -91,7 +91,7 @@ impl Bench {
 
     /// Takes a line, and answers what is to be told of it: the line, and what it gives.
     pub(crate) fn told(&mut self, alloc: Global, line: &str) -> Result<String, NoMemory> {
-        match line_of(alloc, line)? {
+        match json_of_line(alloc, line)? {
             None => Ok(String::new(alloc)),
             Some(case) => {
                 let mut shown = format!(in alloc; "{line}\n=>")?;

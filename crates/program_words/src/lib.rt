@@ -15,6 +15,3 @@ pub use command::{CheckWords, CommandWords, Paths, QueryWords, ReplayWords};
 pub use error::WordsError;
 pub use read::{count_sources, paths_of, read_words};
 pub use source::{SourceKind, SourceName, SourceNameList};
-
-#[cfg(test)]
-mod tests;

@@ -8,6 +8,3 @@ pub mod object;
 
 pub use lines::result_lines;
 pub use object::row_object;
-
-#[cfg(test)]
-mod tests;

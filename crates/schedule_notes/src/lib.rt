@@ -5,6 +5,3 @@ mod entries;
 mod notes;
 
 pub use notes::schedule_notes;
-
-#[cfg(test)]
-mod tests;

@@ -3,7 +3,7 @@
 use crate::steps::{push_cut, push_firsts, push_fold, push_ordered};
 use crate::texts::{push_expression, push_query_of, push_sql, text_of};
 use crate::values::{push_applied, push_called, push_truth, push_worth};
-use case_text::{LineKind, kind_of, line_of, odd_member};
+use case_text::{LineKind, json_of_line, kind_of, odd_member};
 use osq_value::NoMemory;
 use serde_json::Value as Json;
 use std::alloc::Global;
@@ -86,7 +86,7 @@ fn push_case(alloc: Global, shown: &mut String, line: &Json) -> Result<(), NoMem
 
 /// Takes a line, and answers what is to be told of it: the line, and what it gives.
 pub(crate) fn told(alloc: Global, line: &str) -> Result<String, NoMemory> {
-    match line_of(alloc, line)? {
+    match json_of_line(alloc, line)? {
         None => Ok(String::new(alloc)),
         Some(case) => {
             let mut shown = format!(in alloc; "{line}\n=>")?;

@@ -1,0 +1,44 @@
+//! Keeps lists of entries and writes batches, and prints what they give. Standard input has a row of JSON a line; empty lines and lines
+//! that begin with `#` are passed over. Each row is printed behind `> `, and then what it gives. Entries are a text of words: `opened`,
+//! `configured`, `ticked`, `appended`, `set`, `expired1`, `expired3`, `committed` and `acked`, each for an entry that entries.rt has. The rows:
+//!
+//! - `kept`, the entries of a list: what a keeper loads from it.
+//! - `seals`, texts of entries that are sealed one after another; `fails`, which of the seals fail, counted from 1; and `is_whole`, whether
+//!   a seal that fails leaves its entries: the answers, and how many entries there are at last.
+//! - `recorded`, the name of a query: the runs when its first batch is recorded in room that was made for it.
+//! - `lines`, the mode and the form of the first batch of the query `u` on the host `h1` at the moment 1000; with `names` and `rows`: its lines.
+//! - `object`, a row; and `names`: the row's JSON object.
+#![tactic(auto)]
+
+mod answer;
+mod entries;
+mod keeper;
+mod lines;
+mod loaded;
+mod recorded;
+
+use case_text::json_of_line;
+use osq_value::NoMemory;
+use std::alloc::Global;
+use std::io::{self, ErrorKind};
+
+/// What is printed of a line.
+fn told(alloc: Global, line: &str) -> Result<String, NoMemory> {
+    let mut text = String::new(alloc);
+    if let Some(row) = json_of_line(alloc, line)? {
+        writeln!(text, "> {line}")?;
+        answer::push_answer(alloc, &mut text, &row)?;
+    }
+    Ok(text)
+}
+
+fn main(rt: HostRuntime) -> io::Result<()> {
+    let alloc = rt.alloc();
+    for line in rt.lines(alloc) {
+        match told(alloc, line?.as_str()) {
+            Ok(text) => print!(rt; "{text}")?,
+            Err(NoMemory) => return Err(io::Error::from(ErrorKind::OutOfMemory)),
+        }
+    }
+    Ok(())
+}

@@ -1,0 +1,118 @@
+//! Commands as text.
+
+use osq_value::NoMemory;
+use program_words::{
+    CheckWords, CommandWords, Paths, QueryWords, ReplayWords, SourceKind, SourceNameList,
+};
+
+/// The most sources that are named.
+const MOST: usize = 8;
+
+fn kind_word(kind: SourceKind) -> &'static str {
+    match kind {
+        SourceKind::Audit => "audit",
+        SourceKind::Changes => "changes",
+        SourceKind::Tables => "tables",
+    }
+}
+
+/// Adds the first sources, and how many others there are.
+fn push_sources(text: &mut String, sources: &SourceNameList) -> Result<(), NoMemory> {
+    for source in sources.as_slice().iter().take(MOST) {
+        write!(text, " {} {}", kind_word(source.kind), source.path.as_str())?;
+    }
+    if MOST < sources.len() {
+        write!(text, " and {} more", sources.len() - MOST)?;
+    }
+    Ok(())
+}
+
+/// Adds the readings of the clock: the first, which a dash stands for where the machine's clock is read, and the seconds between two.
+fn push_clock(text: &mut String, start: Option<u64>, step: u64) -> Result<(), NoMemory> {
+    match start {
+        Some(start) => write!(text, " start {start} step {step}")?,
+        None => write!(text, " start - step {step}")?,
+    }
+    Ok(())
+}
+
+fn push_counts(text: &mut String, ticks: u64, records: u64) -> Result<(), NoMemory> {
+    write!(text, " ticks {ticks} records {records}")?;
+    Ok(())
+}
+
+fn push_host(text: &mut String, host: &str, platform: &str, agent: &str) -> Result<(), NoMemory> {
+    write!(text, " host {host} platform {platform} agent {agent}")?;
+    Ok(())
+}
+
+fn push_replay(text: &mut String, words: &ReplayWords) -> Result<(), NoMemory> {
+    write!(text, "replay config {}", words.config.as_str())?;
+    push_host(
+        text,
+        words.host.as_str(),
+        words.platform.as_str(),
+        words.agent.as_str(),
+    )?;
+    push_clock(text, words.start, words.step)?;
+    push_counts(text, words.ticks, words.records)?;
+    push_sources(text, &words.sources)
+}
+
+fn push_query(text: &mut String, words: &QueryWords) -> Result<(), NoMemory> {
+    let config = match &words.config {
+        Some(config) => config.as_str(),
+        None => "-",
+    };
+    let form = if words.explain { "plan" } else { "answer" };
+    write!(
+        text,
+        "query text {} config {config} {form}",
+        words.text.as_str()
+    )?;
+    push_clock(text, words.start, words.step)?;
+    push_counts(text, words.ticks, words.records)?;
+    push_sources(text, &words.sources)
+}
+
+fn push_check(text: &mut String, words: &CheckWords) -> Result<(), NoMemory> {
+    write!(text, "check config {}", words.config.as_str())?;
+    push_host(
+        text,
+        words.host.as_str(),
+        words.platform.as_str(),
+        words.agent.as_str(),
+    )
+}
+
+/// Adds a command, without an end of the line.
+pub(crate) fn push_command(text: &mut String, command: &CommandWords) -> Result<(), NoMemory> {
+    match command {
+        CommandWords::Replay(words) => push_replay(text, words),
+        CommandWords::Query(words) => push_query(text, words),
+        CommandWords::Check(words) => push_check(text, words),
+    }
+}
+
+/// Ends the line of a command by the number of its sources; two numbers where they are counted otherwise before the words are read.
+pub(crate) fn push_count(
+    text: &mut String,
+    read: usize,
+    counted: Option<usize>,
+) -> Result<(), NoMemory> {
+    write!(text, "; {read} sources")?;
+    if counted != Some(read) {
+        text.push_str(", counted otherwise before they are read")?;
+    }
+    text.push_str("\n")?;
+    Ok(())
+}
+
+/// Adds a line for what is opened.
+pub(crate) fn push_paths(text: &mut String, paths: &Paths) -> Result<(), NoMemory> {
+    text.push_str("opens")?;
+    push_clock(text, paths.start, paths.step)?;
+    push_sources(text, &paths.sources)?;
+    text.push_str("\n")?;
+    Ok(())
+}
