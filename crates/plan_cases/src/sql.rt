@@ -5,7 +5,7 @@ pub(crate) use sql_joins::{
     KeyColumns, LaidRows, hashed_join, laid_out, nested_join, parts, rule_of,
 };
 pub(crate) use sql_meaning::{Joined, plain_rows, singles};
-pub(crate) use sql_names::query::{Query, QuerySource};
-pub(crate) use sql_names::text::{TextError, query_of_text};
 pub(crate) use sql_planner::{Plan, explain, plan_of, run_plan};
+pub(crate) use sql_query::query::{Query, QuerySource};
+pub(crate) use sql_texts::text::{TextError, query_of_text};
 pub(crate) use virtual_tables::{Constraint, ConstraintList, ConstraintOp, scan};

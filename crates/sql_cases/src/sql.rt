@@ -6,13 +6,13 @@ pub(crate) use sql_meaning::firsts::firsts;
 pub(crate) use sql_meaning::folds::{count_rows, fold_values};
 pub(crate) use sql_meaning::order::order;
 pub(crate) use sql_meaning::worth::{ResultRow, ResultRowList, Worth};
-pub(crate) use sql_names::answers::{is_evented, names_of};
-pub(crate) use sql_names::query::{Condition, Order, Query, QueryItem, QuerySource};
-pub(crate) use sql_names::text::{TextError, query_of_text};
-pub(crate) use sql_names::tree::{Aggregate, Expr, ExprStep};
-pub(crate) use sql_parser::error::{ParseError, ParseKind};
 pub(crate) use sql_parser::parse::{parse, parse_expression};
-pub(crate) use sql_parser::select::{Item, Select, TableRef, Term};
-pub(crate) use sql_parser::token::{Fold, Function, Span};
-pub(crate) use sql_parser::tree::{Name, Node, Operator, Step};
+pub(crate) use sql_parser::{
+    Fold, Function, Name, Node, Operator, ParseError, ParseKind, Span, Step,
+};
+pub(crate) use sql_query::answers::{is_evented, names_of};
+pub(crate) use sql_query::query::{Condition, Order, Query, QueryItem, QuerySource};
+pub(crate) use sql_query::tree::{Aggregate, Expr, ExprStep};
 pub(crate) use sql_scalar::{apply, call, minus, negation, truth};
+pub(crate) use sql_texts::text::{TextError, query_of_text};
+pub(crate) use sql_tree::select::{Item, Select, TableRef, Term};
