@@ -10,8 +10,34 @@ use sql_tokens::level::Level;
 use sql_tokens::token::{Clause, Kind};
 use std::alloc::AllocError;
 
+/// The token that has chosen the part.
+const CHOSEN: Part = Part::One(Expected::Chosen);
+
+const NAME: Part = Part::One(Expected::Name);
+
+const BY: Part = Part::One(Expected::By);
+
+const JOIN: Part = Part::One(Expected::Join);
+
 /// An expression that no parenthesis surrounds.
 const EXPRESSION: Part = Part::Must(Rule::Chain(Level::Or, 0));
+
+const ALIAS: Part = Part::May(Optional::Alias);
+
+/// ON or USING.
+const CONDITION: Part = Part::May(Optional::Condition);
+
+/// A further table.
+const SOURCES: Part = Part::May(Optional::Sources);
+
+/// A comma and a name.
+const NAMES: Part = Part::May(Optional::Names);
+
+/// ASC or DESC.
+const DIRECTION: Part = Part::May(Optional::Direction);
+
+/// A comma and a term.
+const TERMS: Part = Part::May(Optional::Terms);
 
 /// DISTINCT behind SELECT.
 #[tactic(auto, unfolding(crate::specs::Reading::distinct_by))]
@@ -19,7 +45,7 @@ pub(crate) fn enter_distinct(parts: &mut Vec<Part>, kind: Kind) -> Result<bool, 
     ensures { IfOk result (λ is_entered. Enters (distinct_by kind) is_entered parts.old.items parts.new.items) }
 {
     match kind {
-        Kind::Distinct => enter_with(parts, &[Part::One(Expected::Chosen)]),
+        Kind::Distinct => enter_with(parts, &[CHOSEN]),
         _ => Ok(false),
     }
 }
@@ -33,7 +59,7 @@ pub(crate) fn enter_select_items(parts: &mut Vec<Part>, kind: Kind) -> Result<bo
         Kind::Comma => enter_with(
             parts,
             &[
-                Part::One(Expected::Chosen),
+                CHOSEN,
                 Part::Must(Rule::SelectItem),
                 Part::May(Optional::SelectItems),
             ],
@@ -48,11 +74,8 @@ pub(crate) fn enter_alias(parts: &mut Vec<Part>, kind: Kind) -> Result<bool, All
     ensures { IfOk result (λ is_entered. Enters (alias_by kind) is_entered parts.old.items parts.new.items) }
 {
     match kind {
-        Kind::As => enter_with(
-            parts,
-            &[Part::One(Expected::Chosen), Part::One(Expected::Name)],
-        ),
-        Kind::Name(_) | Kind::QuotedName(_) => enter_with(parts, &[Part::One(Expected::Chosen)]),
+        Kind::As => enter_with(parts, &[CHOSEN, NAME]),
+        Kind::Name(_) | Kind::QuotedName(_) => enter_with(parts, &[CHOSEN]),
         _ => Ok(false),
     }
 }
@@ -63,15 +86,7 @@ pub(crate) fn enter_from(parts: &mut Vec<Part>, kind: Kind) -> Result<bool, Allo
     ensures { IfOk result (λ is_entered. Enters (from_by kind) is_entered parts.old.items parts.new.items) }
 {
     match kind {
-        Kind::Clause(Clause::From) => enter_with(
-            parts,
-            &[
-                Part::One(Expected::Chosen),
-                Part::One(Expected::Name),
-                Part::May(Optional::Alias),
-                Part::May(Optional::Sources),
-            ],
-        ),
+        Kind::Clause(Clause::From) => enter_with(parts, &[CHOSEN, NAME, ALIAS, SOURCES]),
         _ => Ok(false),
     }
 }
@@ -82,55 +97,22 @@ pub(crate) fn enter_sources(parts: &mut Vec<Part>, kind: Kind) -> Result<bool, A
     ensures { IfOk result (λ is_entered. Enters (sources_by kind) is_entered parts.old.items parts.new.items) }
 {
     match kind {
-        Kind::Comma => enter_with(
-            parts,
-            &[
-                Part::One(Expected::Chosen),
-                Part::One(Expected::Name),
-                Part::May(Optional::Alias),
-                Part::May(Optional::Sources),
-            ],
-        ),
-        Kind::Clause(Clause::Cross) => enter_with(
-            parts,
-            &[
-                Part::One(Expected::Chosen),
-                Part::One(Expected::Join),
-                Part::One(Expected::Name),
-                Part::May(Optional::Alias),
-                Part::May(Optional::Sources),
-            ],
-        ),
-        Kind::Clause(Clause::Join) => enter_with(
-            parts,
-            &[
-                Part::One(Expected::Chosen),
-                Part::One(Expected::Name),
-                Part::May(Optional::Alias),
-                Part::May(Optional::Condition),
-                Part::May(Optional::Sources),
-            ],
-        ),
+        Kind::Comma => enter_with(parts, &[CHOSEN, NAME, ALIAS, SOURCES]),
+        Kind::Clause(Clause::Cross) => enter_with(parts, &[CHOSEN, JOIN, NAME, ALIAS, SOURCES]),
+        Kind::Clause(Clause::Join) => enter_with(parts, &[CHOSEN, NAME, ALIAS, CONDITION, SOURCES]),
         Kind::Clause(Clause::Inner) => enter_with(
             parts,
-            &[
-                Part::One(Expected::Chosen),
-                Part::One(Expected::Join),
-                Part::One(Expected::Name),
-                Part::May(Optional::Alias),
-                Part::May(Optional::Condition),
-                Part::May(Optional::Sources),
-            ],
+            &[CHOSEN, JOIN, NAME, ALIAS, CONDITION, SOURCES],
         ),
         Kind::Clause(Clause::Left) => enter_with(
             parts,
             &[
-                Part::One(Expected::Chosen),
+                CHOSEN,
                 Part::Must(Rule::LeftJoin),
-                Part::One(Expected::Name),
-                Part::May(Optional::Alias),
-                Part::May(Optional::Condition),
-                Part::May(Optional::Sources),
+                NAME,
+                ALIAS,
+                CONDITION,
+                SOURCES,
             ],
         ),
         _ => Ok(false),
@@ -143,14 +125,14 @@ pub(crate) fn enter_condition(parts: &mut Vec<Part>, kind: Kind) -> Result<bool,
     ensures { IfOk result (λ is_entered. Enters (condition_by kind) is_entered parts.old.items parts.new.items) }
 {
     match kind {
-        Kind::Clause(Clause::On) => enter_with(parts, &[Part::One(Expected::Chosen), EXPRESSION]),
+        Kind::Clause(Clause::On) => enter_with(parts, &[CHOSEN, EXPRESSION]),
         Kind::Clause(Clause::Using) => enter_with(
             parts,
             &[
-                Part::One(Expected::Chosen),
+                CHOSEN,
                 Part::One(Expected::Open),
-                Part::One(Expected::Name),
-                Part::May(Optional::Names),
+                NAME,
+                NAMES,
                 Part::One(Expected::Close),
             ],
         ),
@@ -164,14 +146,7 @@ pub(crate) fn enter_names(parts: &mut Vec<Part>, kind: Kind) -> Result<bool, All
     ensures { IfOk result (λ is_entered. Enters (names_by kind) is_entered parts.old.items parts.new.items) }
 {
     match kind {
-        Kind::Comma => enter_with(
-            parts,
-            &[
-                Part::One(Expected::Chosen),
-                Part::One(Expected::Name),
-                Part::May(Optional::Names),
-            ],
-        ),
+        Kind::Comma => enter_with(parts, &[CHOSEN, NAME, NAMES]),
         _ => Ok(false),
     }
 }
@@ -182,10 +157,7 @@ pub(crate) fn enter_where(parts: &mut Vec<Part>, kind: Kind) -> Result<bool, All
     ensures { IfOk result (λ is_entered. Enters (where_by kind) is_entered parts.old.items parts.new.items) }
 {
     match kind {
-        Kind::Clause(Clause::Where) => enter_with(
-            parts,
-            &[Part::One(Expected::Chosen), EXPRESSION],
-        ),
+        Kind::Clause(Clause::Where) => enter_with(parts, &[CHOSEN, EXPRESSION]),
         _ => Ok(false),
     }
 }
@@ -198,12 +170,7 @@ pub(crate) fn enter_group(parts: &mut Vec<Part>, kind: Kind) -> Result<bool, All
     match kind {
         Kind::Clause(Clause::Group) => enter_with(
             parts,
-            &[
-                Part::One(Expected::Chosen),
-                Part::One(Expected::By),
-                EXPRESSION,
-                Part::May(Optional::Item(0)),
-            ],
+            &[CHOSEN, BY, EXPRESSION, Part::May(Optional::Item(0))],
         ),
         _ => Ok(false),
     }
@@ -215,10 +182,7 @@ pub(crate) fn enter_having(parts: &mut Vec<Part>, kind: Kind) -> Result<bool, Al
     ensures { IfOk result (λ is_entered. Enters (having_by kind) is_entered parts.old.items parts.new.items) }
 {
     match kind {
-        Kind::Clause(Clause::Having) => enter_with(
-            parts,
-            &[Part::One(Expected::Chosen), EXPRESSION],
-        ),
+        Kind::Clause(Clause::Having) => enter_with(parts, &[CHOSEN, EXPRESSION]),
         _ => Ok(false),
     }
 }
@@ -231,13 +195,7 @@ pub(crate) fn enter_order(parts: &mut Vec<Part>, kind: Kind) -> Result<bool, All
     match kind {
         Kind::Clause(Clause::Order) => enter_with(
             parts,
-            &[
-                Part::One(Expected::Chosen),
-                Part::One(Expected::By),
-                EXPRESSION,
-                Part::May(Optional::Direction),
-                Part::May(Optional::Terms),
-            ],
+            &[CHOSEN, BY, EXPRESSION, DIRECTION, TERMS],
         ),
         _ => Ok(false),
     }
@@ -249,15 +207,7 @@ pub(crate) fn enter_terms(parts: &mut Vec<Part>, kind: Kind) -> Result<bool, All
     ensures { IfOk result (λ is_entered. Enters (terms_by kind) is_entered parts.old.items parts.new.items) }
 {
     match kind {
-        Kind::Comma => enter_with(
-            parts,
-            &[
-                Part::One(Expected::Chosen),
-                EXPRESSION,
-                Part::May(Optional::Direction),
-                Part::May(Optional::Terms),
-            ],
-        ),
+        Kind::Comma => enter_with(parts, &[CHOSEN, EXPRESSION, DIRECTION, TERMS]),
         _ => Ok(false),
     }
 }
@@ -268,10 +218,7 @@ pub(crate) fn enter_direction(parts: &mut Vec<Part>, kind: Kind) -> Result<bool,
     ensures { IfOk result (λ is_entered. Enters (direction_by kind) is_entered parts.old.items parts.new.items) }
 {
     match kind {
-        Kind::Clause(Clause::Asc) | Kind::Clause(Clause::Desc) => enter_with(
-            parts,
-            &[Part::One(Expected::Chosen)],
-        ),
+        Kind::Clause(Clause::Asc) | Kind::Clause(Clause::Desc) => enter_with(parts, &[CHOSEN]),
         _ => Ok(false),
     }
 }
@@ -285,7 +232,7 @@ pub(crate) fn enter_limit(parts: &mut Vec<Part>, kind: Kind) -> Result<bool, All
         Kind::Clause(Clause::Limit) => enter_with(
             parts,
             &[
-                Part::One(Expected::Chosen),
+                CHOSEN,
                 Part::Must(Rule::Integer),
                 Part::May(Optional::Offset),
             ],
@@ -300,10 +247,7 @@ pub(crate) fn enter_offset(parts: &mut Vec<Part>, kind: Kind) -> Result<bool, Al
     ensures { IfOk result (λ is_entered. Enters (offset_by kind) is_entered parts.old.items parts.new.items) }
 {
     match kind {
-        Kind::Clause(Clause::Offset) => enter_with(
-            parts,
-            &[Part::One(Expected::Chosen), Part::Must(Rule::Integer)],
-        ),
+        Kind::Clause(Clause::Offset) => enter_with(parts, &[CHOSEN, Part::Must(Rule::Integer)]),
         _ => Ok(false),
     }
 }
@@ -314,7 +258,7 @@ pub(crate) fn enter_semicolon(parts: &mut Vec<Part>, kind: Kind) -> Result<bool,
     ensures { IfOk result (λ is_entered. Enters (semicolon_by kind) is_entered parts.old.items parts.new.items) }
 {
     match kind {
-        Kind::Semicolon => enter_with(parts, &[Part::One(Expected::Chosen)]),
+        Kind::Semicolon => enter_with(parts, &[CHOSEN]),
         _ => Ok(false),
     }
 }

@@ -7,6 +7,7 @@ pub mod Calls
 pub mod ReadSpelled
 pub mod SelectLists
 pub mod SelectArms
+pub mod SelectStopped
 pub mod Told
 pub mod SelectTold
 pub mod WholeTold

@@ -1,186 +1,115 @@
 //! Keywords, and what names name. Both ignore ASCII case.
 
-ghost use Rattle.std.specs.Prelude.{◌≡◌};
-ghost use Rattle.sql_tokens.specs.Words.{clause_of, operator_of, function_of, other_of, word_of, kind_of_word};
+ghost use Rattle.std.specs.Prelude.{◌≡◌, map};
+ghost use Rattle.sql_tokens.specs.Words.{found_in, clause_of, operator_of, function_of, other_of, word_of, kind_of_word};
 
 use crate::token::{Clause, Kind, Word};
 use sql_tree::functions::{Fold, Function};
+
+/// The keywords that stand between the parts of a select.
+const CLAUSES: [(&[u8], Clause); 18] = [
+    (b"select", Clause::Select),
+    (b"from", Clause::From),
+    (b"where", Clause::Where),
+    (b"group", Clause::Group),
+    (b"by", Clause::By),
+    (b"having", Clause::Having),
+    (b"order", Clause::Order),
+    (b"asc", Clause::Asc),
+    (b"desc", Clause::Desc),
+    (b"limit", Clause::Limit),
+    (b"offset", Clause::Offset),
+    (b"join", Clause::Join),
+    (b"inner", Clause::Inner),
+    (b"cross", Clause::Cross),
+    (b"left", Clause::Left),
+    (b"outer", Clause::Outer),
+    (b"on", Clause::On),
+    (b"using", Clause::Using),
+];
+
+/// The keywords of expressions.
+const OPERATORS: [(&[u8], Kind); 11] = [
+    (b"distinct", Kind::Distinct),
+    (b"as", Kind::As),
+    (b"and", Kind::And),
+    (b"or", Kind::Or),
+    (b"not", Kind::Not),
+    (b"is", Kind::Is),
+    (b"in", Kind::In),
+    (b"like", Kind::Like),
+    (b"between", Kind::Between),
+    (b"null", Kind::Null),
+    (b"cast", Kind::Cast),
+];
+
+/// The scalar functions.
+const FUNCTIONS: [(&[u8], Function); 12] = [
+    (b"length", Function::Length),
+    (b"lower", Function::Lower),
+    (b"upper", Function::Upper),
+    (b"trim", Function::Trim),
+    (b"substr", Function::Substr),
+    (b"instr", Function::Instr),
+    (b"replace", Function::Replace),
+    (b"abs", Function::Abs),
+    (b"typeof", Function::Typeof),
+    (b"coalesce", Function::Coalesce),
+    (b"ifnull", Function::Ifnull),
+    (b"nullif", Function::Nullif),
+];
+
+/// Aggregates and types.
+const OTHERS: [(&[u8], Word); 8] = [
+    (b"count", Word::Aggregate(Fold::Count)),
+    (b"sum", Word::Aggregate(Fold::Sum)),
+    (b"min", Word::Aggregate(Fold::Min)),
+    (b"max", Word::Aggregate(Fold::Max)),
+    (b"integer", Word::IntegerType),
+    (b"bigint", Word::IntegerType),
+    (b"int", Word::IntegerType),
+    (b"text", Word::TextType),
+];
+
+/// What stands in a table beside a word.
+fn found_in<T: Copy>(table: &[(&[u8], T)], word: &[u8]) -> Option<T>
+    ensures { result ≡ found_in (map (λ entry. (entry.0.now, entry.1)) table.now) word.now }
+{
+    let [(name, found), rest @ ..] = table else {
+        return None;
+    };
+    if word.eq_ignore_ascii_case(name) {
+        return Some(*found);
+    }
+    found_in(rest, word)
+}
 
 #[tactic(auto, unfolding(crate::specs::Words::clause_of))]
 fn clause(word: &[u8]) -> Option<Clause>
     ensures { result ≡ clause_of word.now }
 {
-    if word.eq_ignore_ascii_case(b"select") {
-        return Some(Clause::Select);
-    }
-    if word.eq_ignore_ascii_case(b"from") {
-        return Some(Clause::From);
-    }
-    if word.eq_ignore_ascii_case(b"where") {
-        return Some(Clause::Where);
-    }
-    if word.eq_ignore_ascii_case(b"group") {
-        return Some(Clause::Group);
-    }
-    if word.eq_ignore_ascii_case(b"by") {
-        return Some(Clause::By);
-    }
-    if word.eq_ignore_ascii_case(b"having") {
-        return Some(Clause::Having);
-    }
-    if word.eq_ignore_ascii_case(b"order") {
-        return Some(Clause::Order);
-    }
-    if word.eq_ignore_ascii_case(b"asc") {
-        return Some(Clause::Asc);
-    }
-    if word.eq_ignore_ascii_case(b"desc") {
-        return Some(Clause::Desc);
-    }
-    if word.eq_ignore_ascii_case(b"limit") {
-        return Some(Clause::Limit);
-    }
-    if word.eq_ignore_ascii_case(b"offset") {
-        return Some(Clause::Offset);
-    }
-    if word.eq_ignore_ascii_case(b"join") {
-        return Some(Clause::Join);
-    }
-    if word.eq_ignore_ascii_case(b"inner") {
-        return Some(Clause::Inner);
-    }
-    if word.eq_ignore_ascii_case(b"cross") {
-        return Some(Clause::Cross);
-    }
-    if word.eq_ignore_ascii_case(b"left") {
-        return Some(Clause::Left);
-    }
-    if word.eq_ignore_ascii_case(b"outer") {
-        return Some(Clause::Outer);
-    }
-    if word.eq_ignore_ascii_case(b"on") {
-        return Some(Clause::On);
-    }
-    if word.eq_ignore_ascii_case(b"using") {
-        return Some(Clause::Using);
-    }
-    None
+    found_in(&CLAUSES, word)
 }
 
-/// The keywords of expressions.
 #[tactic(auto, unfolding(crate::specs::Words::operator_of))]
 fn operator(word: &[u8]) -> Option<Kind>
     ensures { result ≡ operator_of word.now }
 {
-    if word.eq_ignore_ascii_case(b"distinct") {
-        return Some(Kind::Distinct);
-    }
-    if word.eq_ignore_ascii_case(b"as") {
-        return Some(Kind::As);
-    }
-    if word.eq_ignore_ascii_case(b"and") {
-        return Some(Kind::And);
-    }
-    if word.eq_ignore_ascii_case(b"or") {
-        return Some(Kind::Or);
-    }
-    if word.eq_ignore_ascii_case(b"not") {
-        return Some(Kind::Not);
-    }
-    if word.eq_ignore_ascii_case(b"is") {
-        return Some(Kind::Is);
-    }
-    if word.eq_ignore_ascii_case(b"in") {
-        return Some(Kind::In);
-    }
-    if word.eq_ignore_ascii_case(b"like") {
-        return Some(Kind::Like);
-    }
-    if word.eq_ignore_ascii_case(b"between") {
-        return Some(Kind::Between);
-    }
-    if word.eq_ignore_ascii_case(b"null") {
-        return Some(Kind::Null);
-    }
-    if word.eq_ignore_ascii_case(b"cast") {
-        return Some(Kind::Cast);
-    }
-    None
+    found_in(&OPERATORS, word)
 }
 
 #[tactic(auto, unfolding(crate::specs::Words::function_of))]
 fn function(word: &[u8]) -> Option<Function>
     ensures { result ≡ function_of word.now }
 {
-    if word.eq_ignore_ascii_case(b"length") {
-        return Some(Function::Length);
-    }
-    if word.eq_ignore_ascii_case(b"lower") {
-        return Some(Function::Lower);
-    }
-    if word.eq_ignore_ascii_case(b"upper") {
-        return Some(Function::Upper);
-    }
-    if word.eq_ignore_ascii_case(b"trim") {
-        return Some(Function::Trim);
-    }
-    if word.eq_ignore_ascii_case(b"substr") {
-        return Some(Function::Substr);
-    }
-    if word.eq_ignore_ascii_case(b"instr") {
-        return Some(Function::Instr);
-    }
-    if word.eq_ignore_ascii_case(b"replace") {
-        return Some(Function::Replace);
-    }
-    if word.eq_ignore_ascii_case(b"abs") {
-        return Some(Function::Abs);
-    }
-    if word.eq_ignore_ascii_case(b"typeof") {
-        return Some(Function::Typeof);
-    }
-    if word.eq_ignore_ascii_case(b"coalesce") {
-        return Some(Function::Coalesce);
-    }
-    if word.eq_ignore_ascii_case(b"ifnull") {
-        return Some(Function::Ifnull);
-    }
-    if word.eq_ignore_ascii_case(b"nullif") {
-        return Some(Function::Nullif);
-    }
-    None
+    found_in(&FUNCTIONS, word)
 }
 
-/// Aggregates and types.
 #[tactic(auto, unfolding(crate::specs::Words::other_of))]
 fn other(word: &[u8]) -> Option<Word>
     ensures { result ≡ other_of word.now }
 {
-    if word.eq_ignore_ascii_case(b"count") {
-        return Some(Word::Aggregate(Fold::Count));
-    }
-    if word.eq_ignore_ascii_case(b"sum") {
-        return Some(Word::Aggregate(Fold::Sum));
-    }
-    if word.eq_ignore_ascii_case(b"min") {
-        return Some(Word::Aggregate(Fold::Min));
-    }
-    if word.eq_ignore_ascii_case(b"max") {
-        return Some(Word::Aggregate(Fold::Max));
-    }
-    if word.eq_ignore_ascii_case(b"integer") {
-        return Some(Word::IntegerType);
-    }
-    if word.eq_ignore_ascii_case(b"bigint") {
-        return Some(Word::IntegerType);
-    }
-    if word.eq_ignore_ascii_case(b"int") {
-        return Some(Word::IntegerType);
-    }
-    if word.eq_ignore_ascii_case(b"text") {
-        return Some(Word::TextType);
-    }
-    None
+    found_in(&OTHERS, word)
 }
 
 /// What a name, plain or quoted, names besides a column or a table.
