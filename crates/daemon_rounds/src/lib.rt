@@ -38,6 +38,3 @@ pub use starting::{open_feeds, start_feeds, start_sources};
 pub use telling::lines_of_entries;
 pub use ticking::begin_tick;
 pub use turning::Which;
-
-#[cfg(test)]
-mod tests;
