@@ -124,17 +124,3 @@ pub readings_tellable : (source : List ℕ) (moment : ℕ) (readings : List Read
 readings_tellable source moment [] = tt
 readings_tellable source moment (reading ∷ readings) =
     reading_tellable source moment reading (entries_of source moment readings) (readings_tellable source moment readings)
-
--- so can the tail with the entries of readings
-pub appended_tellable : (s t : Kept) (source : List ℕ) (moment : ℕ) (readings : List Reading) → AreTellable s.tail → Brings s (entries_of source moment readings) t → AreTellable t.tail
-appended_tellable s t source moment readings tellable more =
-    subst AreTellable (sym more.tail) (tellable-append s.tail (entries_of source moment readings) tellable (readings_tellable source moment readings))
-
--- a session that begins over an empty list goes on from it, with what it gained first
-pub opened_on : (base : Restored) (s0 s1 s2 : Kept) (opened configured ticked : Entry) → Stands base (opened ∷ []) s0 → s0.tail ≡ opened ∷ [] → Adds s0 configured s1 → Brings s1 (ticked ∷ []) s2 → base ≡ summary [] → GoesOn (Unit {0}) [] s2
-opened_on base s0 s1 s2 opened configured ticked stands tail adds brings empty = record {
-  base = base;
-  sealed = [];
-  stands = subst (λ (added : List Entry). Stands base added s2) (sym (brings.tail ∙ ap (λ (es : List Entry). es ++ ticked ∷ []) (adds.moves.tail ∙ ap (λ (es : List Entry). es ++ configured ∷ []) tail))) (brings.stands base ((opened ∷ []) ++ configured ∷ []) (adds.stands base (opened ∷ []) stands));
-  list = λ told. record { before = []; is = refl; same = sym empty };
-}

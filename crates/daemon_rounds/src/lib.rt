@@ -22,7 +22,6 @@ mod ticking;
 mod turning;
 
 pub use answering::answer_due;
-pub use appending::append_all;
 pub use configuration::read_configuration;
 pub use configuring::configure;
 pub use error::{FinishError, OpenError, RoundError, StartError, TakeError, TurnError};
@@ -36,8 +35,4 @@ pub use session::{Session, open_session};
 pub use settling::settle;
 pub use starting::{open_feeds, start_feeds, start_sources};
 pub use telling::lines_of_entries;
-pub use ticking::begin_tick;
 pub use turning::Which;
-
-#[cfg(test)]
-mod tests;
