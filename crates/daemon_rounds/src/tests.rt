@@ -30,7 +30,7 @@ const LINES: &str =
     "{\"name\":\"fe\",\"hostIdentifier\":\"h1\",\"calendarTime\":\"Thu Jan 01 00:16:40 1970 UTC\",\"unixTime\":1000,\"batch\":1,\"action\":\"added\",\"columns\":{\"target_path\":\"/etc/a\"}}\n";
 
 /// The query of new files, asked each minute; want of memory stands for a text that is refused.
-#[tactic(auto, unfolding(sql_meaning::specs::Meaning::is_accepted, sql_meaning::specs::Meaning::names_evented))]
+#[tactic(auto, unfolding(sql_texts::specs::Meaning::is_accepted, sql_texts::specs::Meaning::names_evented))]
 fn paths(alloc: Global) -> Result<Scheduled, NoMemory>
     ensures { IfOk result IsRunnable }
 {

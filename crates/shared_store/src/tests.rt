@@ -36,7 +36,7 @@ const PATHS: &str = "SELECT target_path FROM file_events";
 const SOURCES: [&str; 8] = ["a", "b", "c", "d", "e", "f", "g", "h"];
 
 /// The query `fe`, which asks for the paths of new files each minute; want of memory stands for a text that is refused.
-#[tactic(auto, unfolding(sql_meaning::specs::Meaning::is_accepted, sql_meaning::specs::Meaning::names_evented))]
+#[tactic(auto, unfolding(sql_texts::specs::Meaning::is_accepted, sql_texts::specs::Meaning::names_evented))]
 fn paths(alloc: Global) -> Result<Scheduled, NoMemory>
     ensures { IfOk result IsRunnable }
 {
@@ -158,7 +158,7 @@ fn claimed<R: Wait>(
 }
 
 /// The rows that answer a cut.
-#[tactic(auto, unfolding(sql_meaning::specs::Meaning::meaning))]
+#[tactic(auto, unfolding(sql_texts::specs::Meaning::meaning))]
 fn answer(alloc: Global, cut: &Cut) -> Result<RowList, NoMemory>
     ensures { IfOk result (λ rows. rows ≡ meaning cut.now.key.text (rows_in cut.now.view)) }
 {
