@@ -17,10 +17,16 @@ import tempfile
 TOP = pathlib.Path(__file__).resolve().parent.parent
 BELOW = [
     "osq_value",
+    "sql_tree",
+    "sql_tokens",
+    "sql_faults",
     "sql_parser",
-    "sql_scalar",
+    "sql_query",
+    "sql_scope",
     "sql_names",
+    "sql_scalar",
     "sql_meaning",
+    "sql_texts",
     "osq_config",
     "pack_rules",
     "entry_model",

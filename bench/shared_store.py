@@ -36,8 +36,8 @@ use entry_model::restored::Restored;
 use osq_value::{Event, EventList, NoMemory, Reading, Row, Str, TableId, TextList, Value};
 use pack_rules::schedule::{Form, Mode, QueryKey, Schedule, Scheduled, ScheduledList};
 use shared_store::{Store, StoreSeat};
-use sql_names::answers::is_evented;
-use sql_names::text::query_of_text;
+use sql_query::answers::is_evented;
+use sql_texts::text::query_of_text;
 use std::alloc::Global;
 use std::io;
 use std::sync::Wait;
@@ -54,7 +54,7 @@ const FILES: TableId = TableId(2);
 
 const PATHS: &str = "SELECT target_path FROM file_events";
 
-#[tactic(auto, unfolding(sql_meaning::specs::Meaning::is_accepted, sql_meaning::specs::Meaning::names_evented))]
+#[tactic(auto, unfolding(sql_texts::specs::Meaning::is_accepted, sql_texts::specs::Meaning::names_evented))]
 fn paths(alloc: Global) -> Result<Scheduled, NoMemory>
     ensures { IfOk result IsRunnable }
 {
@@ -347,21 +347,24 @@ invariant-loop g l = IsSeatOf l.store l.seat × IsAtRest l.seat
 
 def write_program(folder: pathlib.Path) -> pathlib.Path:
     """Writes a repository of the program and of the crates below it, and answers the program's folder."""
-    lines = (TOP / "crates.txt").read_text().splitlines()
-    below = [line for line in lines if line.split(" ", 1)[0] == "shared_store"]
-    needed = below[0].split(": ", 1)[1].split()
+    lines = {line.split(" ", 1)[0].rstrip(":"): line for line in (TOP / "crates.txt").read_text().splitlines() if line}
+    wanted, needed = ["shared_store"], set()
+    while wanted:
+        crate = wanted.pop()
+        if crate in lines and crate not in needed:
+            needed.add(crate)
+            wanted.extend(lines[crate].split(":", 1)[1].split())
     kept = []
     (folder / "crates").mkdir()
-    for line in lines:
-        crate = line.split(" ", 1)[0].rstrip(":")
-        if crate in needed or crate == "shared_store":
+    for crate, line in lines.items():
+        if crate in needed:
             shutil.copytree(
                 TOP / "crates" / crate,
                 folder / "crates" / crate,
                 ignore=shutil.ignore_patterns("out", "must-fail"),
             )
             kept.append(line)
-    kept.append(f"{NAME}: {' '.join(needed)} shared_store")
+    kept.append(f"{NAME}: {' '.join(sorted(needed))}")
     (folder / "crates.txt").write_text("\n".join(kept) + "\n")
     shutil.copy(TOP / "HANDLES", folder / "HANDLES")
     program = folder / "crates" / NAME

@@ -25,8 +25,13 @@ import time
 TOP = pathlib.Path(__file__).resolve().parent.parent
 CRATES = {
     "osq_value": "arrayvec",
-    "sql_parser": "",
-    "sql_names": "osq_value sql_parser",
+    "sql_tree": "",
+    "sql_tokens": "sql_tree",
+    "sql_faults": "sql_tree sql_tokens",
+    "sql_parser": "sql_tree sql_tokens sql_faults",
+    "sql_query": "osq_value sql_tree",
+    "sql_scope": "osq_value sql_tree sql_query",
+    "sql_names": "osq_value sql_tree sql_query sql_scope",
 }
 
 PROGRAM = r"""
@@ -35,11 +40,11 @@ PROGRAM = r"""
 #![tactic(auto)]
 
 use osq_value::NoMemory;
-use sql_names::answers::{is_evented, names_of};
 use sql_names::error::NameKind;
 use sql_names::resolve::resolve;
-use sql_parser::error::ParseKind;
+use sql_parser::ParseKind;
 use sql_parser::parse::parse;
+use sql_query::answers::{is_evented, names_of};
 use std::alloc::Global;
 use std::io;
 

@@ -23,7 +23,23 @@ import time
 TOP = pathlib.Path(__file__).resolve().parent.parent
 
 # The crates that the program uses, and the kit's.
-LIBRARIES = ["osq_value", "sql_parser", "sql_scalar", "sql_names", "sql_meaning", "virtual_tables", "sql_joins", "sql_groups", "sql_planner"]
+LIBRARIES = [
+    "osq_value",
+    "sql_tree",
+    "sql_tokens",
+    "sql_faults",
+    "sql_parser",
+    "sql_query",
+    "sql_scope",
+    "sql_names",
+    "sql_scalar",
+    "sql_meaning",
+    "sql_texts",
+    "virtual_tables",
+    "sql_joins",
+    "sql_groups",
+    "sql_planner",
+]
 TURNS = 3
 
 COLUMNS = {

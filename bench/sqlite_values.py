@@ -27,8 +27,8 @@ except ImportError:
 TOP = pathlib.Path(__file__).resolve().parent.parent
 CRATES = {
     "osq_value": "arrayvec",
-    "sql_parser": "",
-    "sql_scalar": "osq_value sql_parser",
+    "sql_tree": "",
+    "sql_scalar": "memchr osq_value sql_tree",
 }
 
 PROGRAM = r"""
@@ -40,9 +40,9 @@ PROGRAM = r"""
 #![tactic(auto)]
 
 use osq_value::{Affinity, Copied, NoMemory, Row, Str, Value, cast_int, cast_text, int_spelling};
-use sql_parser::token::Function;
-use sql_parser::tree::Operator;
 use sql_scalar::{apply, call, minus, negation, truth};
+use sql_tree::functions::Function;
+use sql_tree::tree::Operator;
 use std::alloc::Global;
 use std::io;
 

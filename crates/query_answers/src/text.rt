@@ -34,7 +34,7 @@ fn rows_of<V: Tables>(alloc: Global, query: &Query, view: &V) -> Result<RowList,
 }
 
 /// The rows that the text means over the view, and nothing where it isn't accepted.
-#[tactic(auto, unfolding(sql_meaning::specs::Meaning::is_accepted, sql_meaning::specs::Meaning::meaning))]
+#[tactic(auto, unfolding(sql_texts::specs::Meaning::is_accepted, sql_texts::specs::Meaning::meaning))]
 pub fn answer<V: Tables>(alloc: Global, text: &str, view: &V) -> Result<Option<RowList>, NoMemory>
     ensures { IfOk result (λ rows. rows ≡ answer_of text.now (V.rows_of view.now)) }
 {
@@ -45,7 +45,7 @@ pub fn answer<V: Tables>(alloc: Global, text: &str, view: &V) -> Result<Option<R
 }
 
 /// The names of the columns of the text's result, and nothing where it isn't accepted.
-#[tactic(auto, unfolding(sql_meaning::specs::Meaning::is_accepted, sql_meaning::specs::Meaning::names_of))]
+#[tactic(auto, unfolding(sql_texts::specs::Meaning::is_accepted, sql_texts::specs::Meaning::names_of))]
 pub fn names(alloc: Global, text: &str) -> Result<Option<TextList>, NoMemory>
     ensures { IfOk result (λ names. names ≡ names_in text.now) }
 {

@@ -14,7 +14,7 @@ use sql_texts::text::{TextError, query_of_text};
 use std::alloc::Global;
 
 /// The query that an accepted text asks for.
-#[tactic(auto, unfolding(sql_meaning::specs::Meaning::is_accepted))]
+#[tactic(auto, unfolding(sql_texts::specs::Meaning::is_accepted))]
 fn asked(alloc: Global, text: &str) -> Result<Query, NoMemory>
     requires { is_accepted text.now ≡ true }
     ensures { IfOk result (λ query. query_in text.now ≡ Some (query_of query)) }

@@ -1,5 +1,5 @@
 -- The steps take rows for what they stand for: a step of what was made of rows is what is made of the step of the rows.
-use Rattle.std.proofs.Common.{◌≡◌, ℕ, refl, sym, ap, ap₂, ◌∙◌, Bool, true, false, cond, List, [], ◌∷◌, filter, map, take, drop, Option, Some, None, ℤ, pos, negsuc}
+use Rattle.std.proofs.Common.{◌≡◌, refl, ap, ap₂, ◌∙◌, Bool, true, false, cond, List, [], ◌∷◌, filter, map, drop, Option, Some, None, ℤ, pos, negsuc}
 use Rattle.std.proofs.lemmas.List.{take-map, drop-map}
 use Rattle.osq_value.specs.declared.value.Value.{Value}
 use Rattle.sql_meaning.specs.Cut.{cut_by, kept_by, passed_over}

@@ -1,5 +1,5 @@
 -- The query that a select stands for.
-use Rattle.std.specs.Prelude.{ℕ, ◌+◌, Bool, List, [], ◌∷◌, ◌++◌, map, take, Option, Some, None}
+use Rattle.std.specs.Prelude.{ℕ, ◌+◌, List, [], ◌∷◌, ◌++◌, map, take, Option, Some, None}
 use Rattle.osq_value.specs.Catalogue.{table_name}
 use Rattle.sql_tree.specs.declared.tree.Name.{Name}
 use Rattle.sql_tree.specs.declared.tree.Operator.TheVariants as operator

@@ -1,5 +1,5 @@
 -- A loop that makes the parts of a tree has one part more.
-use Rattle.std.proofs.Common.{◌≡◌, ℕ, ◌+◌, ◌<◌, ◌++◌, List, [], ◌∷◌, length, take, get_or, map, ap, sym, ◌∙◌, refl}
+use Rattle.std.proofs.Common.{◌≡◌, ℕ, ◌+◌, ◌<◌, ◌++◌, List, [], ◌∷◌, length, take, get_or, ap, sym, ◌∙◌}
 use Rattle.sql_tree.specs.declared.tree.Node.{Node}
 use Rattle.sql_tree.specs.declared.tree.Step.{Step}
 use Rattle.sql_tree.specs.View.{tree_of}
@@ -9,7 +9,7 @@ use Rattle.sql_tree.specs.View.{trees_of}
 use Rattle.sql_query.specs.declared.tree.Expr.{Expr}
 use Rattle.sql_query.specs.declared.tree.ExprStep.{ExprStep}
 use Rattle.sql_query.specs.Exprs.{ExprSteps, no_steps, then, Exprs, no_exprs, and_expr}
-use Rattle.sql_query.specs.View.{expr_of, step_of, steps_of, exprs_of, steps_after, exprs_after}
+use Rattle.sql_query.specs.View.{expr_of, step_of, steps_of, exprs_of}
 use Rattle.sql_scope.specs.Shown.{Names}
 use Rattle.sql_scope.specs.Naming.{expr_steps_of, expr_step_of}
 use Rattle.sql_scope.specs.Naming.{expr_of as expr_among}

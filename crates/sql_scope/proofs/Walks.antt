@@ -1,10 +1,9 @@
 -- A loop over the parts of a tree has one part more.
-use Rattle.std.proofs.Common.{◌≡◌, ℕ, ◌+◌, ◌<◌, ◌++◌, Bool, List, length, take, get_or, map, ap, sym, ◌∙◌, append_assoc}
-use Rattle.std.specs.Prelude.{◌&&◌}
-use Rattle.std.proofs.lemmas.List.{take_more, map-append}
+use Rattle.std.proofs.Common.{◌≡◌, ℕ, ◌+◌, ◌<◌, ◌++◌, Bool, List, length, take, get_or, ap, sym, ◌∙◌, append_assoc}
+use Rattle.std.proofs.lemmas.List.{take_more}
 use Rattle.sql_tree.specs.declared.tree.Node.{Node}
 use Rattle.sql_tree.specs.declared.tree.Step.{Step}
-use Rattle.sql_tree.specs.Tree.{Tree, no_steps, then, no_trees, and_tree}
+use Rattle.sql_tree.specs.Tree.{no_steps, then, no_trees, and_tree}
 use Rattle.sql_tree.specs.View.{tree_of, step_of, steps_of, trees_of}
 use Rattle.sql_tree.proofs.Trees.{steps_after-push, trees_after-push}
 use Rattle.sql_scope.specs.declared.mention.Clause.{Clause}

@@ -2,7 +2,6 @@ use Rattle.std.proofs.Common.{◌≡◌, ◌∙◌, ap, sym, take, List, Bool, �
 use Rattle.std.specs.Cmp.Lexicographic.{pointwise}
 use Rattle.std.proofs.lemmas.List.{take-map}
 use Rattle.indexmap.specs.IndexSet.{insert_key}
-use Rattle.osq_value.specs.declared.value.Value.{Value}
 use Rattle.osq_value.specs.contracts.value.ValuePartialEq.TheImpl as equality
 use Rattle.sql_meaning.specs.declared.front.Front.{Front}
 use Rattle.sql_meaning.specs.declared.worth.Worth.{Worth}

@@ -3,11 +3,10 @@ use Rattle.std.specs.List.{list_any, position_or_len}
 use Rattle.std.specs.Cmp.Lexicographic.{pointwise}
 use Rattle.std.proofs.lemmas.List.{get_or_default}
 use Rattle.indexmap.specs.IndexSet.{insert_key}
-use Rattle.osq_value.specs.declared.value.Value.{Value}
 use Rattle.osq_value.specs.contracts.value.ValuePartialEq.TheImpl as equality
 use Rattle.sql_meaning.specs.Firsts.{same_values, firsts_by}
 use Rattle.sql_meaning.specs.declared.groups.Keyed.{Keyed}
-use Rattle.sql_meaning.specs.Worths.{worth_of, worths}
+use Rattle.sql_meaning.specs.Worths.{worth_of}
 use Rattle.sql_meaning.specs.declared.worth.Worth.{Worth}
 use Rattle.sql_meaning.specs.declared.joined.Joined.{Joined}
 use Rattle.sql_meaning.proofs.Equality.{worths-are}
