@@ -65,7 +65,7 @@ fn push_read(
     }
 }
 
-/// Tells what the document gives that has the member of this name between a front and a back.
+/// Tells what the document of these members gives, with a front before them and a back behind them.
 fn push_within(
     alloc: Global,
     text: &mut String,
