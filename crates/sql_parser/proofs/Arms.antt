@@ -35,6 +35,10 @@ pub stopped_with : (p r : List Part) (a : List Token) (e : Stop) → Stopped p a
 stopped_with p r a Refused h = fails_with r h
 stopped_with p r a NoMemory h = tt
 
+-- where these parts are expected next and stop, all that was expected stops
+pub stops_behind : {p : List Part} {ts a : List Token} (parts later : List Part) (e : Stop) → Leads p (parts ++ later) ts a → Stopped parts a e → Stopped p ts e
+stops_behind parts later e l s = stopped_later e l (stopped_with parts later _ e s)
+
 -- what another class and rule stand for here
 pub same_descent : (c c' : Class) (r r' : Rule) (ts : List Token) (result : Result Node Stop) (new : List Token)
     → ((tree : Tree) → Spells c' ts tree new → Spells c ts tree new) → Leads (Must r ∷ []) (Must r' ∷ []) ts ts

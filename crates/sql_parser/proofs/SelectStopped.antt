@@ -1,19 +1,17 @@
 -- How far a select has been read when one of its parts stops.
-use Rattle.std.proofs.Common.{List, [], ◌∷◌, ◌++◌, Bool, Option}
+use Rattle.std.proofs.Common.{List, [], ◌∷◌, Bool, Option}
 use Rattle.sql_tokens.specs.declared.token.Token.{Token}
 use Rattle.sql_faults.specs.declared.part.Part.{Part}
 use Rattle.sql_faults.specs.declared.part.Part.TheVariants.{One, Must, May}
 use Rattle.sql_faults.specs.declared.part.Expected.TheVariants as expected
 use Rattle.sql_faults.specs.declared.part.Rule.TheVariants as rule
 use Rattle.sql_faults.specs.declared.part.Optional.TheVariants as optional
-use Rattle.sql_parser.specs.declared.stop.Stop.{Stop}
 use Rattle.sql_tree.specs.Tree.{Tree}
 use Rattle.sql_tree.specs.Select.{ItemTree, RefTree, HavingTree, TermTree}
-use Rattle.sql_parser.specs.Descent.{Leads, Stopped}
+use Rattle.sql_parser.specs.Descent.{Leads}
 use Rattle.sql_parser.specs.SelectRead.{opening, with_commas, item, sources, filter, keys, having, terms}
 use Rattle.sql_parser.specs.SelectDescent.{IsFound, select_parts}
 use Rattle.sql_parser.proofs.Laws.{leads_on, leads_with}
-use Rattle.sql_parser.proofs.Arms.{stopped_later, stopped_with}
 
 -- what is expected behind each part of a select
 abbrev pub after_terms : List Part
@@ -57,7 +55,3 @@ leads_having l h = leads_on l (leads_with after_having h.leads)
 
 pub leads_terms : {ts a b : List Token} {xs : List TermTree} → Leads select_parts after_having ts a → IsFound terms (May optional.Order ∷ []) [] a xs b → Leads select_parts after_terms ts b
 leads_terms l h = leads_on l (leads_with after_terms h.leads)
-
--- where these parts are expected next and stop, all that was expected stops
-pub stops_behind : {p : List Part} {ts a : List Token} (parts later : List Part) (e : Stop) → Leads p (parts ++ later) ts a → Stopped parts a e → Stopped p ts e
-stops_behind parts later e l s = stopped_later e l (stopped_with parts later _ e s)

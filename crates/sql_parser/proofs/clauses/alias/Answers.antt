@@ -1,8 +1,7 @@
 use Rattle.std.proofs.lemmas.Result.{err_from_is_err_and}
-use Rattle.std.proofs.Common.{true, false, ap, ◌∙◌}
+use Rattle.std.proofs.Common.{true, false, ap, ◌∙◌, refl}
 use Rattle.sql_faults.specs.Calls.{name_of as token_name}
 use Rattle.sql_parser.proofs.Arms.{kind_at, kind_not}
-use Rattle.std.proofs.Common.{refl}
 use Rattle.sql_parser.proofs.SelectArms.{is_name_at, alias_alone, no_alias, alias_with_as, stopped_alias}
 use Rattle.sql_parser.proofs.clauses.alias.Goals as goal
 

@@ -1,10 +1,9 @@
 use Rattle.std.proofs.lemmas.Result.{err_from_is_err_and}
-use Rattle.std.proofs.Common.{[], ◌∷◌}
+use Rattle.std.proofs.Common.{[], ◌∷◌, ◌++◌, ap, ◌∙◌, map}
 use Rattle.sql_faults.specs.declared.part.Part.TheVariants.{Must, May}
 use Rattle.sql_faults.specs.declared.part.Rule.TheVariants as rule
 use Rattle.sql_faults.specs.declared.part.Optional.TheVariants as optional
 use Rattle.sql_tokens.specs.declared.level.Level.TheVariants as level
-use Rattle.std.proofs.Common.{◌++◌, ap, ◌∙◌, map}
 use Rattle.std.proofs.lemmas.List.{map-append}
 use Rattle.sql_tree.specs.View.{tree_of}
 use Rattle.sql_parser.specs.SelectRead as read

@@ -1,7 +1,6 @@
 use Rattle.std.proofs.lemmas.Result.{err_from_is_err_and}
-use Rattle.std.proofs.Common.{rules, w64, FitsSigned}
+use Rattle.std.proofs.Common.{rules, w64, FitsSigned, ap, ◌∙◌}
 use Rattle.std.proofs.lemmas.Int.{to_z-of_z}
-use Rattle.std.proofs.Common.{ap, ◌∙◌}
 use Rattle.sql_parser.specs.SelectRead as read
 use Rattle.sql_parser.proofs.Arms.{kind_at, kind_not, stopped_later}
 use Rattle.sql_parser.proofs.SelectArms.{plus_integer, minus_integer, unsigned_integer, leads_minus_sign}

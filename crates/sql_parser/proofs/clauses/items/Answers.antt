@@ -1,9 +1,8 @@
 use Rattle.std.proofs.lemmas.Result.{err_from_is_err_and}
-use Rattle.std.proofs.Common.{[], ◌∷◌}
+use Rattle.std.proofs.Common.{[], ◌∷◌, ◌++◌, ap, ◌∙◌, map}
 use Rattle.sql_faults.specs.declared.part.Part.TheVariants.{Must, May}
 use Rattle.sql_faults.specs.declared.part.Rule.TheVariants as rule
 use Rattle.sql_faults.specs.declared.part.Optional.TheVariants as optional
-use Rattle.std.proofs.Common.{◌++◌, ap, ◌∙◌, map}
 use Rattle.std.proofs.lemmas.List.{map-append}
 use Rattle.sql_tree.specs.Select.{item_of}
 use Rattle.sql_parser.specs.SelectRead as read

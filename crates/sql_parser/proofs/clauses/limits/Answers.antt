@@ -1,11 +1,10 @@
 use Rattle.std.proofs.lemmas.Result.{err_from_is_err_and}
 use Rattle.sql_tokens.specs.declared.token.Kind.TheVariants as kind
 use Rattle.sql_tokens.specs.declared.token.Clause.TheVariants as clause
-use Rattle.std.proofs.Common.{[], ◌∷◌}
+use Rattle.std.proofs.Common.{[], ◌∷◌, rules, w64, FitsSigned}
 use Rattle.sql_faults.specs.declared.part.Part.TheVariants.{Must, May}
 use Rattle.sql_faults.specs.declared.part.Rule.TheVariants as rule
 use Rattle.sql_faults.specs.declared.part.Optional.TheVariants as optional
-use Rattle.std.proofs.Common.{rules, w64, FitsSigned}
 use Rattle.std.proofs.lemmas.Int.{to_z-of_z}
 use Rattle.sql_parser.proofs.Arms.{stopped_with}
 use Rattle.sql_parser.proofs.SelectArms.{took_yes, took_no, no_limits, stopped_limits, a_limits, stopped_offset_behind}

@@ -1,9 +1,8 @@
 use Rattle.std.proofs.lemmas.Result.{err_from_is_err_and}
-use Rattle.std.proofs.Common.{[], ◌∷◌}
+use Rattle.std.proofs.Common.{[], ◌∷◌, ◌++◌, ap, ◌∙◌}
 use Rattle.sql_faults.specs.declared.part.Part.TheVariants.{One, May}
 use Rattle.sql_faults.specs.declared.part.Expected.TheVariants as expected
 use Rattle.sql_faults.specs.declared.part.Optional.TheVariants as optional
-use Rattle.std.proofs.Common.{◌++◌, ap, ◌∙◌}
 use Rattle.sql_parser.specs.SelectRead as read
 use Rattle.sql_parser.proofs.Arms.{kind_at, kind_not}
 use Rattle.sql_parser.proofs.SelectArms.{comma_start, comma_more, comma_end, comma_stopped, names_comma, names_no_comma}

@@ -1,7 +1,6 @@
 use Rattle.sql_tokens.specs.declared.token.Kind.TheVariants as kind
-use Rattle.std.proofs.Common.{rules, w64, FitsSigned}
+use Rattle.std.proofs.Common.{rules, w64, FitsSigned, ap, ◌∙◌}
 use Rattle.std.proofs.lemmas.Int.{to_z-of_z}
-use Rattle.std.proofs.Common.{ap, ◌∙◌}
 use Rattle.sql_parser.proofs.Arms.{kind_at, kind_not}
 use Rattle.sql_parser.proofs.SelectArms.{a_number, wide_number, no_number}
 use Rattle.sql_parser.proofs.clauses.number.Goals as goal

@@ -1,15 +1,14 @@
 use Rattle.sql_tree.specs.View.{tree_of}
-use Rattle.std.proofs.Common.{option_map, map}
+use Rattle.std.proofs.Common.{option_map, map, [], ◌∷◌}
 use Rattle.sql_tree.specs.Select.{item_of, ref_of, having_of, term_of}
 use Rattle.sql_parser.proofs.SelectArms.{a_select}
-use Rattle.std.proofs.Common.{[], ◌∷◌}
 use Rattle.std.proofs.lemmas.Result.{err_from_is_err_and}
 use Rattle.sql_faults.specs.declared.part.Part.TheVariants.{One, Must, May}
 use Rattle.sql_faults.specs.declared.part.Expected.TheVariants as expected
 use Rattle.sql_faults.specs.declared.part.Rule.TheVariants as rule
 use Rattle.sql_faults.specs.declared.part.Optional.TheVariants as optional
-use Rattle.sql_parser.proofs.Arms.{stopped_with}
-use Rattle.sql_parser.proofs.SelectStopped.{after_opening, after_items, after_sources, after_filter, after_keys, after_having, after_terms, leads_opening, leads_items, leads_sources, leads_filter, leads_keys, leads_having, leads_terms, stops_behind}
+use Rattle.sql_parser.proofs.Arms.{stopped_with, stops_behind}
+use Rattle.sql_parser.proofs.SelectStopped.{after_opening, after_items, after_sources, after_filter, after_keys, after_having, after_terms, leads_opening, leads_items, leads_sources, leads_filter, leads_keys, leads_having, leads_terms}
 use Rattle.sql_parser.proofs.clauses.select.Goals as goal
 
 pub returns-in_err-is_distinct : goal.returns-in_err-is_distinct

@@ -1,5 +1,4 @@
-use Rattle.std.proofs.Common.{[], ◌∷◌}
-use Rattle.std.proofs.Common.{◌++◌, ap, ◌∙◌, map, Ok, Option, subst}
+use Rattle.std.proofs.Common.{[], ◌∷◌, ◌++◌, ap, ◌∙◌, map, Ok, Option, subst}
 use Rattle.std.proofs.lemmas.List.{map-append}
 use Rattle.sql_parser.specs.declared.clauses.Form.{Form}
 use Rattle.sql_tree.specs.Select.{ref_of}

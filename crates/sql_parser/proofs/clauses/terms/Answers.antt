@@ -1,11 +1,10 @@
 use Rattle.sql_tokens.specs.declared.token.Kind.TheVariants as kind
 use Rattle.sql_tokens.specs.declared.token.Clause.TheVariants as clause
-use Rattle.std.proofs.Common.{[], ◌∷◌}
+use Rattle.std.proofs.Common.{[], ◌∷◌, map}
 use Rattle.sql_faults.specs.declared.part.Part.TheVariants.{Must, May}
 use Rattle.sql_faults.specs.declared.part.Rule.TheVariants as rule
 use Rattle.sql_faults.specs.declared.part.Optional.TheVariants as optional
 use Rattle.sql_tokens.specs.declared.level.Level.TheVariants as level
-use Rattle.std.proofs.Common.{map}
 use Rattle.sql_parser.specs.declared.stop.Stop.TheVariants.{Refused}
 use Rattle.sql_tree.specs.Select.{term_of}
 use Rattle.sql_parser.proofs.SelectArms.{took_yes, took_no, no_terms, stopped_terms, finds_terms, fails_by_list}
