@@ -1,5 +1,5 @@
 -- A whole expression, and the end behind it.
-use Rattle.std.proofs.Common.{◌≡◌, ◌≢◌, List, [], ◌∷◌, Bool, true, false, cond, ltb, Option, Some, None, refl, sym, ap, subst, ◌∙◌}
+use Rattle.std.proofs.Common.{◌≡◌, ◌≢◌, List, [], ◌∷◌, Bool, true, false, cond, ltb, Option, Some, None, Err, refl, sym, ap, subst, ◌∙◌}
 use Rattle.sql_tokens.specs.declared.token.Token.{Token}
 use Rattle.sql_faults.specs.declared.error.ParseError.{ParseError}
 use Rattle.sql_tokens.specs.declared.token.Kind.{Kind}
@@ -12,14 +12,15 @@ use Rattle.sql_tokens.specs.Tokens.{next}
 use Rattle.sql_tree.specs.Tree.{Tree}
 use Rattle.sql_parser.specs.Grammar.{chain}
 use Rattle.sql_faults.specs.Reading.{faults, settled, fits, found, whole, least_from}
-use Rattle.sql_parser.specs.Descent.{Fails, IsRead}
-use Rattle.sql_parser.specs.Whole.{IsWhole}
+use Rattle.sql_parser.specs.declared.stop.Stop.{Stop}
+use Rattle.sql_parser.specs.declared.stop.Stop.TheVariants.{Refused, NoMemory}
+use Rattle.sql_parser.specs.Descent.{Fails, Stopped, IsRead, Leads}
+use Rattle.sql_parser.specs.Whole.{IsWhole, WholeDescends}
 use Rattle.sql_faults.specs.declared.part.Optional.TheVariants as optional
 use Rattle.sql_tokens.specs.Tokens.{after, is_end}
 use Rattle.sql_tree.specs.Select.{SelectTree}
 use Rattle.sql_parser.specs.SelectRead.{select_of_tokens, select_at, closing, closing_by, end_by}
-use Rattle.sql_parser.specs.SelectDescent.{IsFound, EndTold, select_parts, end_parts}
-use Rattle.sql_parser.specs.Descent.{Leads}
+use Rattle.sql_parser.specs.SelectDescent.{IsFound, EndTold, SelectDescends, select_parts, end_parts}
 use Rattle.sql_faults.specs.Reading.{whole_select, semicolon_by}
 use Rattle.sql_parser.proofs.SelectArms.{leads_word}
 use Rattle.sql_parser.proofs.Laws.{leads_with, leads_past, fails_later, fails_one}
@@ -50,6 +51,10 @@ whole_unended tokens rest tree h k = (fails_later (leads_with (One expected.End 
 
 pub whole_stopped : (tokens : List Token) → Fails (Must (rule.Chain level.Or 0) ∷ []) tokens → faults whole tokens ≢ []
 whole_stopped tokens h = h.holds (One expected.End ∷ [])
+
+pub whole_stops : (tokens : List Token) (e : Stop) → Stopped (Must (rule.Chain level.Or 0) ∷ []) tokens e → WholeDescends tokens (Err e)
+whole_stops tokens Refused h = whole_stopped tokens h
+whole_stops tokens NoMemory h = tt
 
 is_lesser : (b : Bool) (f g : ParseError) → (h : ParseError) × (cond b (Some g) (Some f) ≡ Some h)
 is_lesser true f g = (g, refl)
@@ -120,6 +125,10 @@ whole_select_unended tokens rest tree false h t e = λ f. t (sym (h.leads.holds 
 
 pub whole_select_stopped : (tokens : List Token) → Fails select_parts tokens → faults whole_select tokens ≢ []
 whole_select_stopped tokens h = h.holds end_parts
+
+pub whole_select_stops : (tokens : List Token) (e : Stop) → Stopped select_parts tokens e → SelectDescends tokens (Err e)
+whole_select_stops tokens Refused h = whole_select_stopped tokens h
+whole_select_stops tokens NoMemory h = tt
 
 -- a text within its bound that has no fault has none among its tokens
 pub no_fault : (b : Bool) (f : ParseError) (fs : List ParseError) → cond b (Some f) (least_from None fs) ≡ None → fs ≡ []

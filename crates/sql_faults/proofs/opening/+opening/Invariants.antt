@@ -1,4 +1,4 @@
-use Rattle.std.proofs.Common.{◌+◌, ◌*◌}
+use Rattle.std.proofs.Common.{◌*◌}
 use Rattle.sql_tokens.specs.Levels.{rank}
 use Rattle.sql_faults.proofs.opening.+opening.Given as goal
 

@@ -6,9 +6,14 @@ use Rattle.sql_faults.specs.declared.part.Optional.TheVariants as optional
 use Rattle.std.proofs.lemmas.List.{map-append}
 use Rattle.sql_tree.specs.Select.{item_of}
 use Rattle.sql_parser.specs.SelectRead as read
-use Rattle.sql_parser.proofs.Arms.{kind_at, kind_not}
+use Rattle.sql_parser.proofs.Arms.{kind_at, kind_not, stopped_with}
 use Rattle.sql_parser.proofs.SelectArms.{comma_start, comma_more, comma_end, comma_stopped, select_items_comma, select_items_no_comma}
 use Rattle.sql_parser.proofs.clauses.items.Goals as goal
+
+pub returns-in_err-first : goal.returns-in_err-first
+returns-in_err-first c =
+    let p = err_from_is_err_and c.from_residual.result c.from_residual.ensures.1 in
+    rw (p.1, p.2) (stopped_with (Must rule.SelectItem ∷ []) (May optional.SelectItems ∷ []) c.args.reader.now c.in_err-first.field-0.0 c.in_err-first.ensures)
 
 pub loop-reader-init : goal.loop-reader-init
 loop-reader-init c =

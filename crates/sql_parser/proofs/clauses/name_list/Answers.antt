@@ -4,9 +4,14 @@ use Rattle.sql_faults.specs.declared.part.Part.TheVariants.{One, May}
 use Rattle.sql_faults.specs.declared.part.Expected.TheVariants as expected
 use Rattle.sql_faults.specs.declared.part.Optional.TheVariants as optional
 use Rattle.sql_parser.specs.SelectRead as read
-use Rattle.sql_parser.proofs.Arms.{kind_at, kind_not}
+use Rattle.sql_parser.proofs.Arms.{kind_at, kind_not, stopped_with}
 use Rattle.sql_parser.proofs.SelectArms.{comma_start, comma_more, comma_end, comma_stopped, names_comma, names_no_comma}
 use Rattle.sql_parser.proofs.clauses.name_list.Goals as goal
+
+pub returns-in_err-first : goal.returns-in_err-first
+returns-in_err-first c =
+    let p = err_from_is_err_and c.from_residual.result c.from_residual.ensures.1 in
+    rw (p.1, p.2) (stopped_with (One expected.Name ∷ []) (May optional.Names ∷ []) c.args.reader.now c.in_err-first.field-0.0 c.in_err-first.ensures)
 
 pub loop-reader-init : goal.loop-reader-init
 loop-reader-init c =

@@ -4,7 +4,17 @@ use Rattle.sql_parser.specs.declared.clauses.Form.{Form}
 use Rattle.sql_tree.specs.Select.{ref_of}
 use Rattle.sql_parser.specs.SelectDescent.{FormFound}
 use Rattle.sql_parser.proofs.SelectArms.{sources_start, sources_more, sources_end}
+use Rattle.std.proofs.lemmas.Result.{err_from_is_err_and}
+use Rattle.sql_faults.specs.declared.part.Part.TheVariants.{One, May}
+use Rattle.sql_faults.specs.declared.part.Expected.TheVariants as expected
+use Rattle.sql_faults.specs.declared.part.Optional.TheVariants as optional
+use Rattle.sql_parser.proofs.Arms.{stopped_with}
 use Rattle.sql_parser.proofs.clauses.source_list.Goals as goal
+
+pub returns-in_err-first : goal.returns-in_err-first
+returns-in_err-first c =
+    let p = err_from_is_err_and c.from_residual.result c.from_residual.ensures.1 in
+    rw (p.1, p.2) (stopped_with (One expected.Name ∷ May optional.Alias ∷ []) (May optional.Sources ∷ []) c.args.reader.now c.in_err-first.field-0.0 c.in_err-first.ensures)
 
 pub loop-sources-init : goal.loop-sources-init
 loop-sources-init c =

@@ -7,9 +7,14 @@ use Rattle.sql_tokens.specs.declared.level.Level.TheVariants as level
 use Rattle.std.proofs.lemmas.List.{map-append}
 use Rattle.sql_tree.specs.Select.{term_of}
 use Rattle.sql_parser.specs.SelectRead as read
-use Rattle.sql_parser.proofs.Arms.{kind_at, kind_not}
+use Rattle.sql_parser.proofs.Arms.{kind_at, kind_not, stopped_with}
 use Rattle.sql_parser.proofs.SelectArms.{comma_start, comma_more, comma_end, comma_stopped, terms_comma, terms_no_comma}
 use Rattle.sql_parser.proofs.clauses.term_list.Goals as goal
+
+pub returns-in_err-first : goal.returns-in_err-first
+returns-in_err-first c =
+    let p = err_from_is_err_and c.from_residual.result c.from_residual.ensures.1 in
+    rw (p.1, p.2) (stopped_with (Must (rule.Chain level.Or 0) ∷ May optional.Direction ∷ []) (May optional.Terms ∷ []) c.args.reader.now c.in_err-first.field-0.0 c.in_err-first.ensures)
 
 pub loop-reader-init : goal.loop-reader-init
 loop-reader-init c =
