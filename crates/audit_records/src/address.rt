@@ -20,9 +20,13 @@ const AF_INET6: u16 = 10;
 /// One end of a socket. Of a path `address` is empty and `port` is 0; of the other families `socket` is empty.
 #[derive(Drop)]
 pub struct Address {
+    /// The kernel's number of the family: 1 a path, 2 IPv4, 10 IPv6.
     pub family: u16,
+    /// The address as text: four decimals with dots, or eight groups of lower-case hexadecimal of which none is left out.
     pub address: Str,
+    /// The port, from 0 to 65535.
     pub port: u16,
+    /// The path; in lower-case hexadecimal where its bytes aren't UTF-8.
     pub socket: Str,
 }
 

@@ -10,8 +10,11 @@ use crate::number::number_at;
 /// The parts of a line before its fields, and the text of the fields.
 #[derive(Clone, Copy)]
 pub struct Head<'a> {
+    /// The moment and the serial number.
     pub id: AuditId,
+    /// The type, as `SYSCALL`.
     pub kind: &'a str,
+    /// The text behind the head: empty, or what stands behind its blank.
     pub fields: &'a str,
 }
 

@@ -16,6 +16,7 @@ use std::alloc::Global;
 /// A configuration with its packs, the documents that it was read from, and the lines that tell of packs that are left out.
 #[derive(Drop)]
 pub struct Configured {
+    /// What the configuration says, with the queries of the packs that were read.
     pub config: Config,
     /// The text of the configuration's file, and then one text for each pack that is given as a path, in byte order of names: the text of
     /// its file, or the empty text where the file is missing or isn't UTF-8.

@@ -24,6 +24,7 @@ use std::alloc::Global;
 /// A session that is open.
 #[derive(Drop)]
 pub struct Session {
+    /// The values of its list of entries, and the entries that are not sealed yet.
     pub state: State,
     /// A feed for each source, in their order.
     pub feeds: Vec<Feed>,

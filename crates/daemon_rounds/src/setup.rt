@@ -13,14 +13,17 @@ pub struct SourceName {
     pub kind: SourceKind,
 }
 
+/// Sources, in the order in which a round reads them.
 pub type SourceNameList = Sequence<SourceName>;
 
 /// What a session is given.
 #[derive(Drop)]
 pub struct Setup {
+    /// The host that the rules of the configuration ask about.
     pub host: Host,
     /// The path of the configuration's file.
     pub config: Str,
+    /// The sources, no two of one name.
     pub sources: SourceNameList,
     /// How many ticks the session runs.
     pub ticks: u64,

@@ -16,11 +16,15 @@ pub struct Rules {
 /// A query of the schedule or of a pack.
 #[derive(Drop)]
 pub struct QueryEntry {
+    /// Its key.
     pub name: Str,
+    /// The text of the query. It is not parsed here.
     pub text: Str,
     /// Seconds between two batches, from 1 to 604800.
     pub interval: u64,
+    /// Each batch has the whole answer, and not only what new events add.
     pub is_snapshot: bool,
+    /// The hosts on which it holds.
     pub rules: Rules,
 }
 
@@ -30,12 +34,15 @@ pub type QueryEntryList = Sequence<QueryEntry>;
 /// A query pack.
 #[derive(Drop)]
 pub struct Pack {
+    /// Its key.
     pub name: Str,
     /// The file that holds the pack, where it is given as a path. It has no queries until that file is added.
     pub path: Option<Str>,
     /// Queries each of which gives a row where the pack is meant for the host.
     pub discovery: TextList,
+    /// The queries of the pack.
     pub queries: QueryEntryList,
+    /// The hosts on which the pack holds.
     pub rules: Rules,
 }
 
@@ -51,7 +58,9 @@ pub struct Config {
     pub events_max: u64,
     /// Result lines stand one for a batch, else one for a row.
     pub is_batch_form: bool,
+    /// The queries of `schedule`.
     pub schedule: QueryEntryList,
+    /// The packs; with the schedule they hold at most 10000 queries.
     pub packs: PackList,
     /// The categories of paths, in byte order of their names.
     pub categories: CategoryList,

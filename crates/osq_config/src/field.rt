@@ -17,8 +17,11 @@ use std::alloc::Global;
 /// The least and the greatest number that a key allows, and the number that stands for a missing one.
 #[derive(Clone, Copy)]
 pub struct Bounds {
+    /// The least number that is allowed.
     pub least: u64,
+    /// The greatest number that is allowed.
     pub most: u64,
+    /// The number of a missing key. It lies between the other two.
     pub default: u64,
 }
 

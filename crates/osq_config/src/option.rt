@@ -30,8 +30,11 @@ const EVENTS_MAX: Bounds = Bounds {
 /// The options of a configuration.
 #[derive(Drop)]
 pub struct Options {
+    /// Seconds after which an event may expire, from 1 to 4294967295; 3600 where the key is missing.
     pub events_expiry: u64,
+    /// How many events of a table are kept, from 1 to 1000000; 50000 where the key is missing.
     pub events_max: u64,
+    /// The key `result_form` is `batch`; it is `event` where it is missing.
     pub is_batch_form: bool,
 }
 

@@ -16,7 +16,9 @@ pub enum Affinity {
 /// A column of a table.
 #[derive(Clone, Copy)]
 pub struct ColumnDesc {
+    /// Its name, in small letters.
     pub name: &'static str,
+    /// How SQLite's rules of affinity turn values that it is compared with.
     pub affinity: Affinity,
 }
 
@@ -31,8 +33,11 @@ pub enum TableKind {
 /// A table of the catalogue. Its width is the number of its columns.
 #[derive(Clone, Copy)]
 pub struct TableDesc {
+    /// Its place in the catalogue, from 0.
     pub id: TableId,
+    /// The name that osquery gives it, in small letters.
     pub name: &'static str,
+    /// Where its rows come from.
     pub kind: TableKind,
     /// The number of columns.
     pub width: u32,

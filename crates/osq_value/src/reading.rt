@@ -9,6 +9,7 @@ use std::alloc::Global;
 /// A named set of paths: those that a pattern matches and no excluded pattern does.
 #[derive(Drop)]
 pub struct Category {
+    /// Its key in the configuration, which is the value of `file_events.category`.
     pub name: Str,
     /// Path patterns, with `%` for any run of bytes without `/`.
     pub patterns: TextList,

@@ -30,8 +30,11 @@ impl Mode {
 /// What a query is known by.
 #[derive(Drop)]
 pub struct QueryKey {
+    /// Its name in the schedule, with the pack's name before it where it is one of a pack.
     pub name: Str,
+    /// The text as the configuration has it, byte by byte.
     pub text: Str,
+    /// Whether it is asked for what new events add, or for the whole answer.
     pub mode: Mode,
 }
 
@@ -57,7 +60,9 @@ impl Copied for QueryKey {
 /// A query, and how many seconds lie between its batches.
 #[derive(Drop)]
 pub struct Scheduled {
+    /// What the query is known by.
     pub key: QueryKey,
+    /// Seconds between two of its batches, from 1 to 604800.
     pub interval: u64,
 }
 
@@ -70,6 +75,7 @@ impl Copied for Scheduled {
     }
 }
 
+/// Queries with their intervals, in byte order of their names.
 pub type ScheduledList = Sequence<Scheduled>;
 
 /// The form of result lines.
@@ -82,9 +88,13 @@ pub enum Form {
 /// What a session runs, and how long it keeps events.
 #[derive(Drop)]
 pub struct Schedule {
+    /// The queries, no two of one name.
     pub queries: ScheduledList,
+    /// Seconds after which an event may expire, from 1 to 4294967295.
     pub events_expiry: u64,
+    /// How many events of a table are kept, from 1 to 1000000.
     pub events_max: u64,
+    /// The form of the result lines of evented queries.
     pub form: Form,
 }
 

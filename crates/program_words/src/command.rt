@@ -136,8 +136,11 @@ impl CommandName {
 pub struct ReplayWords {
     /// The path of the configuration.
     pub config: Str,
+    /// The host's identifier.
     pub host: Str,
+    /// The platform of the host; `linux` where the words name none.
     pub platform: Str,
+    /// The version of the agent; `5.10.0` where the words name none.
     pub agent: Str,
     /// The sources, in the order audit, changes, tables, each in the order of the words.
     pub sources: SourceNameList,
@@ -177,8 +180,11 @@ pub struct QueryWords {
 pub struct CheckWords {
     /// The path of the configuration.
     pub config: Str,
+    /// The host's identifier.
     pub host: Str,
+    /// The platform of the host; `linux` where the words name none.
     pub platform: Str,
+    /// The version of the agent; `5.10.0` where the words name none.
     pub agent: Str,
 }
 

@@ -16,8 +16,11 @@ pub enum SourceKind {
 /// A source that the words name.
 #[derive(Drop)]
 pub struct SourceName {
+    /// What its lines are, by the option that names it.
     pub kind: SourceKind,
+    /// The path of its file, which is the source's name too.
     pub path: Str,
 }
 
+/// Sources that words name.
 pub type SourceNameList = Sequence<SourceName>;

@@ -12,8 +12,11 @@ use std::collections::VecDeque;
 /// is None and 1. `end` is the stream's offset behind its last line.
 #[derive(Drop)]
 pub struct AuditRecord {
+    /// The group, none for a skipped line by itself.
     pub group: Option<AuditGroup>,
+    /// How many lines of the record were skipped.
     pub skipped: u64,
+    /// In bytes of the stream.
     pub end: u64,
 }
 

@@ -34,10 +34,13 @@ pub enum Gain {
 /// What one record gave. `end` is the source's offset, in bytes, behind the record's last line.
 #[derive(Drop)]
 pub struct Piece {
+    /// What the record gave.
     pub gain: Gain,
+    /// The offset behind the record, in bytes.
     pub end: u64,
 }
 
+/// What records gave, in their order.
 pub type PieceList = Sequence<Piece>;
 
 /// What became of the lines that were read.

@@ -43,10 +43,12 @@ impl Callback for Recorded {
 #[derive(Drop)]
 pub struct Subscription<C> {
     callback: C,
+    /// The categories that take the paths of changes.
     pub paths: CategoryList,
 }
 
 impl<C: Callback> Subscription<C> {
+    /// A callback that is called with these categories.
     pub fn new(callback: C, paths: CategoryList) -> Self
         ensures { result.paths ≡ paths }
     {

@@ -16,6 +16,7 @@ use std::hash::{Hash, Hasher};
 /// A key that is looked up by its name and its text.
 #[derive(Clone, Copy)]
 pub(crate) struct Lent<'a> {
+    /// The key that is lent.
     pub key: &'a QueryKey,
 }
 

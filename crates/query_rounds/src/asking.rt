@@ -29,6 +29,7 @@ use std::alloc::Global;
 /// The answer to a question.
 #[derive(Drop)]
 pub struct Asked {
+    /// The rows of the answer, in its order.
     pub rows: RowList,
     /// Every source was read to its end.
     pub is_end: bool,

@@ -12,8 +12,11 @@ use std::collections::VecDeque;
 /// What a piece has behind its first line feed: whole lines, and a rest that begins at an offset.
 #[derive(Drop)]
 pub struct Later {
+    /// The whole lines, in order.
     pub cuts: VecDeque<Cut>,
+    /// The stream's offset, in bytes, where the rest begins.
     pub begun: u64,
+    /// The rest, which has no line feed.
     pub partial: Partial,
 }
 

@@ -3,7 +3,9 @@ use osq_value::Bytes;
 /// A line without its line feed. `end` is the stream's offset behind the line feed.
 #[derive(Drop)]
 pub struct Line {
+    /// Its bytes, of any value but 0A, and at most as many as the limit.
     pub text: Bytes,
+    /// In bytes from the start of the stream.
     pub end: u64,
 }
 

@@ -9,11 +9,14 @@ use std::alloc::Global;
 /// A line whose line feed hasn't come yet: how many bytes it has so far, and these bytes where they aren't more than the limit.
 #[derive(Drop)]
 pub struct Partial {
+    /// The number of its bytes so far, also where they aren't kept.
     pub size: u64,
+    /// These bytes; empty where there are more of them than the limit.
     pub bytes: Bytes,
 }
 
 impl Partial {
+    /// A line of which no byte has come.
     pub fn new(alloc: Global) -> Self
         ensures size { result.size ≡ 0 }
         ensures bytes { result.bytes ≡ [] }

@@ -33,6 +33,7 @@ pub enum RunError {
 pub struct Numbers {
     /// The number of the last event, or 0.
     pub events: u64,
+    /// The number of the last batch, or 0.
     pub batches: u64,
     /// Up to which number the collector has the batches, or 0.
     pub acknowledged: u64,
@@ -41,6 +42,7 @@ pub struct Numbers {
 /// A session that ended before its last tick was done.
 #[derive(Clone, Copy, PartialEq, Eq, Debug)]
 pub struct Refused {
+    /// Why it ended.
     pub error: RunError,
     /// Those of the kept list as it was loaded or last sealed, where it was loaded.
     pub numbers: Option<Numbers>,

@@ -24,7 +24,9 @@ pub enum ParseKind {
 /// The least fault of a text, with its byte place.
 #[derive(Clone, Copy)]
 pub struct ParseError {
+    /// The byte place in the text, from 0.
     pub place: usize,
+    /// What is wrong there.
     pub kind: ParseKind,
 }
 

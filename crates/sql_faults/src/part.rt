@@ -96,6 +96,7 @@ pub enum Optional {
     Semicolon,
 }
 
+/// A part of the grammar that stands next.
 #[derive(Clone, Copy)]
 pub enum Part {
     One(Expected),

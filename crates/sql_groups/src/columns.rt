@@ -14,7 +14,9 @@ use std::alloc::Global;
 /// A column that rows are sorted by: its place in a row, and whether it descends.
 #[derive(Clone, Copy, Drop)]
 pub(crate) struct SortColumn {
+    /// Its place, from 0.
     pub place: u32,
+    /// The greatest value stands first.
     pub is_descending: bool,
 }
 

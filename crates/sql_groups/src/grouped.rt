@@ -25,7 +25,9 @@ pub(crate) type GroupSoFar<'a> = Sequence<SoFar<'a>>;
 /// Groups by different values, so far.
 #[derive(Drop)]
 pub(crate) struct FoundGroups<'a> {
+    /// The values, in the order of the first rows that have them.
     pub values: IndexSet<&'a Value>,
+    /// The group of each value, at the value's place.
     pub groups: Vec<GroupSoFar<'a>>,
 }
 

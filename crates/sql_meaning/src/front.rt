@@ -7,7 +7,9 @@ use std::hash::{Hash, Hasher};
 /// A list that stands for its first `width` items, or for all where it has fewer.
 #[derive(Drop)]
 pub(crate) struct Front<T> {
+    /// The list, which may be longer.
     pub items: Sequence<T>,
+    /// How many of its first items count.
     pub width: usize,
 }
 

@@ -12,7 +12,9 @@ use std::alloc::Global;
 /// A row, and the values by which it is grouped.
 #[derive(Drop)]
 pub struct Keyed<'a> {
+    /// The values of the expressions of GROUP BY, in order.
     pub key: ResultRow<'a>,
+    /// The row.
     pub row: Joined<'a>,
 }
 

@@ -28,7 +28,9 @@ pub enum NameKind {
 /// The first kind of fault of a text, with that kind's least byte place.
 #[derive(Clone, Copy)]
 pub struct NameError {
+    /// The byte place in the text, from 0.
     pub place: usize,
+    /// What is wrong there.
     pub kind: NameKind,
 }
 

@@ -25,7 +25,9 @@ use std::alloc::Global;
 /// An expression that is a number literal.
 #[derive(Clone, Copy)]
 pub struct Numbered {
+    /// The byte place of the number in the text, from 0.
     pub place: usize,
+    /// The number.
     pub value: i64,
 }
 

@@ -12,9 +12,13 @@ use sql_tree::tree::Operator;
 /// A column, by its place and affinity, and a literal behind it, with the operator between them.
 #[derive(Clone, Copy)]
 pub(crate) struct ColumnTest<'a> {
+    /// The column's place in a joined row, from 0.
     pub at: u32,
+    /// The column's affinity; none where no table gives it one.
     pub affinity: Option<Affinity>,
+    /// The operator, with the column on its left side.
     pub op: Operator,
+    /// The literal on its right side.
     pub value: &'a Value,
 }
 

@@ -23,16 +23,22 @@ pub(crate) enum Literal<'a> {
 /// A comparison of a column with a literal, the column on the left side.
 #[derive(Clone, Copy)]
 pub(crate) struct Comparison<'a> {
+    /// Where the column stands.
     pub place: Place,
+    /// How it is compared, with the column on the left side.
     pub op: ConstraintOp,
+    /// The literal that it is compared with.
     pub literal: Literal<'a>,
 }
 
 /// The sides of an expression of one operator.
 #[derive(Clone, Copy)]
 pub(crate) struct Sides<'a> {
+    /// What stands before the operator.
     pub left: &'a Expr,
+    /// The operator.
     pub op: Operator,
+    /// What stands behind it.
     pub right: &'a Expr,
 }
 

@@ -17,7 +17,9 @@ use virtual_tables::RowRefs;
 /// A column, by its place, that is to be like a literal.
 #[derive(Clone, Copy, Drop)]
 pub(crate) struct Likened<'a> {
+    /// The column's place in a joined row, from 0.
     pub at: u32,
+    /// The pattern of LIKE, with `%` and `_` as SQLite has them.
     pub pattern: &'a Value,
 }
 

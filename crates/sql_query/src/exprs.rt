@@ -18,6 +18,7 @@ pub fn chain(alloc: Global, first: Expr, steps: Vec<ExprStep>) -> Result<Expr, N
     })
 }
 
+/// NOT of an expression.
 pub fn negation(alloc: Global, inner: Expr) -> Result<Expr, NoMemory>
     ensures { IfOk result (λ e. expr_of e ≡ negation_tree (expr_of inner)) }
 {
@@ -26,6 +27,7 @@ pub fn negation(alloc: Global, inner: Expr) -> Result<Expr, NoMemory>
     })
 }
 
+/// An expression behind the sign `-`.
 pub fn minus(alloc: Global, inner: Expr) -> Result<Expr, NoMemory>
     ensures { IfOk result (λ e. expr_of e ≡ minus_tree (expr_of inner)) }
 {
@@ -34,6 +36,7 @@ pub fn minus(alloc: Global, inner: Expr) -> Result<Expr, NoMemory>
     })
 }
 
+/// An expression behind the sign `+`.
 pub fn plus(alloc: Global, inner: Expr) -> Result<Expr, NoMemory>
     ensures { IfOk result (λ e. expr_of e ≡ plus_tree (expr_of inner)) }
 {
@@ -42,6 +45,7 @@ pub fn plus(alloc: Global, inner: Expr) -> Result<Expr, NoMemory>
     })
 }
 
+/// CAST of an expression to this affinity.
 pub fn cast(alloc: Global, inner: Expr, affinity: Affinity) -> Result<Expr, NoMemory>
     ensures { IfOk result (λ e. expr_of e ≡ cast_tree (expr_of inner) affinity) }
 {

@@ -11,6 +11,7 @@ pub type ExprList = Sequence<Expr>;
 /// A condition by its conjuncts. It is true where each of them is true, so the empty one is true.
 #[derive(Drop)]
 pub struct Condition {
+    /// The conjuncts, in the order of the text.
     pub parts: ExprList,
 }
 
@@ -28,7 +29,9 @@ impl Condition {
 /// A column of a FROM table.
 #[derive(Drop)]
 pub struct SourceColumn {
+    /// The catalogue's name of the column.
     pub name: Str,
+    /// The column's affinity.
     pub affinity: Option<Affinity>,
 }
 
@@ -38,11 +41,13 @@ pub type SourceColumnList = Sequence<SourceColumn>;
 /// A FROM table.
 #[derive(Drop)]
 pub struct QuerySource {
+    /// The table of the catalogue.
     pub table: TableId,
     /// The catalogue's name of the table.
     pub name: Str,
     /// The alias, or the catalogue's name where the text has none.
     pub alias: Str,
+    /// The columns of the table, in the catalogue's order.
     pub columns: SourceColumnList,
     /// Whether LEFT JOIN brings this table in.
     pub is_outer: bool,
@@ -56,7 +61,9 @@ pub type QuerySourceList = Sequence<QuerySource>;
 /// A column of the result.
 #[derive(Drop)]
 pub struct QueryItem {
+    /// The alias, the catalogue's name of a column, or else the text of the expression.
     pub name: Str,
+    /// What gives the column's values.
     pub expr: Expr,
 }
 
@@ -66,7 +73,9 @@ pub type QueryItemList = Sequence<QueryItem>;
 /// What the result is sorted by.
 #[derive(Drop)]
 pub struct Order {
+    /// What gives the values that are compared.
     pub expr: Expr,
+    /// DESC: the greatest value stands first.
     pub is_descending: bool,
 }
 
@@ -76,6 +85,7 @@ pub type OrderList = Sequence<Order>;
 /// A SELECT whose names are resolved.
 #[derive(Drop)]
 pub struct Query {
+    /// The tables of FROM. There are none without that word.
     pub sources: QuerySourceList,
     /// The condition of WHERE.
     pub filter: Condition,
@@ -83,10 +93,15 @@ pub struct Query {
     pub is_grouped: bool,
     /// The expressions of GROUP BY.
     pub keys: ExprList,
+    /// The condition of HAVING.
     pub having: Condition,
+    /// The columns of the result, with `*` written out.
     pub items: QueryItemList,
+    /// DISTINCT: of equal rows the first is shown.
     pub is_distinct: bool,
+    /// What ORDER BY sorts by.
     pub terms: OrderList,
+    /// The number of LIMIT, none without that word. A negative one is no limit, as in SQLite.
     pub limit: Option<i64>,
     /// The number of OFFSET.
     pub skip: Option<i64>,

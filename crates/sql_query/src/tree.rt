@@ -68,7 +68,10 @@ pub enum ExprStep {
 #[derive(Drop)]
 #[cycle(tree)]
 pub struct Aggregate {
+    /// Which aggregate it is.
     pub fold: Fold,
+    /// Each value counts once.
     pub is_distinct: bool,
+    /// What gives the values.
     pub argument: Option<Expr>,
 }

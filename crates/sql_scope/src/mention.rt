@@ -34,9 +34,11 @@ pub enum Mentioned {
 /// A column or an aggregate, where it stands.
 #[derive(Clone, Copy)]
 pub struct Mention {
+    /// The clause that it stands in.
     pub clause: Clause,
     /// Whether it stands inside an aggregate.
     pub is_inside: bool,
+    /// What is mentioned there.
     pub what: Mentioned,
 }
 

@@ -40,7 +40,9 @@ pub enum Meaning {
 /// A column of the result.
 #[derive(Drop)]
 pub struct Shown {
+    /// The column's name.
     pub name: Str,
+    /// What gives the column's values.
     pub expr: Expr,
     /// Whether the text gives it that name.
     pub is_alias: bool,
@@ -51,11 +53,13 @@ pub struct Shown {
 /// What names may stand for where an expression stands.
 #[derive(Clone, Copy)]
 pub struct Names<'a> {
+    /// The text of the query, in which names are byte places.
     pub text: &'a str,
     /// The tables that are seen from there.
     pub scope: &'a [Seen],
     /// The columns of the result.
     pub shown: &'a [Shown],
+    /// Which of them a name without a table stands for.
     pub rule: Rule,
 }
 

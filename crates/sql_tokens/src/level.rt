@@ -6,6 +6,7 @@ ghost use Rattle.sql_tokens.specs.Levels.{rank, sign_at, sign_of};
 use crate::token::Kind;
 use sql_tree::tree::Operator;
 
+/// A level of operators. Those of SQLite that the grammar has, in SQLite's order.
 #[derive(Clone, Copy)]
 pub enum Level {
     Or,

@@ -42,12 +42,14 @@ impl<'a> Model for Reader<'a> {
 }
 
 impl<'a> Reader<'a> {
+    /// A reader before the first of these tokens.
     pub fn new(tokens: &'a [Token]) -> Reader<'a>
         ensures { result ≡ tokens.now }
     {
         Reader { tokens }
     }
 
+    /// The next token. It is not taken; behind the last one it is the end of the text.
     pub fn peek(&self) -> Token
         ensures { result ≡ next self.now }
     {
@@ -76,6 +78,7 @@ impl<'a> Reader<'a> {
         is_name_kind(first) && is_dot_kind(second) && is_star_kind(third)
     }
 
+    /// Takes the next token. At the end it stays there.
     pub fn advance(&mut self)
         ensures { self.new ≡ after self.old }
     {

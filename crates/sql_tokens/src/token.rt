@@ -81,8 +81,11 @@ pub enum Kind {
 /// A token, and where the token before it ends.
 #[derive(Clone, Copy)]
 pub struct Token {
+    /// What the token is.
     pub kind: Kind,
+    /// Its byte places.
     pub span: Span,
+    /// The byte place behind the token before it, 0 for the first one.
     pub previous_end: usize,
 }
 

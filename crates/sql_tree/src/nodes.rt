@@ -8,6 +8,7 @@ use crate::functions::Fold;
 use crate::tree::{Node, Step};
 use std::alloc::{AllocError, Global};
 
+/// NOT of an expression.
 pub fn negation(alloc: Global, inner: Node) -> Result<Node, AllocError>
     ensures { IfOk result (λ n. tree_of n ≡ negation_tree (tree_of inner)) }
 {
@@ -16,6 +17,7 @@ pub fn negation(alloc: Global, inner: Node) -> Result<Node, AllocError>
     })
 }
 
+/// An expression behind the sign `-`.
 pub fn minus(alloc: Global, inner: Node) -> Result<Node, AllocError>
     ensures { IfOk result (λ n. tree_of n ≡ minus_tree (tree_of inner)) }
 {
@@ -24,6 +26,7 @@ pub fn minus(alloc: Global, inner: Node) -> Result<Node, AllocError>
     })
 }
 
+/// An expression behind the sign `+`.
 pub fn plus(alloc: Global, inner: Node) -> Result<Node, AllocError>
     ensures { IfOk result (λ n. tree_of n ≡ plus_tree (tree_of inner)) }
 {
@@ -32,6 +35,7 @@ pub fn plus(alloc: Global, inner: Node) -> Result<Node, AllocError>
     })
 }
 
+/// CAST of an expression: AS TEXT, or else AS INTEGER.
 pub fn cast(alloc: Global, inner: Node, is_text: bool) -> Result<Node, AllocError>
     ensures { IfOk result (λ n. tree_of n ≡ cast_tree (tree_of inner) is_text) }
 {

@@ -24,6 +24,7 @@ pub trait Stands {
     ghost stands: { Self → Self.Start → List Self.Entry → Type 0 };
 }
 
+/// Where a seat stands between two turns.
 pub enum Phase {
     Idle,
     Joined,
@@ -34,8 +35,11 @@ pub enum Phase {
 
 /// What a seat knows. No value of it is made.
 pub struct View<A, E> {
+    /// What the lock's value stood for at first.
     pub start: Option<A>,
+    /// The seat's number: 0 of the first seat, k of the k-th that it split off.
     pub number: u64,
+    /// Where the seat stands.
     pub phase: Phase,
     /// The entries that its owner has seen, each with the number of the seat that added it.
     pub seen: LinkedList<(u64, E)>,
@@ -45,12 +49,15 @@ pub struct View<A, E> {
     pub joined: LinkedList<u64>,
     /// Between the two steps of a join: what the first seat had seen, and what the other one had.
     pub before: LinkedList<(u64, E)>,
+    /// What the other seat had seen, between the two steps of a join.
     pub heard: LinkedList<(u64, E)>,
 }
 
 /// What the lock is told once: the start, and how many seats may be out.
 pub struct Terms<A> {
+    /// What the lock's value stood for at first.
     pub start: Snapshot<A>,
+    /// How many seats may be out at once, the first among them.
     pub seats: u32,
 }
 
@@ -60,6 +67,7 @@ impl<A> Drop for Terms<A> {
     }
 }
 
+/// The rule of the table of seats: what stands of all views and of the lock's value at each step.
 pub struct Law<T> {
     value: PhantomData<T>,
 }

@@ -25,8 +25,11 @@ pub enum ConstraintOp {
 /// A comparison of a column with a literal, the column on the left side.
 #[derive(Drop)]
 pub struct Constraint {
+    /// The column's place in the table, from 0.
     pub column: u32,
+    /// How the column is compared.
     pub op: ConstraintOp,
+    /// The literal.
     pub value: Value,
 }
 
