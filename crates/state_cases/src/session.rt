@@ -1,0 +1,284 @@
+//! A session and its open cuts.
+
+ghost use Rattle.std.specs.Prelude.{◌≡◌, IfSome};
+ghost use Rattle.entry_model.specs.Fits.{Fits};
+ghost use Rattle.session_state.specs.Cut.{CutValue};
+ghost use Rattle.session_state.specs.CutOf.{IsCutOf};
+
+use crate::call::Call;
+use crate::entries::entries;
+use crate::making::{reading, schedule};
+use crate::ready::{answer, is_moment, is_reading, is_sound, nothing};
+use crate::shown::{numbers, rows_or_none, shown_tables, table_name, told, yes_or_no};
+use entry_model::restored::Restored;
+use kept_queries::rows_behind;
+use osq_value::{NoMemory, Str, TextList};
+use session_state::{AppendError, CommitRefusal, Cut, State, TickRefusal};
+use sql_names::text::query_of_text;
+use std::alloc::Global;
+use std::marker::Model;
+
+/// A session's state, and the cuts that it gave and that are not spent, in the order in which they were claimed.
+#[derive(Drop)]
+pub(crate) struct Session {
+    state: State,
+    cuts: Vec<Cut>,
+}
+
+impl Model for Session {
+    ghost use Rattle.std.specs.Prelude.{All};
+    ghost use Rattle.session_state.specs.Kept.{Kept};
+    ghost use Rattle.session_state.specs.CutOf.{IsCutOf};
+
+    ghost Value = { Kept };
+
+    ghost view = { λ s. s.state };
+
+    ghost invariant = { λ s. All (IsCutOf s.state) s.cuts.items };
+}
+
+fn told_tick(alloc: Global, answered: Result<(), TickRefusal>) -> Result<String, NoMemory> {
+    match answered {
+        Ok(()) => told(alloc, "done"),
+        Err(TickRefusal::StillDue { at }) => Ok(format!(in alloc; " still due {at}")?),
+        Err(TickRefusal::ExpiryOwed { table }) => {
+            Ok(format!(in alloc; " expiry owed {}", table_name(table))?)
+        }
+        Err(TickRefusal::NoMemory) => Err(NoMemory),
+    }
+}
+
+fn told_append(
+    alloc: Global,
+    answered: Result<(u64, u64), AppendError>,
+) -> Result<String, NoMemory> {
+    match answered {
+        Ok(found) => numbers(alloc, found),
+        Err(AppendError::Backwards { kept }) => Ok(format!(in alloc; " backwards, kept {kept}")?),
+        Err(AppendError::NumbersSpent) => told(alloc, "numbers spent"),
+        Err(AppendError::NoMemory) => Err(NoMemory),
+    }
+}
+
+fn told_refusal(alloc: Global, refusal: CommitRefusal) -> Result<String, NoMemory> {
+    match refusal {
+        CommitRefusal::Superseded { number, cut: _ } => {
+            Ok(format!(in alloc; " superseded by {number}")?)
+        }
+        CommitRefusal::Stale { position, cut: _ } => Ok(format!(in alloc; " stale by {position}")?),
+        CommitRefusal::NumbersSpent { cut: _ } => told(alloc, "numbers spent"),
+    }
+}
+
+fn told_cut(alloc: Global, cut: &Cut) -> Result<String, NoMemory> {
+    let mut text = format!(in alloc; " {}, ", cut.key().name.as_str())?;
+    write!(text, "slice ({},{}], ", cut.lo(), cut.hi())?;
+    write!(text, "cut {}, at {}, ", cut.position(), cut.moment())?;
+    write!(text, "last {}", cut.last())?;
+    Ok(text)
+}
+
+fn configure(alloc: Global, state: &mut State, call: Call<'_>) -> Result<String, NoMemory>
+    ensures cuts { (cut : CutValue) → IsCutOf state.old cut → IsCutOf state.new cut }
+{
+    let moment = call.number("moment");
+    let schedule = schedule(alloc, call)?;
+    if !is_moment(moment) || !is_sound(alloc, &schedule)? {
+        return told(alloc, "no sound schedule of a moment");
+    }
+    state.configure(alloc, TextList::new(alloc), schedule, moment)?;
+    told(alloc, "done")
+}
+
+fn tick(alloc: Global, state: &mut State, call: Call<'_>) -> Result<String, NoMemory>
+    ensures cuts { (cut : CutValue) → IsCutOf state.old cut → IsCutOf state.new cut }
+{
+    let moment = call.number("moment");
+    if !is_moment(moment) {
+        return told(alloc, "no moment");
+    }
+    let answered = state.tick(moment);
+    told_tick(alloc, answered)
+}
+
+fn append(alloc: Global, state: &mut State, call: Call<'_>) -> Result<String, NoMemory>
+    ensures cuts { (cut : CutValue) → IsCutOf state.old cut → IsCutOf state.new cut }
+{
+    let source = Str::of(alloc, call.text("source"))?;
+    let reading = reading(alloc, call)?;
+    if !is_reading(&reading) {
+        return told(alloc, "no reading");
+    }
+    let answered = state.append(alloc, &source, reading);
+    told_append(alloc, answered)
+}
+
+fn expire(alloc: Global, state: &mut State) -> Result<String, NoMemory>
+    ensures cuts { (cut : CutValue) → IsCutOf state.old cut → IsCutOf state.new cut }
+{
+    let count = state.expire()?;
+    Ok(format!(in alloc; " {count} tables")?)
+}
+
+fn acknowledge(alloc: Global, state: &mut State, call: Call<'_>) -> Result<String, NoMemory>
+    ensures cuts { (cut : CutValue) → IsCutOf state.old cut → IsCutOf state.new cut }
+{
+    let done = state.acknowledge(call.number("upto"))?;
+    yes_or_no(alloc, done)
+}
+
+fn take_tail(alloc: Global, state: &mut State) -> Result<String, NoMemory>
+    ensures cuts { (cut : CutValue) → IsCutOf state.old cut → IsCutOf state.new cut }
+{
+    let taken = state.take_tail(alloc)?;
+    entries(alloc, &taken)
+}
+
+fn show(alloc: Global, state: &State) -> Result<String, NoMemory> {
+    let mut text = format!(in alloc; " moment {}, ", state.moment())?;
+    write!(text, "last {}, ", state.last_number())?;
+    write!(text, "batches {}, ", state.batch_count())?;
+    write!(text, "acknowledged {}", state.acknowledged())?;
+    Ok(text)
+}
+
+/// What the state shows of the tables of the line: of the events those above a number, or none where the line names none.
+fn view(alloc: Global, state: &State, call: Call<'_>) -> Result<String, NoMemory> {
+    let moment = call.number("moment");
+    if !is_moment(moment) {
+        return told(alloc, "no moment");
+    }
+    let above = call.number_or("above", state.last_number());
+    let view = state.view_above(alloc, above, moment)?;
+    shown_tables(alloc, &view, call.items("tables"))
+}
+
+/// The rows that a text means behind the state.
+fn ask(alloc: Global, state: &State, call: Call<'_>) -> Result<String, NoMemory> {
+    let moment = call.number("moment");
+    let Ok(query) = query_of_text(alloc, call.text("text")) else {
+        return told(alloc, "no query");
+    };
+    if !is_moment(moment) {
+        return told(alloc, "no moment");
+    }
+    let rows = rows_behind(alloc, &query, state, moment)?;
+    rows_or_none(alloc, &rows)
+}
+
+/// A call that leaves the state as it is.
+fn look(alloc: Global, state: &State, call: Call<'_>) -> Result<String, NoMemory> {
+    match call.name() {
+        "show" => show(alloc, state),
+        "view" => view(alloc, state, call),
+        "ask" => ask(alloc, state, call),
+        _ => told(alloc, "no call"),
+    }
+}
+
+/// A call that takes no cut and gives none.
+fn call_state(alloc: Global, state: &mut State, call: Call<'_>) -> Result<String, NoMemory>
+    ensures cuts { (cut : CutValue) → IsCutOf state.old cut → IsCutOf state.new cut }
+{
+    match call.name() {
+        "configure" => configure(alloc, state, call),
+        "tick" => tick(alloc, state, call),
+        "append" => append(alloc, state, call),
+        "expire" => expire(alloc, state),
+        "acknowledge" => acknowledge(alloc, state, call),
+        "tail" => take_tail(alloc, state),
+        _ => look(alloc, state, call),
+    }
+}
+
+/// Answers a cut, and says what becomes of it.
+fn commit(alloc: Global, state: &mut State, cut: Cut) -> Result<String, NoMemory>
+    requires { IsCutOf state.old cut }
+    ensures { (other : CutValue) → IsCutOf state.old other → IsCutOf state.new other }
+{
+    let rows = answer(alloc, &cut)?;
+    match state.commit(cut, rows) {
+        Ok(number) => Ok(format!(in alloc; " batch {number}")?),
+        Err(refusal) => told_refusal(alloc, refusal),
+    }
+}
+
+/// Gives a cut back.
+fn release(alloc: Global, state: &mut State, cut: Cut) -> Result<String, NoMemory>
+    ensures { (other : CutValue) → IsCutOf state.old other → IsCutOf state.new other }
+{
+    state.release(cut);
+    told(alloc, "done")
+}
+
+impl Session {
+    /// Opens a session over these values.
+    pub(crate) fn begin(alloc: Global, restored: Restored) -> Result<Session, NoMemory>
+        requires { Fits restored }
+    {
+        let state = State::begin(alloc, restored)?;
+        Ok(Session {
+            state,
+            cuts: Vec::new(alloc),
+        })
+    }
+
+    /// Opens a session over an empty list.
+    pub(crate) fn new(alloc: Global) -> Result<Session, NoMemory> {
+        Session::begin(alloc, nothing(alloc))
+    }
+
+    fn call(&mut self, alloc: Global, call: Call<'_>) -> Result<String, NoMemory> {
+        call_state(alloc, &mut self.state, call)
+    }
+
+    /// Claims the next cut, which is then the last of the open ones.
+    fn claim(&mut self, alloc: Global) -> Result<String, NoMemory> {
+        self.cuts.reserve(1)?;
+        let Some(cut) = self.state.claim_cut(alloc)? else {
+            return told(alloc, "none");
+        };
+        let text = told_cut(alloc, &cut);
+        self.cuts.push_reserved(cut);
+        text
+    }
+
+    /// Takes the open cut at this place out, where there is one.
+    fn take_cut(&mut self, place: u64) -> Option<Cut>
+        ensures own { IfSome result (IsCutOf self.new) }
+        ensures same { self.new ≡ self.old }
+    {
+        let Ok(place) = usize::try_from(place) else {
+            return None;
+        };
+        if place < self.cuts.len() {
+            Some(self.cuts.remove(place))
+        } else {
+            None
+        }
+    }
+
+    fn commit(&mut self, alloc: Global, call: Call<'_>) -> Result<String, NoMemory> {
+        match self.take_cut(call.number("cut")) {
+            Some(cut) => commit(alloc, &mut self.state, cut),
+            None => told(alloc, "no such cut"),
+        }
+    }
+
+    fn release(&mut self, alloc: Global, call: Call<'_>) -> Result<String, NoMemory> {
+        match self.take_cut(call.number("cut")) {
+            Some(cut) => release(alloc, &mut self.state, cut),
+            None => told(alloc, "no such cut"),
+        }
+    }
+
+    /// Makes a call, and answers what it says.
+    pub(crate) fn take(&mut self, alloc: Global, call: Call<'_>) -> Result<String, NoMemory> {
+        match call.name() {
+            "claim" => self.claim(alloc),
+            "commit" => self.commit(alloc, call),
+            "release" => self.release(alloc, call),
+            _ => self.call(alloc, call),
+        }
+    }
+}
