@@ -44,6 +44,11 @@ pub struct TableDesc {
 }
 
 /// The table of that name, without regard to ASCII case; none exactly where there is no such table.
+///
+/// ```
+/// table_of("Users")         // Some of the table `users`: id TableId(3), six columns
+/// table_of("user")          // None
+/// ```
 pub fn table_of(name: &str) -> Option<TableDesc>
     ensures id { option_map id result ≡ id_of name.now }
     ensures heading { IfSome result (λ found. Some (heading found) ≡ heading_at found.id.0) }

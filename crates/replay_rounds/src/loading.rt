@@ -24,6 +24,7 @@ pub enum LoadError {
 }
 
 /// The values of the keeper's list, where a session may go on from them. Those of a legal list are never refused.
+/// KeeperFault where the keeper failed; KeeperRefused where no session may go on from its values.
 pub fn load_values<K: Keeper>(alloc: Global, keeper: &mut K) -> Result<Restored, LoadError>
     ensures fits { IfOk result Fits }
     ensures value { K.tells → IfOk result (λ restored. restored ≡ summary (K.kept keeper.old)) }
