@@ -21,6 +21,7 @@ pub enum SealError {
     KeeperFault,
     /// The entries are kept, and a front part of their lines was written.
     SinkFault,
+    /// Memory was wanting.
     NoMemory,
 }
 

@@ -27,6 +27,7 @@ const MOST: u64 = 1 << 62;
 pub enum StoreError {
     /// The last number would pass 2^62.
     NumbersSpent,
+    /// Memory was wanting.
     NoMemory,
 }
 

@@ -9,7 +9,9 @@ use crate::value::TableId;
 /// What a column holds where a value of the other kind is written into it or compared with it.
 #[derive(Clone, Copy, PartialEq, Eq, Debug)]
 pub enum Affinity {
+    /// Whole numbers: a text that spells one is that number.
     Integer,
+    /// Texts: a whole number is its decimal text.
     Text,
 }
 
@@ -25,8 +27,11 @@ pub struct ColumnDesc {
 /// Where the rows of a table come from: events, recorded rows, or what the program knows itself.
 #[derive(Clone, Copy, PartialEq, Eq)]
 pub enum TableKind {
+    /// Events that readings add.
     Evented,
+    /// Rows that a reading sets whole.
     Recorded,
+    /// Rows that the program knows itself.
     Computed,
 }
 

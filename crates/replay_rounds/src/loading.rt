@@ -20,6 +20,7 @@ pub enum LoadError {
     KeeperFault,
     /// The keeper gave values that no session may go on from.
     KeeperRefused,
+    /// Memory was wanting.
     NoMemory,
 }
 

@@ -55,6 +55,7 @@ pub enum TickRefusal {
     StillDue { at: u32 },
     /// Events of this table are to expire.
     ExpiryOwed { table: TableId },
+    /// Memory was wanting.
     NoMemory,
 }
 
@@ -65,6 +66,7 @@ pub enum AppendError {
     Backwards { kept: u64 },
     /// The last number would pass 2^62.
     NumbersSpent,
+    /// Memory was wanting.
     NoMemory,
 }
 
