@@ -3,7 +3,9 @@ use osq_value::NoMemory;
 /// Why a line wasn't read: it isn't in the grammar, or memory was wanting.
 #[derive(Clone, Copy)]
 pub enum LineError {
+    /// The bytes aren't a line of the grammar.
     BadLine,
+    /// Memory was wanting.
     NoMemory,
 }
 

@@ -13,9 +13,13 @@ use std::alloc::Global;
 
 /// The system calls that groups tell of.
 pub enum Call {
+    /// execve or execveat.
     Execution,
+    /// connect.
     Connect,
+    /// bind.
     Bind,
+    /// accept or accept4.
     Accept,
 }
 

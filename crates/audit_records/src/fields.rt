@@ -27,6 +27,7 @@ struct ReadValue<'a> {
 }
 
 /// The fields of a text, in their order.
+/// BadLine where a word begins with `=`, or a quoted value has no closing quote with a blank or the end behind it.
 pub fn read_fields(alloc: Global, text: &str) -> Result<FieldList, LineError>
     ensures { Reads (fields_of text.now) result }
 {

@@ -22,6 +22,14 @@ use std::str;
 /// over; a word that begins with `=` is in no line.
 ///
 /// BadLine exactly where the text isn't in this form.
+///
+/// ```
+/// let line = read_line(alloc, b"type=CWD msg=audit(1700000000.123:456): cwd=\"/home/ann\"")?;
+/// line.kind.as_str()        // "CWD"
+/// line.id.millis            // 123
+/// line.fields.len()         // 1: the key `cwd`, the text `/home/ann`, quoted
+/// read_line(alloc, b"type=cwd msg=audit(1.000:2):")   // Err(LineError::BadLine): a type has capital letters
+/// ```
 pub fn read_line(alloc: Global, text: &[u8]) -> Result<AuditLine, LineError>
     ensures read { Reads (line_of text.now) result }
     ensures line { IfOk result (λ line. IsLine text.now line) }

@@ -4,7 +4,9 @@ use std::alloc::AllocError;
 /// Why a line wasn't read: it isn't in the form, or memory was wanting.
 #[derive(Clone, Copy)]
 pub enum LineError {
+    /// The bytes aren't a JSON object of the line's form.
     BadLine,
+    /// Memory was wanting.
     NoMemory,
 }
 

@@ -18,6 +18,7 @@ pub fn text_at<'a>(line: &'a Json, key: &str) -> Option<&'a str>
 }
 
 /// A member that holds a whole number or a text that spells one.
+/// BadLine where it holds anything else but null; Null where it is missing.
 pub fn number_at(line: &Json, key: &str) -> Result<Value, LineError>
     ensures { Reads (number_of (get key.now (view line.now))) result }
 {
@@ -41,6 +42,7 @@ fn number(value: &Json) -> Option<Value>
 }
 
 /// A member that holds a text.
+/// BadLine where it holds anything else but null; Null where it is missing.
 pub fn value_at(alloc: Global, line: &Json, key: &str) -> Result<Value, LineError>
     ensures { Reads (text_of (get key.now (view line.now))) result }
 {

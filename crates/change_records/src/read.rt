@@ -13,6 +13,16 @@ use std::alloc::Global;
 /// Reads a change line: one JSON object. `path` begins with `/`, and `action` has 1 to 64 bytes. `inode`, `uid`, `gid`, `size`, `mtime` and
 /// `time` are whole numbers within 64 bits, or texts that spell them, or null or missing; `mode` is a text, null or missing. Every other
 /// key is ignored. BadLine exactly where the text isn't in this form.
+///
+/// JSON is that of RFC 8259, and of equal keys the last counts.
+///
+/// ```
+/// let change = read_change(alloc, b"{\"path\":\"/etc/a\",\"action\":\"CREATED\",\"time\":1}")?;
+/// change.path.as_str()      // "/etc/a"
+/// change.time               // Value::Int(1)
+/// change.mode               // Value::Null: the line has no such key
+/// read_change(alloc, b"{\"path\":\"etc\",\"action\":\"CREATED\"}")   // Err(LineError::BadLine)
+/// ```
 pub fn read_change(alloc: Global, text: &[u8]) -> Result<Change, LineError>
     ensures { ReadsLine change_of text.now result }
 {

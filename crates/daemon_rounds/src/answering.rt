@@ -62,6 +62,7 @@ fn answer_next(alloc: Global, state: &mut State) -> Result<bool, RoundError>
 }
 
 /// Answers each due query of the present tick by one batch, made from all entries before its own.
+/// NumbersSpent where the next batch's number would pass 2^62; the batches before it are added.
 pub fn answer_due(alloc: Global, state: &mut State) -> Result<(), RoundError>
     ensures answered { IfOk result (λ _. AnswersDue state.old state.new) }
     ensures spent { result ≡ Err RoundError.NumbersSpent → SpendsBatches state.old }

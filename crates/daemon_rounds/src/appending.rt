@@ -36,6 +36,7 @@ fn append_one(
 }
 
 /// Appends the readings of a source, one after another. Each ends behind the one before it, and the first behind the source's offset.
+/// NumbersSpent where the numbers of a reading's events would pass 2^62; the readings before it are added.
 pub fn append_all(
     alloc: Global,
     state: &mut State,

@@ -11,6 +11,7 @@ use osq_outside::Files;
 use std::alloc::Global;
 
 /// The configuration in the file of this path with its packs, as `read_configured` gives it. Its numbers lie between their bounds.
+/// It refuses as `read_configured` does.
 pub fn read_configuration<F: Files>(
     alloc: Global,
     files: &mut F,

@@ -5,6 +5,7 @@
 pub enum RoundError {
     /// The next event's or the next batch's number would pass 2^62.
     NumbersSpent,
+    /// Memory was wanting.
     NoMemory,
 }
 
@@ -17,6 +18,7 @@ pub enum FinishError {
     KeeperFault,
     /// The entries are kept, and a front part of their lines was written.
     SinkFault,
+    /// Memory was wanting.
     NoMemory,
 }
 
@@ -27,6 +29,7 @@ pub enum TurnError {
     SourceFault,
     /// The next event's number would pass 2^62.
     NumbersSpent,
+    /// Memory was wanting.
     NoMemory,
 }
 
@@ -37,6 +40,7 @@ pub enum TakeError {
     SourceFault { place: usize },
     /// The next event's number would pass 2^62.
     NumbersSpent,
+    /// Memory was wanting.
     NoMemory,
 }
 
@@ -47,6 +51,7 @@ pub enum StartError {
     SourceFault { place: usize },
     /// The source at this place ended after `found` bytes, before the `kept` bytes that earlier sessions took of it.
     SourceShrank { place: usize, kept: u64, found: u64 },
+    /// Memory was wanting.
     NoMemory,
 }
 
@@ -61,5 +66,6 @@ pub enum OpenError {
     SourceShrank { place: usize, kept: u64, found: u64 },
     /// The next event's number would pass 2^62.
     NumbersSpent,
+    /// Memory was wanting.
     NoMemory,
 }

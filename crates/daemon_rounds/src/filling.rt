@@ -76,6 +76,7 @@ fn configure_again(
 
 /// Begins a tick at this moment, which isn't before the last one; configures the session again, where discovery is asked again; and takes a
 /// round of all sources. It answers when the session was configured last.
+/// SourceFault with the place of the source that failed; NumbersSpent where the next event's number would pass 2^62.
 pub fn fill_tick<S: Source>(
     alloc: Global,
     setup: &Setup,

@@ -22,6 +22,7 @@ use std::alloc::Global;
 
 /// Answers each due query of the present tick by one batch, and then expires what the state owes.
 /// Behind that no query is due and no floor is owed, so that the next tick may begin.
+/// NumbersSpent where the next batch's number would pass 2^62.
 pub fn answer_and_settle(alloc: Global, state: &mut State) -> Result<(), RoundError>
     ensures settled { IfOk result (λ _. Settles state.old state.new) }
     ensures spent { result ≡ Err RoundError.NumbersSpent → SpendsBatches state.old }
@@ -49,6 +50,7 @@ fn unsealed(error: SealError) -> FinishError
 /// and writes the result lines of its batches. Lines have this form before what was gained; `host` is the host's identifier. The state
 /// goes on from the keeper's list, and does so afterwards. After a refusal the session ends: what the state gained isn't kept, but for a
 /// fault of the keeper, which keeps all or nothing, and one of the sink, before which all was kept.
+/// NumbersSpent where the next batch's number would pass 2^62; KeeperFault and SinkFault as `seal` gives them.
 pub fn finish_tick<K: Keeper, O: Sink>(
     alloc: Global,
     state: &mut State,

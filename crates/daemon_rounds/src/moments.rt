@@ -16,6 +16,7 @@ pub struct MomentTooLarge {
 }
 
 /// Reads the clock once. The moment is its reading, or the last moment, whichever is later.
+/// Moments are in seconds since 1970 UTC. MomentTooLarge where the reading is above 253402300799.
 pub fn read_moment<C: Clock>(clock: &mut C, last: u64) -> Result<u64, MomentTooLarge>
     ensures read { IfOk result (λ moment. IsRead C.reads clock.old clock.new last moment) }
     ensures beyond { IfErr result (λ refusal. C.reads clock.old refusal.moment clock.new × (253402300799 < refusal.moment)) }

@@ -22,6 +22,7 @@ use std::alloc::Global;
 
 /// Opens a session over these values at this moment, which isn't before their last one: it begins, each source of tables takes one step, and
 /// then it is configured.
+/// SourceFault with the place of the source that failed; NumbersSpent where the next event's number would pass 2^62.
 pub fn begin_session<S: Source>(
     alloc: Global,
     setup: &Setup,

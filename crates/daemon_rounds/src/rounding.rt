@@ -13,6 +13,7 @@ use std::alloc::Global;
 
 /// A round of the sources: each that takes part takes one step, of at most so many records, and its readings are appended, in the order of
 /// the sources. Each feed goes on from the state's offset of its source, and does so afterwards. After a refusal the session ends.
+/// SourceFault with the place of the source that failed; NumbersSpent where the next event's number would pass 2^62.
 pub fn take_round<S: Source>(
     alloc: Global,
     state: &mut State,

@@ -21,12 +21,16 @@ pub enum SealError {
     KeeperFault,
     /// The entries are kept, and a front part of their lines was written.
     SinkFault,
+    /// Memory was wanting.
     NoMemory,
 }
 
 /// Seals the entries that the state gained since the last seal, and then writes the result lines of their batches. Before these entries
 /// lines have this form; `host` is the host's identifier. All lines are made before the seal, so that want of memory leaves the kept list
 /// and the results as they were.
+///
+/// KeeperFault where the keeper failed, which has then all of the entries or none; SinkFault where the entries are kept and the sink
+/// failed behind a front part of the lines.
 pub fn seal<K: Keeper, O: Sink>(
     alloc: Global,
     state: &mut State,

@@ -58,6 +58,9 @@ fn untaken(error: TakeError) -> OpenError
 
 /// Opens a session over the values of a kept list. The clock is read once; each source is started; the session begins, each source of tables
 /// takes one step, and then the session is configured. No two sources have one name.
+///
+/// MomentTooLarge where the clock is beyond the year 9999; SourceFault and SourceShrank with the place of a source that failed, or that
+/// ended before the bytes that were taken of it; NumbersSpent where the next event's number would pass 2^62.
 pub fn open_session<S: Source, C: Clock>(
     alloc: Global,
     setup: &Setup,

@@ -62,6 +62,7 @@ pub fn open_feeds(
 }
 
 /// Starts each source, in order: drops the bytes that earlier sessions took of it.
+/// SourceFault with the place of a source that failed; SourceShrank with that of one that ended before these bytes.
 pub fn start_feeds<S: Source>(feeds: &mut [Feed], sources: &mut [S]) -> Result<(), StartError>
     requires paired { length sources.old ≡ length feeds.old }
     requires fresh { All IsOpen feeds.old }
@@ -90,6 +91,7 @@ pub fn start_feeds<S: Source>(feeds: &mut [Feed], sources: &mut [S]) -> Result<(
 
 /// A feed for each of these sources, which goes on from the offset up to which earlier sessions took it, and is started. No two of them have
 /// one name.
+/// It refuses as `start_feeds` does.
 pub fn start_sources<S: Source>(
     alloc: Global,
     names: &[SourceName],

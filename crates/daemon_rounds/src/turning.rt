@@ -22,6 +22,7 @@ use std::alloc::Global;
 /// Which sources take a step in a round.
 #[derive(Clone, Copy, PartialEq, Eq, Debug)]
 pub enum Which {
+    /// All sources.
     Every,
     /// Those of recorded tables.
     Tables,

@@ -27,6 +27,7 @@ const MOST: u64 = 1 << 62;
 pub enum StoreError {
     /// The last number would pass 2^62.
     NumbersSpent,
+    /// Memory was wanting.
     NoMemory,
 }
 
@@ -80,6 +81,7 @@ impl Image {
 
     /// Adds the events, numbered behind the last one, all of them or none, and answers the last number before and after.
     /// A refused list is dropped.
+    /// NumbersSpent where the last number would pass 2^62.
     pub fn append(&mut self, events: EventList, moment: u64) -> Result<(u64, u64), StoreError>
         requires { All IsEvent events }
         ensures numbers { IfOk result (λ numbers. numbers ≡ (self.old.last, self.old.last + length events)) }

@@ -15,6 +15,7 @@ use serde_json::{Map, Value as Json};
 use std::alloc::Global;
 
 /// What a document excludes has the right kinds of values.
+/// WrongShape where the value is no object, or a member of it no array of texts.
 pub fn check_excluded(alloc: Global, document: &Json) -> Result<(), ConfigError>
     ensures { Reads (fault_at (each texts) [] (codes "exclude_paths") (view document.now)) tt result }
 {
@@ -58,6 +59,7 @@ fn check_texts(alloc: Global, path: &str, name: &str, value: &Json) -> Result<()
 }
 
 /// The categories of a document, in byte order of their names, each with what is excluded under its name.
+/// WrongShape where the value is no object, or a member of it no array of texts.
 pub fn categories_of(alloc: Global, document: &Json) -> Result<CategoryList, ConfigError>
     ensures { Reads (fault_at (each texts) [] (codes "file_paths") (view document.now))
         (categories_in (get (codes "exclude_paths") (view document.now))

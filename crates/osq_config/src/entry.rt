@@ -32,6 +32,7 @@ pub const SHARD: Bounds = Bounds {
 };
 
 /// The queries of a key that may be missing, in byte order of their names.
+/// WrongShape where the value, or an entry in it, is no object; and the faults of the keys of entries.
 pub fn entries_at(
     alloc: Global,
     path: &str,

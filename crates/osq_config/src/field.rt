@@ -91,6 +91,8 @@ fn within(number: i64, bounds: Bounds) -> Option<u64>
 }
 
 /// The whole number of a key that may be missing.
+/// WrongShape where the value is no whole number of 64 bits and no text that spells one; OutOfRange where the number lies outside the
+/// bounds.
 pub fn number_at(
     alloc: Global,
     path: &str,
@@ -114,6 +116,7 @@ pub fn number_at(
 }
 
 /// The text of a key that may be missing.
+/// WrongShape where the value is no text; a missing one is the empty text.
 pub fn text_at(alloc: Global, path: &str, object: &Json, key: &str) -> Result<Str, ConfigError>
     ensures { Reads (fault_at text path.now key.now (view object.now))
         (text_in (get key.now (view object.now))) result }
@@ -128,6 +131,7 @@ pub fn text_at(alloc: Global, path: &str, object: &Json, key: &str) -> Result<St
 }
 
 /// The text of a key that must be there.
+/// WrongShape where it is missing, or is no text.
 pub fn needed_text_at(
     alloc: Global,
     path: &str,
@@ -169,6 +173,7 @@ fn truth_of(value: &Json) -> Option<bool>
 }
 
 /// The truth value of a key; a missing one is false.
+/// WrongShape where the value is neither `true` nor `false`, nor a text that is one of these words.
 pub fn truth_at(alloc: Global, path: &str, object: &Json, key: &str) -> Result<bool, ConfigError>
     ensures { Reads (fault_at truth path.now key.now (view object.now))
         (truth_in (get key.now (view object.now))) result }
@@ -194,6 +199,7 @@ fn all_texts(alloc: Global, items: &[Json]) -> Result<Option<TextList>, NoMemory
 }
 
 /// The texts of an array of texts.
+/// None where it is no array, or has an item that is no text.
 pub fn texts_of(alloc: Global, value: &Json) -> Result<Option<TextList>, NoMemory>
     ensures { IfOk result (λ found. found ≡ texts_of (view value.now)) }
 {
@@ -204,6 +210,7 @@ pub fn texts_of(alloc: Global, value: &Json) -> Result<Option<TextList>, NoMemor
 }
 
 /// An object.
+/// WrongShape where the value is no object.
 pub fn check_object(alloc: Global, path: &str, value: &Json) -> Result<(), ConfigError>
     ensures { Reads (fault_of_shape path.now (is_some (as_object (view value.now)))) tt result }
 {

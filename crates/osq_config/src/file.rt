@@ -58,6 +58,7 @@ fn push_file(alloc: Global, files: &mut PackFileList, pack: &Pack) -> Result<(),
 /// Reads the file of a pack, and puts what it says into the pack of this name. The document is read as a configuration is, and the paths
 /// of its keys begin at the pack. TooManyQueries comes last, where the configuration would hold more than 10000 queries. After an error
 /// the pack is left out, and all else stands. The numbers stay between their bounds.
+/// The other errors are those of `read_config`.
 pub fn add_pack(
     alloc: Global,
     config: &mut Config,

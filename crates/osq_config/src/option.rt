@@ -42,6 +42,7 @@ impl Options {
     ghost use Rattle.osq_config.specs.Values.{options_of};
 
     /// The options of a document.
+    /// WrongShape where they are no object; and the faults of their keys.
     pub fn of(alloc: Global, document: &Json) -> Result<Options, ConfigError>
         ensures { Reads (fault_at options_kind [] (codes "options") (view document.now))
             (options_of (get (codes "options") (view document.now))) result }

@@ -19,6 +19,7 @@ use serde_json::{Map, Value as Json};
 use std::alloc::Global;
 
 /// The packs of a document, in byte order of their names.
+/// WrongShape where the value is no object, or a member of it neither a text nor an object; and the faults of the keys of packs.
 pub fn packs_of(alloc: Global, document: &Json) -> Result<PackList, ConfigError>
     ensures { Reads (fault_at (each (text_or pack_kind)) [] (codes "packs") (view document.now))
         (packs_in (get (codes "packs") (view document.now))) result }
@@ -79,6 +80,7 @@ fn pack(alloc: Global, path: &str, name: &str, value: &Json) -> Result<Pack, Con
 }
 
 /// The pack that an object at a path holds. Its keys are read in byte order, so that the first fault is answered.
+/// WrongShape where the value is no object; and the faults of its keys.
 pub fn pack_with(
     alloc: Global,
     path: &str,

@@ -24,6 +24,18 @@ pub const QUERIES: usize = 10000;
 /// Reads a configuration: a JSON object in UTF-8. Before it is read, each backslash that ends a line is left out with the line feed, and
 /// then each line that begins, behind spaces and tabs, with `//` or `#`. The first fault is answered, in byte order of the keys at each
 /// level and an object before its members; the number of queries is tried last. The numbers of what is read lie between their bounds.
+///
+/// The errors: NotJson where the document isn't UTF-8, or is no JSON (RFC 8259) behind these steps; WrongShape with the path of a key
+/// whose value has another kind, or that is missing; OutOfRange with the path of a key whose number or word isn't allowed;
+/// TooManyQueries for more than 10000 queries. The keys and their meaning are osquery's.
+///
+/// ```
+/// let config = read_config(alloc, b"{\"schedule\": {\"who\": {\"query\": \"SELECT uid FROM users\", \"interval\": 60}}}")?;
+/// config.events_expiry      // 3600: seconds
+/// config.schedule.len()     // 1: the entry `who`, each 60 seconds
+/// read_config(alloc, b"{\"schedule\": {\"who\": {\"query\": \"x\", \"interval\": 0}}}")
+/// // Err(ConfigError::OutOfRange { key }), where the key is `schedule.who.interval`
+/// ```
 pub fn read_config(alloc: Global, document: &[u8]) -> Result<Config, ConfigError>
     ensures answer { Answers fault_of_config config_of document.now result }
     ensures bounded { IfOk result IsBounded }

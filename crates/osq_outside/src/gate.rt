@@ -3,9 +3,13 @@
 /// A place between two turns of a publisher or a worker.
 #[derive(Clone, Copy)]
 pub enum Point {
+    /// A worker has claimed a cut.
     AfterCut,
+    /// A worker has the rows of its cut, and hasn't committed them.
     BeforeCommit,
+    /// A publisher has a reading, and hasn't added it.
     BeforeAppend,
+    /// A publisher has added a reading.
     AfterAppend,
 }
 

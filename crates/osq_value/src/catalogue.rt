@@ -9,7 +9,9 @@ use crate::value::TableId;
 /// What a column holds where a value of the other kind is written into it or compared with it.
 #[derive(Clone, Copy, PartialEq, Eq, Debug)]
 pub enum Affinity {
+    /// Whole numbers: a text that spells one is that number.
     Integer,
+    /// Texts: a whole number is its decimal text.
     Text,
 }
 
@@ -25,8 +27,11 @@ pub struct ColumnDesc {
 /// Where the rows of a table come from: events, recorded rows, or what the program knows itself.
 #[derive(Clone, Copy, PartialEq, Eq)]
 pub enum TableKind {
+    /// Events that readings add.
     Evented,
+    /// Rows that a reading sets whole.
     Recorded,
+    /// Rows that the program knows itself.
     Computed,
 }
 
@@ -44,6 +49,11 @@ pub struct TableDesc {
 }
 
 /// The table of that name, without regard to ASCII case; none exactly where there is no such table.
+///
+/// ```
+/// table_of("Users")         // Some of the table `users`: id TableId(3), six columns
+/// table_of("user")          // None
+/// ```
 pub fn table_of(name: &str) -> Option<TableDesc>
     ensures id { option_map id result ≡ id_of name.now }
     ensures heading { IfSome result (λ found. Some (heading found) ≡ heading_at found.id.0) }

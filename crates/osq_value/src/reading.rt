@@ -34,11 +34,13 @@ pub type CategoryList = Sequence<Category>;
 /// `taken` is the source's offset, in bytes, behind what was read.
 #[derive(Drop)]
 pub enum Reading {
+    /// Events of evented tables.
     Events {
         taken: u64,
         events: EventList,
         skipped: u64,
     },
+    /// All rows of a recorded table.
     Table {
         taken: u64,
         table: TableId,

@@ -5,6 +5,13 @@ ghost use Rattle.osq_value.specs.Spelling.{is_digit, int_of, negative_of, number
 
 /// The whole number that a text spells: an optional `+` or `-`, then at least one decimal digit, and nothing else.
 /// None exactly where the text is no such spelling, or its number lies outside 64 bits.
+///
+/// ```
+/// int_spelling(b"+007")                  // Some(7)
+/// int_spelling(b"-9223372036854775808")  // Some(i64::MIN)
+/// int_spelling(b"9223372036854775808")   // None
+/// int_spelling(b"1 ")                    // None
+/// ```
 #[tactic(auto, unfolding(crate::specs::Spelling::int_of))]
 pub fn int_spelling(text: &[u8]) -> Option<i64>
     ensures { result ≡ int_of text.now }

@@ -6,7 +6,9 @@ use std::io::{self, ErrorKind, Read, Stderr, Stdout, Write};
 /// A source's file. One that can't be opened fails at its first read.
 #[derive(Drop)]
 pub enum Input {
+    /// The file, open to be read.
     Opened(File),
+    /// A file that couldn't be opened.
     Missing,
 }
 
@@ -32,8 +34,11 @@ impl Read for Input {
 /// Where results and status lines go. There is no ledger yet.
 #[derive(Drop)]
 pub enum Output {
+    /// Standard output, for results.
     Results(Stdout),
+    /// Standard error, for status lines.
     Status(Stderr),
+    /// Nothing keeps what is written here.
     Nowhere,
 }
 

@@ -39,6 +39,16 @@ fn form_of(is_batch: bool) -> Form
 /// pack, `_` and the key. Of equal names the schedule's entry is taken first, then that of the first pack. The
 /// queries stand in byte order of their names. A query is evented where it names an evented table and isn't marked as a
 /// snapshot.
+///
+/// ```
+/// let host = Host {
+///     identifier: Str::of(alloc, "web1")?,
+///     platform: Str::of(alloc, "linux")?,
+///     agent: Str::of(alloc, "5.10.0")?,
+/// };
+/// let schedule = schedule_of(alloc, &config, &host, &[])?;   // of a configuration without packs
+/// schedule.queries.len()    // how many of its entries hold on that host, and have a query
+/// ```
 pub fn schedule_of(
     alloc: Global,
     config: &Config,

@@ -81,7 +81,9 @@ pub type ScheduledList = Sequence<Scheduled>;
 /// The form of result lines.
 #[derive(Clone, Copy, PartialEq, Eq, Debug)]
 pub enum Form {
+    /// A line for each row.
     Event,
+    /// A line for all rows of a batch that has some.
     Batch,
 }
 

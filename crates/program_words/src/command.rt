@@ -191,8 +191,11 @@ pub struct CheckWords {
 /// The words of a command.
 #[derive(Drop)]
 pub enum CommandWords {
+    /// Runs a session.
     Replay(ReplayWords),
+    /// Answers one text.
     Query(QueryWords),
+    /// Looks at a configuration.
     Check(CheckWords),
 }
 

@@ -7,6 +7,7 @@ use osq_value::NoMemory;
 pub enum WordsError {
     /// They are the words of no command.
     Usage,
+    /// Memory was wanting.
     NoMemory,
 }
 

@@ -153,6 +153,15 @@ pub fn count_sources(words: &[&str]) -> Option<usize>
 }
 
 /// Reads what the program opens for the words of a command; Usage exactly where they are those of no command.
+///
+/// ```
+/// let words = ["replay", "--config", "c", "--host", "h1", "--audit", "a.log", "--start", "5", "--step", "9"];
+/// let paths = paths_of(alloc, &words)?;
+/// paths.sources.len()       // 1: the audit log `a.log`
+/// paths.start               // Some(5)
+/// paths.step                // 9
+/// paths_of(alloc, &["replay"])   // Err(WordsError::Usage)
+/// ```
 #[tactic(auto, using(crate::proofs::Within::paths_bounded))]
 pub fn paths_of(alloc: Global, words: &[&str]) -> Result<Paths, WordsError>
     ensures paths { IfOk result (λ paths. paths_of (map (λ w. w.now) words.now) ≡ Some paths) }

@@ -34,6 +34,14 @@ pub const STEP_BYTES: u64 = 16_777_216;
 pub const PIECE_BYTES: usize = 65_536;
 
 /// Reads one source, record by record, and gives what a callback makes of them.
+///
+/// ```
+/// let subscription = Subscription::new(Recorded, CategoryList::new(alloc));
+/// let mut publisher = Publisher::new(alloc, Str::of(alloc, "audit.log")?, SourceKind::Audit, 0, subscription)?;
+/// publisher.start(&mut source)?;
+/// let readings = publisher.step(&mut source, 100)?;   // the events of the next 100 records, in one reading or none
+/// publisher.taken()         // the source's offset, in bytes, behind the last of them
+/// ```
 #[derive(Drop)]
 pub struct Publisher<C> {
     alloc: Global,

@@ -18,7 +18,9 @@ pub enum SourceKind {
 /// What a callback is given: a group of audit lines, or a change of a file.
 #[derive(Drop)]
 pub enum Record {
+    /// Audit lines with one id.
     Group(AuditGroup),
+    /// A change of a file.
     Change(Change),
 }
 

@@ -12,6 +12,7 @@ use std::alloc::Global;
 /// A callback that gives the event of each record: of a group by its audit lines, of a change by the first category that takes its path.
 /// Whoever implements it proves just that; want of memory is its only other answer.
 pub trait Callback: Drop {
+    /// The event of the record, none where it has none. `paths` are the categories that take the paths of changes.
     fn event_of(
         &self,
         alloc: Global,

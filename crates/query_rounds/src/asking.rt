@@ -39,6 +39,9 @@ pub struct Asked {
 /// sources are read on from where the list has them, in rounds of one step of each, of at most `records` records, until each is at its end or
 /// `rounds` of them were run. The rows are those over all live events and the tables at the clock's moment. The keeper's list stays as it is. No two
 /// sources have one name.
+///
+/// KeeperFault where the keeper failed, KeeperRefused where no session may go on from its list; MomentTooLarge where the clock is beyond
+/// the year 9999; SourceFault and SourceShrank with the place of the source; NumbersSpent where the next event's number would pass 2^62.
 pub fn ask_kept<S: Source, K: Keeper, C: Clock>(
     alloc: Global,
     text: &str,

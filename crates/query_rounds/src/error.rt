@@ -21,6 +21,7 @@ pub enum AskError {
     SourceShrank { place: usize, kept: u64, found: u64 },
     /// The next event's number would pass 2^62.
     NumbersSpent,
+    /// Memory was wanting.
     NoMemory,
 }
 

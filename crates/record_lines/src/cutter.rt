@@ -17,6 +17,16 @@ const LAST_OFFSET: u64 = (1 << 63) - 1;
 
 /// Cuts a stream into lines at its line feeds, in whatever pieces its bytes come. A line that is longer than the limit is skipped: its
 /// bytes aren't kept.
+///
+/// Offsets and the limit are in bytes.
+///
+/// ```
+/// let mut cutter = LineCutter::new(alloc, 4, 100);
+/// cutter.feed(b"a\nlonger\nre")?;
+/// cutter.take_line()        // the line `a`, whose end is 102
+/// cutter.take_line()        // Some(Cut::Skipped { end: 109 })
+/// cutter.take_line()        // None: `re` has no line feed yet
+/// ```
 #[derive(Drop)]
 pub struct LineCutter {
     alloc: Global,

@@ -12,6 +12,8 @@ pub struct Line {
 /// A line of the stream, or a place where a line was longer than the limit. `end` is the stream's offset behind its line feed.
 #[derive(Drop)]
 pub enum Cut {
+    /// A line that is at most as long as the limit.
     Line(Line),
+    /// A longer line, whose bytes aren't kept.
     Skipped { end: u64 },
 }

@@ -20,10 +20,12 @@ pub enum LoadError {
     KeeperFault,
     /// The keeper gave values that no session may go on from.
     KeeperRefused,
+    /// Memory was wanting.
     NoMemory,
 }
 
 /// The values of the keeper's list, where a session may go on from them. Those of a legal list are never refused.
+/// KeeperFault where the keeper failed; KeeperRefused where no session may go on from its values.
 pub fn load_values<K: Keeper>(alloc: Global, keeper: &mut K) -> Result<Restored, LoadError>
     ensures fits { IfOk result Fits }
     ensures value { K.tells → IfOk result (λ restored. restored ≡ summary (K.kept keeper.old)) }

@@ -25,6 +25,7 @@ pub enum RunError {
     NumbersSpent,
     /// The entries of the tick are kept, and a front part of their lines was written; or what is to be told beside them could not be written.
     SinkFault,
+    /// Memory was wanting.
     NoMemory,
 }
 

@@ -114,6 +114,7 @@ fn end_session<O: Sink>(
 
 /// Runs a whole session behind the keeper's list: it is loaded, the session opens, and all ticks are run, each of which is sealed by itself and then
 /// told. No two sources have one name. On the status stream it tells of each configuration, and at the end of skipped lines.
+/// The error of a refusal is one of the causes that `RunError` lists, with the numbers of the kept list where it was loaded.
 pub fn run_session<S: Source, K: Keeper, O: Sink, C: Clock>(
     alloc: Global,
     setup: &Setup,

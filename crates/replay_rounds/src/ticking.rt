@@ -22,6 +22,9 @@ use std::alloc::Global;
 
 /// A whole tick at this moment: it begins, the session is configured again where discovery is asked again, each source takes one step, each due
 /// query is answered, what is owed expires, and what the state gained is sealed and then told. It answers when the session was configured last.
+///
+/// SourceFault with the place of the source that failed; NumbersSpent where a number would pass 2^62; KeeperFault and SinkFault where the
+/// keeper or a sink failed.
 pub fn take_tick<S: Source, K: Keeper, O: Sink>(
     alloc: Global,
     setup: &Setup,

@@ -127,6 +127,15 @@ fn lines_of(
 /// has some; a batch of a snapshot always has one line. Each value is a string and Null the empty one, and of equal names the
 /// last alone is written. The moment is shown in UTC. The rows are as wide as the names: a name or a value that has no
 /// partner isn't written.
+///
+/// The fields are those of osquery's result lines, and `batch` beside them.
+///
+/// ```
+/// let lines = result_lines(alloc, &batch, &names, "h1", Form::Event)?;
+/// // of the first batch of the evented query `u`, at the moment 1000, with the name `username` and the one row of `root`:
+/// // {"name":"u","hostIdentifier":"h1","calendarTime":"Thu Jan 01 00:16:40 1970 UTC","unixTime":1000,"batch":1,
+/// // "action":"added","columns":{"username":"root"}}, in one line
+/// ```
 pub fn result_lines(
     alloc: Global,
     batch: &Batch,

@@ -55,6 +55,7 @@ pub enum TickRefusal {
     StillDue { at: u32 },
     /// Events of this table are to expire.
     ExpiryOwed { table: TableId },
+    /// Memory was wanting.
     NoMemory,
 }
 
@@ -65,6 +66,7 @@ pub enum AppendError {
     Backwards { kept: u64 },
     /// The last number would pass 2^62.
     NumbersSpent,
+    /// Memory was wanting.
     NoMemory,
 }
 
@@ -202,6 +204,15 @@ fn first_mark(marks: &[u64], position: u64) -> Option<u64>
 
 impl State {
     /// Opens a session over these values. The state stands for the entry that opens it.
+    ///
+    /// A list of 2^63 - 1 entries or sessions, or more, can't go on, which is answered as want of memory.
+    ///
+    /// ```
+    /// let mut state = State::begin(alloc, Restored::empty(alloc))?;
+    /// state.last_number()       // 0: there is no event yet
+    /// state.batch_count()       // 0
+    /// state.take_tail(alloc)?   // the one entry Opened { session: 1 }, which is to be sealed
+    /// ```
     pub fn begin(alloc: Global, restored: Restored) -> Result<State, NoMemory>
         requires { Fits restored }
         ensures { IfOk result (λ state. Begins restored state) }
@@ -341,6 +352,7 @@ impl State {
 
     /// Begins a tick, at this moment or at the last one, whichever is later, and forgets all claims. It does not begin
     /// while a query of the last tick is due, or events are to expire.
+    /// The moment is in seconds since 1970 UTC. The refusal has the place of the due query, or the table whose events are to expire.
     pub fn tick(&mut self, moment: u64) -> Result<(), TickRefusal>
         requires { moment ≤ 253402300799 }
         ensures ticked { OnOk result (Adds self.old (Ticked (max moment self.old.counts.moment)) self.new) }
@@ -437,6 +449,7 @@ impl State {
     }
 
     /// Adds a reading of the source, all of it or nothing, and answers the last number before and after.
+    /// Backwards with the source's offset where the reading ends no further than that; NumbersSpent where the last number would pass 2^62.
     pub fn append(
         &mut self,
         alloc: Global,
@@ -723,6 +736,9 @@ impl State {
     /// Adds the batch that answers a cut by these rows, under the next number, and answers the number. A cut that was made
     /// before the query's last batch is refused, and so is one that a Configured or Ticked entry came behind. It takes no
     /// memory.
+    ///
+    /// Superseded with the number of the later batch; Stale with the position of that entry; NumbersSpent where the number would pass 2^62.
+    /// Each gives the cut back.
     pub fn commit(&mut self, cut: Cut, rows: RowList) -> Result<u64, CommitRefusal>
         requires cut { IsCutOf self.old cut }
         requires rows { rows ≡ meaning cut.key.text (rows_in cut.view) }

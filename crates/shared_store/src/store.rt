@@ -179,6 +179,7 @@ impl Store {
     }
 
     /// Begins a tick, unless at the turn a query is due or events are to expire: `State::tick` in one turn.
+    /// It refuses as `State::tick` does.
     pub fn tick<R: Wait>(
         &self,
         rt: &R,
@@ -199,6 +200,7 @@ impl Store {
 
     /// Adds a reading of the source, all of it or nothing, and answers the last number before and after: `State::append`
     /// in one turn.
+    /// It refuses as `State::append` does.
     pub fn append<R: Wait>(
         &self,
         rt: &R,
@@ -243,6 +245,7 @@ impl Store {
 
     /// Adds the batch that answers a cut by these rows, and answers its number: `State::commit` in one turn. The seat has seen
     /// that the cut was given, by whichever seat. Takes no memory.
+    /// It refuses as `State::commit` does.
     pub fn commit<R: Wait>(
         &self,
         rt: &R,

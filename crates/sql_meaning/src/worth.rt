@@ -9,7 +9,9 @@ use std::hash::{Hash, Hasher};
 /// What an expression is worth: a value that stands in a row or in the expression, or one that was made.
 #[derive(Drop)]
 pub enum Worth<'a> {
+    /// A value that stands in a row or in the expression.
     Held { value: &'a Value },
+    /// A value that was made.
     Made { value: Value },
 }
 

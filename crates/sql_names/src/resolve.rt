@@ -123,6 +123,7 @@ fn resolve_within(
 /// The query that a select of a text stands for, or the first kind of fault that its names have,
 /// with that kind's least place. The spans of the select that `parse` gives lie within the text;
 /// what another span holds beyond the text is passed over.
+/// The kinds of faults are those of `NameKind`, in its order; a place is the number of bytes of the text before the fault.
 #[tactic(auto, unfolding(crate::specs::Resolve::name_fault, crate::specs::Resolve::resolved))]
 pub fn resolve(alloc: Global, text: &str, select: &Select) -> Result<Query, NameError>
     ensures ok { IfOk result (λ q. resolved text.now (select_of select.now) ≡ Some (query_of q)) }

@@ -60,6 +60,7 @@ fn parse_tokens(alloc: Global, tokens: &[Token]) -> Result<Node, ParseError>
 }
 
 /// The tree of an expression's text, or its least fault.
+/// The kinds of faults and the places are those of `parse`.
 pub fn parse_expression(alloc: Global, text: &str) -> Result<Node, ParseError>
     ensures tree { IfOk result (λ node. expression_of text.now ≡ Some (tree_of node)) }
     ensures accepted { OnOk result (expression_fault text.now ≡ None) }
@@ -106,6 +107,17 @@ fn parse_select(alloc: Global, tokens: &[Token]) -> Result<Select, ParseError>
 }
 
 /// The tree of a select's text, or its least fault.
+///
+/// The grammar is a part of SQLite's. A place is the number of bytes of the text before the fault. The kinds: NotInGrammar where no
+/// text of the grammar goes on so; NumberTooWide for a number above 9223372036854775807; TooDeep for a 65th open nesting or a 1001st
+/// operator of a chain; TextTooLong for more than 65536 bytes.
+///
+/// ```
+/// let select = parse(alloc, "SELECT uid FROM users LIMIT 2")?;
+/// select.limit              // Some(2)
+/// select.filter.is_none()   // true: the text has no WHERE
+/// parse(alloc, "SELECT")    // Err(ParseError { place: 6, kind: ParseKind::NotInGrammar })
+/// ```
 pub fn parse(alloc: Global, text: &str) -> Result<Select, ParseError>
     ensures tree { IfOk result (λ select. select_of_text text.now ≡ Some (select_of select)) }
     ensures accepted { OnOk result (select_fault text.now ≡ None) }

@@ -8,6 +8,7 @@ use sql_tree::tree::Operator;
 #[derive(Drop)]
 #[cycle(tree)]
 pub enum Expr {
+    /// A value that the text of the query writes.
     Literal {
         value: Value,
     },
@@ -19,27 +20,34 @@ pub enum Expr {
         at: u32,
         affinity: Option<Affinity>,
     },
+    /// Operators of one level, applied from the left.
     Chain {
         first: Box<Expr>,
         steps: Vec<ExprStep>,
     },
+    /// NOT of an expression.
     Negation {
         inner: Box<Expr>,
     },
+    /// An expression behind the sign `-`.
     Minus {
         inner: Box<Expr>,
     },
+    /// An expression behind the sign `+`.
     Plus {
         inner: Box<Expr>,
     },
+    /// CAST to an affinity.
     Cast {
         inner: Box<Expr>,
         affinity: Affinity,
     },
+    /// A function that isn't an aggregate.
     Call {
         function: Function,
         arguments: Vec<Expr>,
     },
+    /// An aggregate over the rows of a group.
     Folded {
         aggregate: Box<Aggregate>,
     },
@@ -49,14 +57,17 @@ pub enum Expr {
 #[derive(Drop)]
 #[cycle(tree)]
 pub enum ExprStep {
+    /// An operator with one operand.
     Binary {
         op: Operator,
         right: Expr,
     },
+    /// IN, or NOT IN where it is negated.
     In {
         is_negated: bool,
         items: Vec<Expr>,
     },
+    /// BETWEEN, or NOT BETWEEN where it is negated. The bounds are within.
     Between {
         is_negated: bool,
         low: Expr,

@@ -106,6 +106,15 @@ fn not_resolved(error: NameError) -> TextError
 }
 
 /// The query that a text asks for, or its fault: that of its grammar, else that of its names.
+///
+/// Parse holds what `parse` refuses, and Name what `resolve` does. Both have a byte place in the text, from 0.
+///
+/// ```
+/// let query = query_of_text(alloc, "SELECT uid FROM users")?;
+/// query.items.len()         // 1: the column `uid`
+/// query_of_text(alloc, "SELECT x FROM users")
+/// // Err(TextError::Name(NameError { place: 7, kind: NameKind::NoColumn }))
+/// ```
 pub fn query_of_text(alloc: Global, text: &str) -> Result<Query, TextError>
     ensures ok { IfOk result (λ q. query_in text.now ≡ Some (query_of q)) }
     ensures standing { IfOk result (λ q. IsStanding (query_of q)) }

@@ -21,15 +21,21 @@ pub trait Stands {
     /// What a turn may add.
     type Entry;
 
+    /// Whether the value stands for these entries from this start.
     ghost stands: { Self → Self.Start → List Self.Entry → Type 0 };
 }
 
 /// Where a seat stands between two turns.
 pub enum Phase {
+    /// It has drawn no ticket.
     Idle,
+    /// It is the first seat, between the two steps of a join.
     Joined,
+    /// It has drawn the ticket of this number, which isn't served yet.
     Waits(u64),
+    /// It has the value, and has seen all entries.
     InTurn,
+    /// Nothing is known of it any more.
     Spent,
 }
 

@@ -9,6 +9,7 @@ use std::marker::{Brand, PhantomData};
 pub trait Adds<E> {
     ghost use Rattle.std.specs.Prelude.{List};
 
+    /// The entries.
     ghost added: { List E };
 }
 
@@ -22,6 +23,7 @@ impl<E> Adds<E> for Brand {
 pub trait Says<E> {
     ghost use Rattle.std.specs.Prelude.{List};
 
+    /// The entries that the value says.
     ghost says: { Self → List E };
 }
 

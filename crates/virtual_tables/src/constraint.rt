@@ -15,10 +15,15 @@ use std::cmp::Ordering;
 /// How a column is compared with a literal.
 #[derive(Clone, Copy)]
 pub enum ConstraintOp {
+    /// The column equals the literal.
     Eq,
+    /// The column is below it.
     Lt,
+    /// The column is below it or equals it.
     Le,
+    /// The column is above it.
     Gt,
+    /// The column is above it or equals it.
     Ge,
 }
 
