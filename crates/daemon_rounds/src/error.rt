@@ -1,7 +1,7 @@
 //! Why a part of a tick isn't done.
 
 /// Why a part of a tick isn't done. What was added up to there stays in the state, and is not sealed.
-#[derive(Clone, Copy, PartialEq, Eq, Debug)]
+#[derive(Clone, Copy)]
 pub enum RoundError {
     /// The next event's or the next batch's number would pass 2^62.
     NumbersSpent,
@@ -10,7 +10,7 @@ pub enum RoundError {
 }
 
 /// Why a tick isn't done.
-#[derive(Clone, Copy, PartialEq, Eq, Debug)]
+#[derive(Clone, Copy)]
 pub enum FinishError {
     /// The next batch's number would pass 2^62.
     NumbersSpent,
@@ -23,7 +23,7 @@ pub enum FinishError {
 }
 
 /// Why the turn of a source isn't done.
-#[derive(Clone, Copy, PartialEq, Eq, Debug)]
+#[derive(Clone, Copy)]
 pub enum TurnError {
     /// The source failed.
     SourceFault,
@@ -34,7 +34,7 @@ pub enum TurnError {
 }
 
 /// Why a round of the sources isn't done.
-#[derive(Clone, Copy, PartialEq, Eq, Debug)]
+#[derive(Clone, Copy)]
 pub enum TakeError {
     /// The source at this place failed.
     SourceFault { place: usize },
@@ -45,7 +45,7 @@ pub enum TakeError {
 }
 
 /// Why the sources of a session aren't started.
-#[derive(Clone, Copy, PartialEq, Eq, Debug)]
+#[derive(Clone, Copy)]
 pub enum StartError {
     /// The source at this place failed.
     SourceFault { place: usize },
@@ -56,7 +56,7 @@ pub enum StartError {
 }
 
 /// Why a session isn't open.
-#[derive(Clone, Copy, PartialEq, Eq, Debug)]
+#[derive(Clone, Copy)]
 pub enum OpenError {
     /// The clock gave this moment, which is beyond the year 9999.
     MomentTooLarge { moment: u64 },

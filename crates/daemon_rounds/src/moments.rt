@@ -9,7 +9,7 @@ use osq_outside::Clock;
 const LAST_MOMENT: u64 = 253_402_300_799;
 
 /// The clock gave this moment, which is beyond the year 9999.
-#[derive(Clone, Copy, PartialEq, Eq, Debug)]
+#[derive(Clone, Copy)]
 pub struct MomentTooLarge {
     /// The reading, in seconds since 1970 UTC, above 253402300799.
     pub moment: u64,

@@ -15,7 +15,7 @@ use session_state::State;
 use std::alloc::Global;
 
 /// Why what was added is not kept and told.
-#[derive(Clone, Copy, PartialEq, Eq, Debug)]
+#[derive(Clone, Copy)]
 pub enum SealError {
     /// The keeper failed: it has all of the entries, or none.
     KeeperFault,

@@ -20,7 +20,7 @@ use source_feeds::Feed;
 use std::alloc::Global;
 
 /// Which sources take a step in a round.
-#[derive(Clone, Copy, PartialEq, Eq, Debug)]
+#[derive(Clone, Copy)]
 pub enum Which {
     /// All sources.
     Every,

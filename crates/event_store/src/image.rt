@@ -23,7 +23,7 @@ use std::marker::Model;
 const MOST: u64 = 1 << 62;
 
 /// Why events were not appended.
-#[derive(Clone, Copy, PartialEq, Eq, Debug)]
+#[derive(Clone, Copy)]
 pub enum StoreError {
     /// The last number would pass 2^62.
     NumbersSpent,

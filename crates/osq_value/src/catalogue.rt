@@ -7,7 +7,7 @@ ghost use Rattle.osq_value.specs.Described.{column, heading, id};
 use crate::value::TableId;
 
 /// What a column holds where a value of the other kind is written into it or compared with it.
-#[derive(Clone, Copy, PartialEq, Eq, Debug)]
+#[derive(Clone, Copy, PartialEq, Eq)]
 pub enum Affinity {
     /// Whole numbers: a text that spells one is that number.
     Integer,

@@ -7,7 +7,7 @@ use osq_value::{Copied, NoMemory, Sequence, Str};
 use std::alloc::Global;
 
 /// How a query reads the evented tables.
-#[derive(Clone, Copy, PartialEq, Eq, Debug)]
+#[derive(Clone, Copy)]
 pub enum Mode {
     /// Its slice of the events, each event once.
     Evented,
@@ -79,7 +79,7 @@ impl Copied for Scheduled {
 pub type ScheduledList = Sequence<Scheduled>;
 
 /// The form of result lines.
-#[derive(Clone, Copy, PartialEq, Eq, Debug)]
+#[derive(Clone, Copy)]
 pub enum Form {
     /// A line for each row.
     Event,

@@ -7,7 +7,7 @@ use daemon_rounds::{StartError, TakeError};
 use replay_rounds::LoadError;
 
 /// Why a question has no answer.
-#[derive(Clone, Copy, PartialEq, Eq, Debug)]
+#[derive(Clone, Copy)]
 pub enum AskError {
     /// The keeper failed.
     KeeperFault,

@@ -14,7 +14,7 @@ use entry_summary::fitting::fits;
 use std::alloc::Global;
 
 /// Why there are no values to go on from.
-#[derive(Clone, Copy, PartialEq, Eq, Debug)]
+#[derive(Clone, Copy)]
 pub enum LoadError {
     /// The keeper failed.
     KeeperFault,

@@ -17,7 +17,7 @@ use source_feeds::Feed;
 use std::alloc::Global;
 
 /// Why lines of the status stream aren't written.
-#[derive(Clone, Copy, PartialEq, Eq, Debug)]
+#[derive(Clone, Copy)]
 pub(crate) enum NoteError {
     /// The sink failed.
     SinkFault,

@@ -9,7 +9,7 @@ use daemon_rounds::{FinishError, OpenError, TakeError};
 use session_state::State;
 
 /// Why a session ends before its last tick is done.
-#[derive(Clone, Copy, PartialEq, Eq, Debug)]
+#[derive(Clone, Copy)]
 pub enum RunError {
     /// The keeper failed: at a seal it has all entries of the tick, or none.
     KeeperFault,
@@ -30,7 +30,7 @@ pub enum RunError {
 }
 
 /// The numbers of a kept list.
-#[derive(Clone, Copy, PartialEq, Eq, Debug)]
+#[derive(Clone, Copy)]
 pub struct Numbers {
     /// The number of the last event, or 0.
     pub events: u64,
@@ -41,7 +41,7 @@ pub struct Numbers {
 }
 
 /// A session that ended before its last tick was done.
-#[derive(Clone, Copy, PartialEq, Eq, Debug)]
+#[derive(Clone, Copy)]
 pub struct Refused {
     /// Why it ended.
     pub error: RunError,

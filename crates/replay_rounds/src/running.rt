@@ -36,7 +36,7 @@ use source_feeds::Feed;
 use std::alloc::Global;
 
 /// A session that ran all its ticks.
-#[derive(Clone, Copy, PartialEq, Eq, Debug)]
+#[derive(Clone, Copy)]
 pub struct Ended {
     /// Every source was read to its end.
     pub is_end: bool,

@@ -49,7 +49,7 @@ const MOST: u64 = (1 << 63) - 1;
 const LAST_BATCH: u64 = 1 << 62;
 
 /// Why a tick does not begin.
-#[derive(Clone, Copy, PartialEq, Eq, Debug)]
+#[derive(Clone, Copy)]
 pub enum TickRefusal {
     /// The query at this place of the schedule is due.
     StillDue { at: u32 },
@@ -60,7 +60,7 @@ pub enum TickRefusal {
 }
 
 /// Why a reading is not added.
-#[derive(Clone, Copy, PartialEq, Eq, Debug)]
+#[derive(Clone, Copy)]
 pub enum AppendError {
     /// The reading ends no further than the source was taken: up to the byte `kept`.
     Backwards { kept: u64 },
