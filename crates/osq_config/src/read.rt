@@ -27,7 +27,7 @@ pub const QUERIES: usize = 10000;
 ///
 /// The errors: NotJson where the document isn't UTF-8, or is no JSON (RFC 8259) behind these steps; WrongShape with the path of a key
 /// whose value has another kind, or that is missing; OutOfRange with the path of a key whose number or word isn't allowed;
-/// TooManyQueries for more than 10000 queries. The keys and their meaning are osquery's.
+/// TooManyQueries for more than 10000 queries. The keys are those of osquery; docs/CONFIGURATION.md says where their meaning differs.
 ///
 /// ```
 /// let config = read_config(alloc, b"{\"schedule\": {\"who\": {\"query\": \"SELECT uid FROM users\", \"interval\": 60}}}")?;
