@@ -64,7 +64,7 @@ pub struct Names<'a> {
 }
 
 /// The first column of the result with that alias.
-pub fn alias_at(name: &str, shown: &[Shown]) -> Option<usize>
+fn alias_at(name: &str, shown: &[Shown]) -> Option<usize>
     ensures { result ≡ alias_from name.now 0 (map shown_of shown.now) }
 {
     let mut number = 0usize;
@@ -158,7 +158,7 @@ fn meant(alloc: Global, names: &Names, name: Str, meaning: Meaning) -> Result<Ex
 
 /// The expression of a column, with its table or without.
 #[tactic(auto, unfolding(crate::specs::Naming::named))]
-pub fn named(
+pub(crate) fn named(
     alloc: Global,
     names: &Names,
     table: Option<Name>,

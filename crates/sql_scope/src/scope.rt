@@ -102,7 +102,7 @@ pub fn is_listed(name: &str, names: &[Str]) -> bool
 }
 
 /// Whether a table has the column, and its USING does not join it to that of an earlier table.
-pub fn has_own(name: &str, seen: &Seen) -> bool
+fn has_own(name: &str, seen: &Seen) -> bool
     requires { IsNarrow seen.now }
     ensures { result ≡ has_its_own name.now seen.now }
 {

@@ -77,7 +77,7 @@ pub fn span_text(alloc: Global, text: &str, span: Span) -> Result<Str, NoMemory>
 
 /// The text of a literal between single quotes.
 #[tactic(auto, unfolding(crate::specs::Spelling::literal_text))]
-pub fn literal_text(alloc: Global, text: &str, span: Span) -> Result<Str, NoMemory>
+pub(crate) fn literal_text(alloc: Global, text: &str, span: Span) -> Result<Str, NoMemory>
     ensures { IfOk result (λ made. made ≡ text_of_literal text.now span) }
 {
     let bytes = bytes_at(text.as_bytes(), span);

@@ -42,7 +42,7 @@ pub fn columns_seen(alloc: Global, table: TableId) -> Result<SourceColumnList, N
 }
 
 /// The texts of names.
-pub fn name_texts(alloc: Global, text: &str, names: &[Name]) -> Result<TextList, NoMemory>
+fn name_texts(alloc: Global, text: &str, names: &[Name]) -> Result<TextList, NoMemory>
     ensures { IfOk result (λ made. made ≡ map (text_of_name text.now) names.now) }
 {
     let mut texts = Sequence::new(alloc);
@@ -54,7 +54,7 @@ pub fn name_texts(alloc: Global, text: &str, names: &[Name]) -> Result<TextList,
 
 /// What a table is known by: its alias, or else its name.
 #[tactic(auto, unfolding(crate::specs::Scope::known_as))]
-pub fn known_as(alloc: Global, text: &str, table: &TableRef) -> Result<Str, NoMemory>
+fn known_as(alloc: Global, text: &str, table: &TableRef) -> Result<Str, NoMemory>
     ensures { IfOk result (λ known. known ≡ name_known text.now (ref_of table.now)) }
 {
     match table.alias {
