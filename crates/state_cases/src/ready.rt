@@ -133,6 +133,7 @@ fn is_before(first: &Scheduled, second: &Scheduled) -> bool
 }
 
 /// The names rise by their bytes.
+#[tactic(auto, using(crate::proofs::Rising::end_rises))]
 fn do_names_rise(queries: &[Scheduled]) -> bool
     ensures { result ≡ names_rise queries.now }
 {
