@@ -4,7 +4,7 @@ ghost use Rattle.std.specs.Prelude.{◌≡◌, ◌<◌, ◌≤◌, ◌^◌, ◌�
 ghost use Rattle.std.specs.Ordering.{nat_cmp, is_lt};
 ghost use Rattle.std.specs.Cmp.Lexicographic.{slice_cmp};
 ghost use Rattle.osq_value.specs.Catalogue.{width_of};
-ghost use Rattle.sql_meaning.specs.Meaning.{meaning};
+ghost use Rattle.sql_texts.specs.Meaning.{meaning};
 ghost use Rattle.pack_rules.specs.declared.schedule.Mode.TheVariants.{Evented};
 ghost use Rattle.entry_model.specs.Fits.{Fits};
 ghost use Rattle.entry_model.specs.Legal.{IsEvent};
@@ -18,8 +18,8 @@ use osq_value::{Event, EventList, NoMemory, Reading, RowList, TableId};
 use pack_rules::schedule::{Mode, Schedule, Scheduled};
 use session_state::Cut;
 use sql_meaning::plain_rows;
-use sql_names::answers::is_evented;
-use sql_names::text::{TextError, query_of_text};
+use sql_query::answers::is_evented;
+use sql_texts::text::{TextError, query_of_text};
 use std::alloc::Global;
 
 /// The last second of the calendar's years of four digits.
@@ -96,7 +96,7 @@ fn has_mode(mode: Mode, is_evented: bool) -> bool
 }
 
 /// The query's text is accepted, and its mode and interval are ones that it may have.
-#[tactic(auto, unfolding(sql_meaning::specs::Meaning::is_accepted, sql_meaning::specs::Meaning::names_evented))]
+#[tactic(auto, unfolding(sql_texts::specs::Meaning::is_accepted, sql_texts::specs::Meaning::names_evented))]
 fn is_runnable(alloc: Global, scheduled: &Scheduled) -> Result<bool, NoMemory>
     ensures { IfOk result (λ ready. IsTrue ready → IsRunnable scheduled.now) }
 {
@@ -170,7 +170,7 @@ pub(crate) fn is_sound(alloc: Global, schedule: &Schedule) -> Result<bool, NoMem
 }
 
 /// The rows that answer a cut; want of memory stands for a text that is refused.
-#[tactic(auto, unfolding(sql_meaning::specs::Meaning::meaning))]
+#[tactic(auto, unfolding(sql_texts::specs::Meaning::meaning))]
 pub(crate) fn answer(alloc: Global, cut: &Cut) -> Result<RowList, NoMemory>
     ensures { IfOk result (λ rows. rows ≡ meaning cut.now.key.text (rows_in cut.now.view)) }
 {

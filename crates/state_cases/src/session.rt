@@ -14,7 +14,7 @@ use entry_model::restored::Restored;
 use kept_queries::rows_behind;
 use osq_value::{NoMemory, Str, TextList};
 use session_state::{AppendError, CommitRefusal, Cut, State, TickRefusal};
-use sql_names::text::query_of_text;
+use sql_texts::text::query_of_text;
 use std::alloc::Global;
 use std::marker::Model;
 
