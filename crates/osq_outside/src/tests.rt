@@ -2,7 +2,7 @@
 
 use crate::{
     Clock, FileSink, FileSource, Files, FilesError, Gate, HostClock, HostFiles, OpenGate, Point,
-    SinkFault, Source, write_all,
+    Source, write_all,
 };
 use osq_value::Bytes;
 use std::cell::Cell;
@@ -36,13 +36,14 @@ impl Write for Narrow {
 #[test]
 fn streams_of_the_machine(rt: HostRuntime) -> Result<(), Failed> {
     let alloc = rt.alloc();
-    for (width, answer, written) in [(1, Ok(()), "abc"), (0, Err(SinkFault), "")] {
+    for (width, is_whole, written) in [(1, true, "abc"), (0, false, "")] {
         let mut narrow = Narrow {
             width,
             taken: Bytes::new(alloc),
         };
         let mut sink = FileSink::new(&mut narrow);
-        assert_eq!(rt; write_all(&mut sink, b"abc"), answer, "at width {width}");
+        let is_written = write_all(&mut sink, b"abc").is_ok();
+        assert_eq!(rt; is_written, is_whole, "at width {width}");
         assert_eq!(rt;
             narrow.taken.as_slice(),
             written.as_bytes(),
@@ -52,10 +53,10 @@ fn streams_of_the_machine(rt: HostRuntime) -> Result<(), Failed> {
 
     let mut source = FileSource::new(b"abcde".as_slice());
     let mut room = [0u8; 3];
-    assert_eq!(rt; source.read(&mut room), Ok(3));
+    assert!(rt; matches!(source.read(&mut room), Ok(3)));
     assert_eq!(rt; room, *b"abc");
-    assert_eq!(rt; source.read(&mut room), Ok(2));
-    assert_eq!(rt; source.read(&mut room), Ok(0));
+    assert!(rt; matches!(source.read(&mut room), Ok(2)));
+    assert!(rt; matches!(source.read(&mut room), Ok(0)));
     Ok(())
 }
 
