@@ -1,5 +1,8 @@
 //! Stories of one thread, with one seat or several.
 
+ghost use Rattle.turn_lock.specs.Words.{IsAtRest, IsSame};
+ghost use Rattle.shared_store.specs.Words.{IsSeatOf};
+
 use crate::given::{FILES, opened};
 use crate::turns::{Outcome, add_one, claimed, commit, last_cut};
 use osq_value::{NoMemory, Tables};
