@@ -23,7 +23,11 @@ pub(crate) fn push_expr(shown: &mut String, expr: &Expr) -> Result<(), NoMemory>
             at,
             affinity: _,
         } => Ok(write!(shown, "${source}.{column}@{at}")?),
-        Expr::Chain { first, steps } => push_chain(shown, first, steps),
+        Expr::Chain { first, steps } => {
+            shown.push_str("(")?;
+            push_expr(shown, first)?;
+            push_steps(shown, steps)
+        }
         Expr::Negation { inner } => push_signed(shown, "NOT ", inner),
         Expr::Minus { inner } => push_signed(shown, "-", inner),
         Expr::Plus { inner } => push_signed(shown, "+", inner),
@@ -36,10 +40,9 @@ pub(crate) fn push_expr(shown: &mut String, expr: &Expr) -> Result<(), NoMemory>
     }
 }
 
+/// Adds the steps of a chain, and the end of its parentheses.
 #[cycle(exprs)]
-fn push_chain(shown: &mut String, first: &Expr, steps: &[ExprStep]) -> Result<(), NoMemory> {
-    shown.push_str("(")?;
-    push_expr(shown, first)?;
+fn push_steps(shown: &mut String, steps: &[ExprStep]) -> Result<(), NoMemory> {
     for step in steps {
         push_step(shown, step)?;
     }

@@ -40,7 +40,11 @@ pub(crate) fn push_node(shown: &mut String, text: &str, node: &Node) -> Result<(
         Node::Text { span } => push_span(shown, text, *span),
         Node::Null => Ok(shown.push_str("NULL")?),
         Node::Column { table, column } => push_column(shown, text, *table, *column),
-        Node::Chain { first, steps } => push_chain(shown, text, first, steps),
+        Node::Chain { first, steps } => {
+            shown.push_str("(")?;
+            push_node(shown, text, first)?;
+            push_steps(shown, text, steps)
+        }
         Node::Negation { inner } => push_signed(shown, text, "NOT ", inner),
         Node::Minus { inner } => push_signed(shown, text, "-", inner),
         Node::Plus { inner } => push_signed(shown, text, "+", inner),
@@ -64,15 +68,9 @@ pub(crate) fn push_node(shown: &mut String, text: &str, node: &Node) -> Result<(
     }
 }
 
+/// Adds the steps of a chain, and the end of its parentheses.
 #[cycle(nodes)]
-fn push_chain(
-    shown: &mut String,
-    text: &str,
-    first: &Node,
-    steps: &[Step],
-) -> Result<(), NoMemory> {
-    shown.push_str("(")?;
-    push_node(shown, text, first)?;
+fn push_steps(shown: &mut String, text: &str, steps: &[Step]) -> Result<(), NoMemory> {
     for step in steps {
         push_step(shown, text, step)?;
     }
