@@ -1,5 +1,5 @@
 -- A state knows each cut that it knew before a call.
-use Rattle.std.proofs.Common.{◌≡◌, ℕ, ◌≤◌, Bool, true, false, List, [], ◌∷◌, Result, Ok, Err, sym, ap, subst, arith}
+use Rattle.std.proofs.Common.{◌≡◌, ℕ, Bool, true, false, List, [], ◌∷◌, Result, Ok, Err, sym, ap, subst, arith}
 use Rattle.std.specs.Prelude.{IfOk, OnOk, OnErr, MatchBool}
 use Rattle.osq_value.specs.declared.memory.NoMemory.{NoMemory}
 use Rattle.entry_model.specs.declared.entry.Entry.{Entry}

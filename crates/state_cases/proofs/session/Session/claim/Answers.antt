@@ -12,4 +12,4 @@ invariant_of-self-in_default c =
 pub invariant_of-self-2 : goal.invariant_of-self-2
 invariant_of-self-2 c =
     let open_still : All (IsCutOf c.claim_cut.new.self) c.reserve.new.self.items = subst (All (IsCutOf c.claim_cut.new.self)) (sym c.reserve.ensures.items) (still_all (IsCutOf c.self.inside.state) (IsCutOf c.claim_cut.new.self) c.self.inside.cuts.items c.claim_cut.ensures.cuts c.self.invariant) in
-    subst (All (IsCutOf c.claim_cut.new.self)) (sym c.push_reserved.ensures.items) (All-push (IsCutOf c.claim_cut.new.self) c.reserve.new.self.items c.in-Some.cut open_still c.in-Some.ensures.own)
+    subst (All (IsCutOf c.claim_cut.new.self)) (sym c.push_reserved.ensures.items) (All-push (IsCutOf c.claim_cut.new.self) c.reserve.new.self.items c.in-Some.cut open_still c.in-Some.in-Some-own)
