@@ -1,6 +1,7 @@
 use Rattle.std.proofs.Common.{sym, subst}
-use Rattle.std.specs.Prelude.{All}
+use Rattle.std.specs.Prelude.{All, IfSome, Option}
 use Rattle.std.proofs.lemmas.List.Elements.{All-push}
+use Rattle.session_state.specs.Cut.{CutValue}
 use Rattle.session_state.specs.CutOf.{IsCutOf}
 use Rattle.state_cases.proofs.Kept.{still_all}
 use Rattle.state_cases.proofs.session.Session.claim.Goals as goal
@@ -12,4 +13,5 @@ invariant_of-self-in_default c =
 pub invariant_of-self-2 : goal.invariant_of-self-2
 invariant_of-self-2 c =
     let open_still : All (IsCutOf c.claim_cut.new.self) c.reserve.new.self.items = subst (All (IsCutOf c.claim_cut.new.self)) (sym c.reserve.ensures.items) (still_all (IsCutOf c.self.inside.state) (IsCutOf c.claim_cut.new.self) c.self.inside.cuts.items c.claim_cut.ensures.cuts c.self.invariant) in
-    subst (All (IsCutOf c.claim_cut.new.self)) (sym c.push_reserved.ensures.items) (All-push (IsCutOf c.claim_cut.new.self) c.reserve.new.self.items c.in-Some.cut open_still c.in-Some.in-Some-own)
+    let own : IsCutOf c.claim_cut.new.self c.in-Some.cut = subst (λ (given : Option CutValue). IfSome given (IsCutOf c.claim_cut.new.self)) c.in-Some.is c.in_ok-cut.ensures.own in
+    subst (All (IsCutOf c.claim_cut.new.self)) (sym c.push_reserved.ensures.items) (All-push (IsCutOf c.claim_cut.new.self) c.reserve.new.self.items c.in-Some.cut open_still own)
