@@ -82,6 +82,12 @@ pub(crate) fn table_of(item: Option<&Json>) -> TableId {
     }
 }
 
+/// The first kind of which the line has a member.
+fn kind_of(line: &Json) -> Option<&'static str> {
+    let kind = KINDS.iter().find(|kind| line.get(**kind).is_some());
+    kind.copied()
+}
+
 /// The members that a line of this kind and name may have; none where there is no such call.
 fn members(kind: &str, name: &str) -> Option<&'static str> {
     if let Some((_, found)) = OTHERS.iter().find(|other| other.0 == kind) {
@@ -99,10 +105,10 @@ fn odd_member<'a>(line: &'a Json, kind: &str, words: &str) -> Option<&'a str> {
 }
 
 impl<'a> Call<'a> {
-    /// The call of a line, by the first kind of which it has a member.
+    /// The call of a line, by its kind.
     pub(crate) fn of(line: &'a Json) -> Option<Call<'a>> {
-        let kind = KINDS.iter().find(|kind| line.get(**kind).is_some())?;
-        Some(Call { kind: *kind, line })
+        let kind = kind_of(line)?;
+        Some(Call { kind, line })
     }
 
     /// What the line says of its kind: the name of a call.

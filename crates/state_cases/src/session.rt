@@ -37,30 +37,28 @@ impl Model for Session {
     ghost invariant = { λ s. All (IsCutOf s.state) s.cuts.items };
 }
 
-fn told_tick(alloc: Global, answered: Result<(), TickRefusal>) -> Result<String, NoMemory> {
-    match answered {
-        Ok(()) => told(alloc, "done"),
-        Err(TickRefusal::StillDue { at }) => Ok(format!(in alloc; " still due {at}")?),
-        Err(TickRefusal::ExpiryOwed { table }) => {
+/// What an unsound schedule is told by, and a sound one of no moment.
+const NO_SCHEDULE: &str = "no sound schedule of a moment";
+
+fn not_ticked(alloc: Global, refusal: TickRefusal) -> Result<String, NoMemory> {
+    match refusal {
+        TickRefusal::StillDue { at } => Ok(format!(in alloc; " still due {at}")?),
+        TickRefusal::ExpiryOwed { table } => {
             Ok(format!(in alloc; " expiry owed {}", table_name(table))?)
         }
-        Err(TickRefusal::NoMemory) => Err(NoMemory),
+        TickRefusal::NoMemory => Err(NoMemory),
     }
 }
 
-fn told_append(
-    alloc: Global,
-    answered: Result<(u64, u64), AppendError>,
-) -> Result<String, NoMemory> {
-    match answered {
-        Ok(found) => numbers(alloc, found),
-        Err(AppendError::Backwards { kept }) => Ok(format!(in alloc; " backwards, kept {kept}")?),
-        Err(AppendError::NumbersSpent) => told(alloc, "numbers spent"),
-        Err(AppendError::NoMemory) => Err(NoMemory),
+fn not_appended(alloc: Global, error: AppendError) -> Result<String, NoMemory> {
+    match error {
+        AppendError::Backwards { kept } => Ok(format!(in alloc; " backwards, kept {kept}")?),
+        AppendError::NumbersSpent => told(alloc, "numbers spent"),
+        AppendError::NoMemory => Err(NoMemory),
     }
 }
 
-fn told_refusal(alloc: Global, refusal: CommitRefusal) -> Result<String, NoMemory> {
+fn not_committed(alloc: Global, refusal: CommitRefusal) -> Result<String, NoMemory> {
     match refusal {
         CommitRefusal::Superseded { number, cut: _ } => {
             Ok(format!(in alloc; " superseded by {number}")?)
@@ -68,6 +66,14 @@ fn told_refusal(alloc: Global, refusal: CommitRefusal) -> Result<String, NoMemor
         CommitRefusal::Stale { position, cut: _ } => Ok(format!(in alloc; " stale by {position}")?),
         CommitRefusal::NumbersSpent { cut: _ } => told(alloc, "numbers spent"),
     }
+}
+
+fn told_done(alloc: Global, done: Result<bool, NoMemory>) -> Result<String, NoMemory> {
+    yes_or_no(alloc, done?)
+}
+
+fn told_expired(alloc: Global, count: Result<u32, NoMemory>) -> Result<String, NoMemory> {
+    Ok(format!(in alloc; " {} tables", count?)?)
 }
 
 fn told_cut(alloc: Global, cut: &Cut) -> Result<String, NoMemory> {
@@ -79,56 +85,61 @@ fn told_cut(alloc: Global, cut: &Cut) -> Result<String, NoMemory> {
 }
 
 fn configure(alloc: Global, state: &mut State, call: Call<'_>) -> Result<String, NoMemory>
-    ensures cuts { (cut : CutValue) → IsCutOf state.old cut → IsCutOf state.new cut }
+    ensures { (cut : CutValue) → IsCutOf state.old cut → IsCutOf state.new cut }
 {
     let moment = call.number("moment");
     let schedule = schedule(alloc, call)?;
-    if !is_moment(moment) || !is_sound(alloc, &schedule)? {
-        return told(alloc, "no sound schedule of a moment");
+    if !is_moment(moment) {
+        return told(alloc, NO_SCHEDULE);
+    }
+    if !is_sound(alloc, &schedule)? {
+        return told(alloc, NO_SCHEDULE);
     }
     state.configure(alloc, TextList::new(alloc), schedule, moment)?;
     told(alloc, "done")
 }
 
 fn tick(alloc: Global, state: &mut State, call: Call<'_>) -> Result<String, NoMemory>
-    ensures cuts { (cut : CutValue) → IsCutOf state.old cut → IsCutOf state.new cut }
+    ensures { (cut : CutValue) → IsCutOf state.old cut → IsCutOf state.new cut }
 {
     let moment = call.number("moment");
     if !is_moment(moment) {
         return told(alloc, "no moment");
     }
-    let answered = state.tick(moment);
-    told_tick(alloc, answered)
+    match state.tick(moment) {
+        Ok(()) => told(alloc, "done"),
+        Err(refusal) => not_ticked(alloc, refusal),
+    }
 }
 
 fn append(alloc: Global, state: &mut State, call: Call<'_>) -> Result<String, NoMemory>
-    ensures cuts { (cut : CutValue) → IsCutOf state.old cut → IsCutOf state.new cut }
+    ensures { (cut : CutValue) → IsCutOf state.old cut → IsCutOf state.new cut }
 {
     let source = Str::of(alloc, call.text("source"))?;
     let reading = reading(alloc, call)?;
     if !is_reading(&reading) {
         return told(alloc, "no reading");
     }
-    let answered = state.append(alloc, &source, reading);
-    told_append(alloc, answered)
+    match state.append(alloc, &source, reading) {
+        Ok(found) => numbers(alloc, found),
+        Err(error) => not_appended(alloc, error),
+    }
 }
 
 fn expire(alloc: Global, state: &mut State) -> Result<String, NoMemory>
-    ensures cuts { (cut : CutValue) → IsCutOf state.old cut → IsCutOf state.new cut }
+    ensures { (cut : CutValue) → IsCutOf state.old cut → IsCutOf state.new cut }
 {
-    let count = state.expire()?;
-    Ok(format!(in alloc; " {count} tables")?)
+    told_expired(alloc, state.expire())
 }
 
 fn acknowledge(alloc: Global, state: &mut State, call: Call<'_>) -> Result<String, NoMemory>
-    ensures cuts { (cut : CutValue) → IsCutOf state.old cut → IsCutOf state.new cut }
+    ensures { (cut : CutValue) → IsCutOf state.old cut → IsCutOf state.new cut }
 {
-    let done = state.acknowledge(call.number("upto"))?;
-    yes_or_no(alloc, done)
+    told_done(alloc, state.acknowledge(call.number("upto")))
 }
 
 fn take_tail(alloc: Global, state: &mut State) -> Result<String, NoMemory>
-    ensures cuts { (cut : CutValue) → IsCutOf state.old cut → IsCutOf state.new cut }
+    ensures { (cut : CutValue) → IsCutOf state.old cut → IsCutOf state.new cut }
 {
     let taken = state.take_tail(alloc)?;
     entries(alloc, &taken)
@@ -178,7 +189,7 @@ fn look(alloc: Global, state: &State, call: Call<'_>) -> Result<String, NoMemory
 
 /// A call that takes no cut and gives none.
 fn call_state(alloc: Global, state: &mut State, call: Call<'_>) -> Result<String, NoMemory>
-    ensures cuts { (cut : CutValue) → IsCutOf state.old cut → IsCutOf state.new cut }
+    ensures { (cut : CutValue) → IsCutOf state.old cut → IsCutOf state.new cut }
 {
     match call.name() {
         "configure" => configure(alloc, state, call),
@@ -199,7 +210,7 @@ fn commit(alloc: Global, state: &mut State, cut: Cut) -> Result<String, NoMemory
     let rows = answer(alloc, &cut)?;
     match state.commit(cut, rows) {
         Ok(number) => Ok(format!(in alloc; " batch {number}")?),
-        Err(refusal) => told_refusal(alloc, refusal),
+        Err(refusal) => not_committed(alloc, refusal),
     }
 }
 
