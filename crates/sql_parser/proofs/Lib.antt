@@ -4,6 +4,7 @@ pub mod Shorter
 pub mod Read
 pub mod Whole
 pub mod Calls
+pub mod Computed
 pub mod ReadSpelled
 pub mod SelectLists
 pub mod SelectArms
@@ -11,3 +12,5 @@ pub mod SelectStopped
 pub mod Told
 pub mod SelectTold
 pub mod WholeTold
+pub mod OneSelect
+pub mod Samples

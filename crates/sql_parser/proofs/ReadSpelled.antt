@@ -1,11 +1,5 @@
 -- What the grammar spells is what the computed reading gives.
 use Rattle.std.proofs.Common.{◌≡◌, ◌≢◌, ◌<◌, ◌≤◌, ◌+◌, ◌*◌, ℕ, suc, zero, List, length, Option, Some, None, Bool, refl, sym, ap, ◌∙◌, arith}
-use Rattle.std.specs.Prelude.{IfOk, Result, Ok, Err}
-use Rattle.sql_tree.specs.declared.tree.Node.{Node}
-use Rattle.sql_faults.specs.declared.error.ParseError.{ParseError}
-use Rattle.sql_tree.specs.View.{tree_of}
-use Rattle.sql_tokens.specs.Lexing.{tokens_of}
-use Rattle.sql_parser.specs.Text.{expression_of}
 use Rattle.sql_tokens.specs.declared.token.Token.{Token}
 use Rattle.sql_tokens.specs.declared.token.Kind.{Kind}
 use Rattle.sql_tokens.specs.declared.token.Kind.TheVariants as kind
@@ -18,14 +12,13 @@ use Rattle.sql_tokens.specs.declared.level.Sign.{Sign}
 use Rattle.sql_tokens.specs.declared.level.Sign.TheVariants as sign
 use Rattle.sql_tree.specs.declared.tree.Operator.TheVariants as op
 use Rattle.sql_tokens.specs.Tokens.{next, after}
-use Rattle.sql_tree.specs.Tree.{Tree, OneStep, Steps, no_steps, then, Trees, no_trees, and_tree, between, chained}
+use Rattle.sql_tree.specs.Tree.{Tree, OneStep, Steps, Trees, and_tree}
 use Rattle.sql_tree.specs.Tree as tree
 use Rattle.sql_tokens.specs.Levels.{sign_at}
 use Rattle.sql_faults.specs.Calls.{IsNamed, name_of, type_of}
 use Rattle.sql_faults.specs.Reading.{one_longer}
 use Rattle.sql_parser.specs.Grammar.{Class, chain, negated, signed, atom, operand, Spells, Further, SpellsStep, FurtherItems, SpellsList, SpellsNegated, SpellsBetween, a_chain, a_not, no_not, a_minus, a_plus, no_sign, a_number, a_text, a_null, in_parentheses, no_more, more, a_binary, an_is, an_is_not, an_in, a_between, a_negated, a_not_like, a_not_in, a_not_between, two_ends, no_items, some_items, last, one_more, a_column, a_table_column, a_call, a_cast, SpellsType, SpellsArguments, all_rows, distinct_arguments, plain_arguments, SpellsCounted, first_argument, FurtherArguments, last_argument, one_argument}
-use Rattle.sql_parser.specs.Whole.{IsTree}
-use Rattle.sql_parser.specs.Read.{tree_of_tokens, whole_by, ended, read, Reads, and_then, more_steps, steps_by, more_items, more_by, opened, step, negated_step, is_step, ends_of, negated_by, signed_by, atom_by, named_by, member_by, list_by, counted, arguments_by, type_by, type_named}
+use Rattle.sql_parser.proofs.Computed.{read, Reads, and_then, more_steps, steps_by, more_items, more_by, opened, step, negated_step, is_step, ends_of, negated_by, signed_by, atom_by, named_by, member_by, list_by, counted, arguments_by, type_by, type_named}
 use Rattle.sql_parser.proofs.Shorter.{shorter, shorter_step, after_shorter, named_no_end}
 use Rattle.sql_parser.proofs.Arms.{sign_no_end}
 
@@ -196,17 +189,3 @@ mutual
   computed_more f m b zero c = absurd (omega arith)
   computed_more (last_argument {ts = ts} {s = s} {items = items} k) m b (suc n) c = close_by (read m) n items s ts k
   computed_more (one_argument {ts = ts} {s = s} {before = before} k x f) m b (suc n) c = let u = after_shorter ts (λ e. cc) in let v = shorter x in comma_by (read m) n before s ts k ∙ rw (computed x m (omega arith)) (computed_more f m (omega arith) n (omega arith))
-
-pub computed_whole : (ts : List Token) (t : Tree) → IsTree ts t → tree_of_tokens ts ≡ Some t
-unfolding tree_of_tokens
-computed_whole ts t h = ap whole_by (computed h.spelled (12 * (length ts + 1)) (omega arith)) ∙ ap (λ (x : Kind). ended h.rest t x) h.ended
-
-some_same : (a b : Tree) (o : Option Tree) → o ≡ Some a → o ≡ Some b → a ≡ b
-some_same a b o p q = cc
-
-pub unique_tree : (ts : List Token) (a b : Tree) → IsTree ts a → IsTree ts b → a ≡ b
-unique_tree ts a b p q = some_same a b (tree_of_tokens ts) (computed_whole ts a p) (computed_whole ts b q)
-
-pub computed_ok : (text : List ℕ) (ts : List Token) (result : Result Node ParseError) → ts ≡ tokens_of text → IfOk result (λ node. IsTree ts (tree_of node)) → IfOk result (λ node. expression_of text ≡ Some (tree_of node))
-computed_ok text ts (Ok node) e h = ap tree_of_tokens (sym e) ∙ computed_whole ts (tree_of node) h
-computed_ok text ts (Err error) e h = tt

@@ -9,7 +9,7 @@ use Rattle.sql_faults.specs.declared.part.Optional.TheVariants as optional
 use Rattle.sql_tree.specs.Tree.{Tree}
 use Rattle.sql_tree.specs.Select.{ItemTree, RefTree, HavingTree, TermTree}
 use Rattle.sql_parser.specs.Descent.{Leads}
-use Rattle.sql_parser.specs.SelectRead.{opening, with_commas, item, sources, filter, keys, having, terms}
+use Rattle.sql_parser.specs.SelectGrammar.{SpellsOpening, WithCommas, SpellsItem, SpellsFrom, SpellsWhere, SpellsGroup, SpellsHaving, SpellsOrder}
 use Rattle.sql_parser.specs.SelectDescent.{IsFound, select_parts}
 use Rattle.sql_parser.proofs.Laws.{leads_on, leads_with}
 
@@ -35,23 +35,23 @@ after_items = May optional.From ∷ after_sources
 abbrev pub after_opening : List Part
 after_opening = Must rule.SelectItem ∷ May optional.SelectItems ∷ after_items
 
-pub leads_opening : {ts a : List Token} {b : Bool} → IsFound opening (One expected.Select ∷ May optional.Distinct ∷ []) [] ts b a → Leads select_parts after_opening ts a
+pub leads_opening : {ts a : List Token} {b : Bool} → IsFound SpellsOpening (One expected.Select ∷ May optional.Distinct ∷ []) [] ts b a → Leads select_parts after_opening ts a
 leads_opening h = leads_with after_opening h.leads
 
-pub leads_items : {ts a b : List Token} {xs : List ItemTree} → Leads select_parts after_opening ts a → IsFound (with_commas item) (Must rule.SelectItem ∷ May optional.SelectItems ∷ []) [] a xs b → Leads select_parts after_items ts b
+pub leads_items : {ts a b : List Token} {xs : List ItemTree} → Leads select_parts after_opening ts a → IsFound (WithCommas SpellsItem) (Must rule.SelectItem ∷ May optional.SelectItems ∷ []) [] a xs b → Leads select_parts after_items ts b
 leads_items l h = leads_on l (leads_with after_items h.leads)
 
-pub leads_sources : {ts a b : List Token} {xs : List RefTree} → Leads select_parts after_items ts a → IsFound sources (May optional.From ∷ []) [] a xs b → Leads select_parts after_sources ts b
+pub leads_sources : {ts a b : List Token} {xs : List RefTree} → Leads select_parts after_items ts a → IsFound SpellsFrom (May optional.From ∷ []) [] a xs b → Leads select_parts after_sources ts b
 leads_sources l h = leads_on l (leads_with after_sources h.leads)
 
-pub leads_filter : {ts a b : List Token} {x : Option Tree} → Leads select_parts after_sources ts a → IsFound filter (May optional.Where ∷ []) [] a x b → Leads select_parts after_filter ts b
+pub leads_filter : {ts a b : List Token} {x : Option Tree} → Leads select_parts after_sources ts a → IsFound SpellsWhere (May optional.Where ∷ []) [] a x b → Leads select_parts after_filter ts b
 leads_filter l h = leads_on l (leads_with after_filter h.leads)
 
-pub leads_keys : {ts a b : List Token} {xs : List Tree} → Leads select_parts after_filter ts a → IsFound keys (May optional.Group ∷ []) [] a xs b → Leads select_parts after_keys ts b
+pub leads_keys : {ts a b : List Token} {xs : List Tree} → Leads select_parts after_filter ts a → IsFound SpellsGroup (May optional.Group ∷ []) [] a xs b → Leads select_parts after_keys ts b
 leads_keys l h = leads_on l (leads_with after_keys h.leads)
 
-pub leads_having : {ts a b : List Token} {x : Option HavingTree} → Leads select_parts after_keys ts a → IsFound having (May optional.Having ∷ []) [] a x b → Leads select_parts after_having ts b
+pub leads_having : {ts a b : List Token} {x : Option HavingTree} → Leads select_parts after_keys ts a → IsFound SpellsHaving (May optional.Having ∷ []) [] a x b → Leads select_parts after_having ts b
 leads_having l h = leads_on l (leads_with after_having h.leads)
 
-pub leads_terms : {ts a b : List Token} {xs : List TermTree} → Leads select_parts after_having ts a → IsFound terms (May optional.Order ∷ []) [] a xs b → Leads select_parts after_terms ts b
+pub leads_terms : {ts a b : List Token} {xs : List TermTree} → Leads select_parts after_having ts a → IsFound SpellsOrder (May optional.Order ∷ []) [] a xs b → Leads select_parts after_terms ts b
 leads_terms l h = leads_on l (leads_with after_terms h.leads)

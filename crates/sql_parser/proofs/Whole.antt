@@ -1,5 +1,5 @@
 -- A whole expression, and the end behind it.
-use Rattle.std.proofs.Common.{◌≡◌, ◌≢◌, List, [], ◌∷◌, Bool, true, false, cond, ltb, Option, Some, None, Err, refl, sym, ap, subst, ◌∙◌}
+use Rattle.std.proofs.Common.{◌≡◌, ◌≢◌, List, [], ◌∷◌, Bool, true, false, cond, ltb, Option, Some, None, Err, refl, sym, subst, ◌∙◌}
 use Rattle.sql_tokens.specs.declared.token.Token.{Token}
 use Rattle.sql_faults.specs.declared.error.ParseError.{ParseError}
 use Rattle.sql_tokens.specs.declared.token.Kind.{Kind}
@@ -19,7 +19,7 @@ use Rattle.sql_parser.specs.Whole.{IsWhole, WholeDescends}
 use Rattle.sql_faults.specs.declared.part.Optional.TheVariants as optional
 use Rattle.sql_tokens.specs.Tokens.{after, is_end}
 use Rattle.sql_tree.specs.Select.{SelectTree}
-use Rattle.sql_parser.specs.SelectRead.{select_of_tokens, select_at, closing, closing_by, end_by}
+use Rattle.sql_parser.specs.SelectGrammar.{SpellsSelect, at_end, behind_semicolon, IsSelect}
 use Rattle.sql_parser.specs.SelectDescent.{IsFound, EndTold, SelectDescends, select_parts, end_parts}
 use Rattle.sql_faults.specs.Reading.{whole_select, semicolon_by}
 use Rattle.sql_parser.proofs.SelectArms.{leads_word}
@@ -77,18 +77,10 @@ is_end_yes other h = absurd (cc)
 pub is_end_no : (k : Kind) → is_end k ≡ false → k ≢ kind.End
 is_end_no k h e = let p : is_end kind.End ≡ false = subst (λ (x : Kind). is_end x ≡ false) e h in cc
 
-end_at : (s : SelectTree) (k : Kind) → is_end k ≡ true → end_by s k ≡ Some s
-end_at s kind.End h = refl
-end_at s other h = absurd (cc)
-
 unclosed_out : (k : Kind) → k ≢ kind.Semicolon → semicolon_by k ≡ None
 unfolding semicolon_by
 unclosed_out kind.Semicolon h = absurd (h refl)
 unclosed_out other h = refl
-
-closing_out : (s : SelectTree) (ts : List Token) (k : Kind) → k ≢ kind.Semicolon → closing_by s ts k ≡ end_by s k
-closing_out s ts kind.Semicolon h = absurd (h refl)
-closing_out s ts other h = refl
 
 leads_semicolon : (ts mid : List Token) → (next ts).kind ≡ kind.Semicolon → mid ≡ after ts → Leads (May optional.Semicolon ∷ []) [] ts mid
 unfolding semicolon_by
@@ -102,24 +94,23 @@ no_end ts h = (fails_one expected.End ts (end_misfit (next ts).kind h)).holds []
 
 pub told_behind : (b : Bool) (ts mid : List Token) → (next ts).kind ≡ kind.Semicolon → mid ≡ after ts → b ≡ is_end (next mid).kind → EndTold ts b
 told_behind true ts mid h m e = (
-  (λ s. ap (closing_by s ts) h ∙ end_at s (next (after ts)).kind (subst (λ (x : List Token). is_end (next x).kind ≡ true) m (sym e))),
+  behind_semicolon h (subst (λ (x : List Token). (next x).kind ≡ kind.End) m (is_end_yes (next mid).kind (sym e))),
   (leads_with (One expected.End ∷ []) (leads_semicolon ts mid h m)).holds [] ∙ ends mid (is_end_yes (next mid).kind (sym e)),
 )
 told_behind false ts mid h m e = λ f. no_end mid (is_end_no (next mid).kind (sym e)) (sym ((leads_with (One expected.End ∷ []) (leads_semicolon ts mid h m)).holds []) ∙ f)
 
 pub told_here : (b : Bool) (ts : List Token) → (next ts).kind ≢ kind.Semicolon → b ≡ is_end (next ts).kind → EndTold ts b
 told_here true ts h e = (
-  (λ s. closing_out s ts (next ts).kind h ∙ end_at s (next ts).kind (sym e)),
+  at_end (is_end_yes (next ts).kind (sym e)),
   (leads_with (One expected.End ∷ []) (no_semicolon ts h)).holds [] ∙ ends ts (is_end_yes (next ts).kind (sym e)),
 )
 told_here false ts h e = λ f. no_end ts (is_end_no (next ts).kind (sym e)) (sym ((leads_with (One expected.End ∷ []) (no_semicolon ts h)).holds []) ∙ f)
 
-pub whole_select_read : (tokens rest : List Token) (tree : SelectTree) (b : Bool) → IsFound select_at select_parts [] tokens tree rest → EndTold rest b → b ≡ true → (select_of_tokens tokens ≡ Some tree) × (faults whole_select tokens ≡ [])
-unfolding select_of_tokens
-whole_select_read tokens rest tree true h t e = (ap closing h.read ∙ t.0 tree, h.leads.holds end_parts ∙ t.1)
+pub whole_select_read : (tokens rest : List Token) (tree : SelectTree) (b : Bool) → IsFound SpellsSelect select_parts [] tokens tree rest → EndTold rest b → b ≡ true → IsSelect tokens tree × (faults whole_select tokens ≡ [])
+whole_select_read tokens rest tree true h t e = (record { rest = rest; spelled = h.spelled; ended = t.0 }, h.leads.holds end_parts ∙ t.1)
 whole_select_read tokens rest tree false h t e = absurd (cc)
 
-pub whole_select_unended : (tokens rest : List Token) (tree : SelectTree) (b : Bool) → IsFound select_at select_parts [] tokens tree rest → EndTold rest b → b ≡ false → faults whole_select tokens ≢ []
+pub whole_select_unended : (tokens rest : List Token) (tree : SelectTree) (b : Bool) → IsFound SpellsSelect select_parts [] tokens tree rest → EndTold rest b → b ≡ false → faults whole_select tokens ≢ []
 whole_select_unended tokens rest tree true h t e = absurd (cc)
 whole_select_unended tokens rest tree false h t e = λ f. t (sym (h.leads.holds end_parts) ∙ f)
 

@@ -1,7 +1,7 @@
 pub mod Grammar
+pub mod SelectGrammar
 pub mod Descent
 pub mod Whole
-pub mod Read
-pub mod SelectRead
 pub mod SelectDescent
+pub mod Judged
 pub mod Text

@@ -1,4 +1,4 @@
--- What a descent over a select has done of its reading.
+-- What a descent over a select has done of its reading. The private contracts of the parser alone speak of it.
 use Rattle.std.specs.Prelude.{◌≡◌, ◌≢◌, ◌≤◌, ◌<◌, List, [], ◌∷◌, ◌++◌, length, Option, Some, None, option_map, Result, Ok, Err, Bool, true, false}
 use Rattle.sql_tokens.specs.declared.token.Token.{Token}
 use Rattle.sql_tokens.specs.declared.token.Kind.{Kind}
@@ -7,34 +7,33 @@ use Rattle.sql_faults.specs.declared.part.Part.TheVariants.{One, May}
 use Rattle.sql_faults.specs.declared.part.Expected.TheVariants as expected
 use Rattle.sql_tree.specs.declared.select.Select.{Select}
 use Rattle.sql_parser.specs.declared.stop.Stop.TheVariants.{Refused, NoMemory}
-use Rattle.sql_tree.specs.Select.{SelectTree, select_of}
+use Rattle.sql_tree.specs.Select.{select_of}
 use Rattle.sql_faults.specs.declared.part.Optional.TheVariants as optional
 use Rattle.sql_parser.specs.declared.clauses.Form.{Form}
 use Rattle.sql_parser.specs.declared.clauses.Form.TheVariants as form
 use Rattle.sql_parser.specs.declared.stop.Stop.{Stop}
 use Rattle.sql_tokens.specs.Tokens.{next, after}
-use Rattle.sql_parser.specs.Read.{Found}
 use Rattle.sql_tree.specs.declared.tree.Name.{Name}
 use Rattle.sql_tree.specs.declared.tree.Node.{Node}
 use Rattle.sql_tree.specs.Tree.{Tree}
 use Rattle.sql_tree.specs.View.{tree_of}
 use Rattle.sql_faults.specs.Reading.{source_parts, beginning_parts, middle_parts, whole_select, faults}
 use Rattle.sql_parser.specs.Descent.{Leads, Stopped}
-use Rattle.sql_parser.specs.SelectRead.{join_form, closing_by, select_of_tokens}
+use Rattle.sql_parser.specs.SelectGrammar.{Spelling, SpellsForm, SpellsEnd, IsSelect}
 
 -- the next token was of this kind, and was taken
 abbrev pub Took : Kind → List Token → Bool → List Token → Type 0
 Took k old true new = ((next old).kind ≡ k) × (new ≡ after old)
 Took k old false new = ((next old).kind ≢ k) × (new ≡ old)
 
--- The rule finds this from old to new. Where `before` is expected at old, `later` is expected at new.
-pub record IsFound {X : Type 0} (rule : List Token → Found X) (before later : List Part) (old : List Token) (x : X) (new : List Token) : Type 0 where
-  pub read : rule old ≡ Some (x, new)
+-- This is spelled from old to new. Where `before` is expected at old, `later` is expected at new.
+pub record IsFound {X : Type 0} (rule : Spelling X) (before later : List Part) (old : List Token) (x : X) (new : List Token) : Type 0 where
+  pub spelled : rule old x new
   pub leads : Leads before later old new
   pub no_longer : length new ≤ length old
 
 -- what a function for a rule answers
-abbrev pub Finds : {A X : Type 0} → (A → X) → (List Token → Found X) → List Part → List Token → Result A Stop → List Token → Type 0
+abbrev pub Finds : {A X : Type 0} → (A → X) → Spelling X → List Part → List Token → Result A Stop → List Token → Type 0
 Finds view rule parts old (Ok a) new = IsFound rule parts [] old (view a) new
 Finds view rule parts old (Err e) new = Stopped parts old e
 
@@ -56,8 +55,8 @@ select_parts = beginning_parts ++ middle_parts ++ May optional.Order ∷ May opt
 
 -- how a further table is brought in, where there is one
 abbrev pub FormFound : List Token → Result (Option Form) Stop → List Token → Type 0
-FormFound old (Ok None) new = IsFound join_form (May optional.Sources ∷ []) [] old None new
-FormFound old (Ok (Some f)) new = IsFound join_form (May optional.Sources ∷ []) (form_parts f ++ May optional.Sources ∷ []) old (Some f) new × (length new < length old)
+FormFound old (Ok None) new = IsFound SpellsForm (May optional.Sources ∷ []) [] old None new
+FormFound old (Ok (Some f)) new = IsFound SpellsForm (May optional.Sources ∷ []) (form_parts f ++ May optional.Sources ∷ []) old (Some f) new × (length new < length old)
 FormFound old (Err e) new = Stopped (May optional.Sources ∷ []) old e
 
 -- what may end a text behind a select
@@ -65,11 +64,11 @@ abbrev pub end_parts : List Part
 end_parts = May optional.Semicolon ∷ One expected.End ∷ []
 
 abbrev pub EndTold : List Token → Bool → Type 0
-EndTold ts true = ((s : SelectTree) → closing_by s ts (next ts).kind ≡ Some s) × (faults end_parts ts ≡ [])
+EndTold ts true = SpellsEnd ts × (faults end_parts ts ≡ [])
 EndTold ts false = faults end_parts ts ≢ []
 
 -- what the descent over a whole text answers
 abbrev pub SelectDescends : List Token → Result Select Stop → Type 0
-SelectDescends tokens (Ok select) = (select_of_tokens tokens ≡ Some (select_of select)) × (faults whole_select tokens ≡ [])
+SelectDescends tokens (Ok select) = IsSelect tokens (select_of select) × (faults whole_select tokens ≡ [])
 SelectDescends tokens (Err Refused) = faults whole_select tokens ≢ []
 SelectDescends tokens (Err NoMemory) = Unit {0}

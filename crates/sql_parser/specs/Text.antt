@@ -1,24 +1,12 @@
--- A text of bytes: its tree, and its least fault.
+-- A text of bytes and its least fault.
 use Rattle.std.specs.Prelude.{ℕ, nat_lt, if◌then◌else◌, List, length, Option, Some}
 use Rattle.sql_faults.specs.declared.error.ParseError.{ParseError}
 use Rattle.sql_faults.specs.declared.error.ParseKind.TheVariants.{TextTooLong}
-use Rattle.sql_tree.specs.Tree.{Tree}
-use Rattle.sql_tree.specs.Select.{SelectTree}
-use Rattle.sql_parser.specs.SelectRead.{select_of_tokens}
 use Rattle.sql_tokens.specs.Lexing.{tokens_of}
-use Rattle.sql_parser.specs.Read.{tree_of_tokens}
 use Rattle.sql_faults.specs.Reading.{first_fault, whole, whole_select}
 
 abbrev pub too_long : ParseError
 too_long = record { place = 65536; kind = TextTooLong }
-
--- the tree of an expression
-abbrev pub expression_of : List ℕ → Option Tree
-expression_of text = tree_of_tokens (tokens_of text)
-
--- the tree of a select
-abbrev pub select_of_text : List ℕ → Option SelectTree
-select_of_text text = select_of_tokens (tokens_of text)
 
 -- the fault of least place, where there is one
 abbrev pub expression_fault : List ℕ → Option ParseError

@@ -11,7 +11,7 @@ ghost use Rattle.sql_tree.specs.View.{tree_of};
 ghost use Rattle.sql_faults.specs.Reading.{names_parts, source_parts, term_parts};
 ghost use Rattle.sql_tokens.specs.Tokens.{next, is_end};
 ghost use Rattle.sql_tree.specs.Select.{item_of, ref_of, having_of, term_of, select_of};
-ghost use Rattle.sql_parser.specs.SelectRead as read;
+ghost use Rattle.sql_parser.specs.SelectGrammar as grammar;
 ghost use Rattle.sql_parser.specs.SelectDescent.{Took, IsFound, Finds, FormFound, form_parts, condition_parts, condition_tree, select_parts, EndTold};
 
 use crate::descent::{self, name_of};
@@ -52,7 +52,7 @@ fn take(reader: &mut Reader<'_>, word: Clause) -> bool
 
 /// The name that stands next.
 fn name(reader: &mut Reader<'_>) -> Result<Name, Stop>
-    ensures { Finds (λ n. n) read.name (One expected.Name ∷ []) reader.old result reader.new }
+    ensures { Finds (λ n. n) grammar.SpellsName (One expected.Name ∷ []) reader.old result reader.new }
 {
     let token = reader.peek();
     if !is_name_kind(token.kind) {
@@ -64,7 +64,7 @@ fn name(reader: &mut Reader<'_>) -> Result<Name, Stop>
 
 /// What AS or a name alone calls an item or a table.
 fn alias(reader: &mut Reader<'_>) -> Result<Option<Name>, Stop>
-    ensures { Finds (λ n. n) read.alias (May optional.Alias ∷ []) reader.old result reader.new }
+    ensures { Finds (λ n. n) grammar.SpellsAlias (May optional.Alias ∷ []) reader.old result reader.new }
 {
     let token = reader.peek();
     if is_name_kind(token.kind) {
@@ -81,14 +81,14 @@ fn alias(reader: &mut Reader<'_>) -> Result<Option<Name>, Stop>
 
 /// An expression outside every parenthesis.
 fn expression(alloc: Global, reader: &mut Reader<'_>) -> Result<Node, Stop>
-    ensures { Finds tree_of read.expression (Must (rule.Chain level.Or 0) ∷ []) reader.old result reader.new }
+    ensures { Finds tree_of grammar.SpellsExpression (Must (rule.Chain level.Or 0) ∷ []) reader.old result reader.new }
 {
     descent::chain(alloc, reader, Level::Or, 0)
 }
 
 /// SELECT, and whether DISTINCT follows.
 fn opening(reader: &mut Reader<'_>) -> Result<bool, Stop>
-    ensures { Finds (λ b. b) read.opening (One expected.Select ∷ May optional.Distinct ∷ []) reader.old result reader.new }
+    ensures { Finds (λ b. b) grammar.SpellsOpening (One expected.Select ∷ May optional.Distinct ∷ []) reader.old result reader.new }
 {
     if !take(reader, Clause::Select) {
         return Err(Stop::Refused);
@@ -104,7 +104,7 @@ fn opening(reader: &mut Reader<'_>) -> Result<bool, Stop>
 
 /// An item that is an expression.
 fn expression_item(alloc: Global, reader: &mut Reader<'_>) -> Result<Item, Stop>
-    ensures { Finds item_of read.expression_item (Must (rule.Chain level.Or 0) ∷ May optional.Alias ∷ []) reader.old result reader.new }
+    ensures { Finds item_of grammar.SpellsExpressionItem (Must (rule.Chain level.Or 0) ∷ May optional.Alias ∷ []) reader.old result reader.new }
 {
     let start = reader.peek().span.start;
     let node = expression(alloc, reader)?;
@@ -118,7 +118,7 @@ fn expression_item(alloc: Global, reader: &mut Reader<'_>) -> Result<Item, Stop>
 }
 
 fn item(alloc: Global, reader: &mut Reader<'_>) -> Result<Item, Stop>
-    ensures { Finds item_of read.item (Must rule.SelectItem ∷ []) reader.old result reader.new }
+    ensures { Finds item_of grammar.SpellsItem (Must rule.SelectItem ∷ []) reader.old result reader.new }
 {
     let token = reader.peek();
     if reader.is_at_all_of() {
@@ -141,7 +141,7 @@ fn item(alloc: Global, reader: &mut Reader<'_>) -> Result<Item, Stop>
 }
 
 fn items(alloc: Global, reader: &mut Reader<'_>) -> Result<ItemList, Stop>
-    ensures { Finds (map item_of) (read.with_commas read.item) (Must rule.SelectItem ∷ May optional.SelectItems ∷ []) reader.old result reader.new }
+    ensures { Finds (map item_of) (grammar.WithCommas grammar.SpellsItem) (Must rule.SelectItem ∷ May optional.SelectItems ∷ []) reader.old result reader.new }
 {
     let mut items = ItemList::new(alloc);
     let first = item(alloc, reader)?;
@@ -156,7 +156,7 @@ fn items(alloc: Global, reader: &mut Reader<'_>) -> Result<ItemList, Stop>
 
 /// JOIN, by which a table is brought in so.
 fn join(reader: &mut Reader<'_>, form: Form) -> Result<Option<Form>, Stop>
-    ensures { Finds (λ f. f) (read.join form) (One expected.Join ∷ []) reader.old result reader.new }
+    ensures { Finds (λ f. f) (grammar.SpellsJoin form) (One expected.Join ∷ []) reader.old result reader.new }
 {
     if take(reader, Clause::Join) {
         Ok(Some(form))
@@ -167,7 +167,7 @@ fn join(reader: &mut Reader<'_>, form: Form) -> Result<Option<Form>, Stop>
 
 /// What follows LEFT.
 fn outer(reader: &mut Reader<'_>) -> Result<Option<Form>, Stop>
-    ensures { Finds (λ f. f) read.outer (Must rule.LeftJoin ∷ []) reader.old result reader.new }
+    ensures { Finds (λ f. f) grammar.SpellsOuterJoin (Must rule.LeftJoin ∷ []) reader.old result reader.new }
 {
     take(reader, Clause::Outer);
     join(reader, Form::Outer)
@@ -214,7 +214,7 @@ fn join_form(reader: &mut Reader<'_>) -> Result<Option<Form>, Stop>
 }
 
 fn name_list(alloc: Global, reader: &mut Reader<'_>) -> Result<NameList, Stop>
-    ensures { Finds (λ n. n) (read.with_commas read.name) (One expected.Name ∷ May optional.Names ∷ []) reader.old result reader.new }
+    ensures { Finds (λ n. n) (grammar.WithCommas grammar.SpellsName) (One expected.Name ∷ May optional.Names ∷ []) reader.old result reader.new }
 {
     let mut names = NameList::new(alloc);
     let first = name(reader)?;
@@ -229,7 +229,7 @@ fn name_list(alloc: Global, reader: &mut Reader<'_>) -> Result<NameList, Stop>
 
 /// The names of USING in their parentheses.
 fn names(alloc: Global, reader: &mut Reader<'_>) -> Result<NameList, Stop>
-    ensures { Finds (λ n. n) read.names names_parts reader.old result reader.new }
+    ensures { Finds (λ n. n) grammar.SpellsNames names_parts reader.old result reader.new }
 {
     let Kind::Open = reader.peek().kind else {
         return Err(Stop::Refused);
@@ -245,7 +245,7 @@ fn names(alloc: Global, reader: &mut Reader<'_>) -> Result<NameList, Stop>
 
 /// ON or USING.
 fn condition(alloc: Global, reader: &mut Reader<'_>) -> Result<(Option<Node>, NameList), Stop>
-    ensures { Finds condition_tree read.condition (May optional.Condition ∷ []) reader.old result reader.new }
+    ensures { Finds condition_tree grammar.SpellsCondition (May optional.Condition ∷ []) reader.old result reader.new }
 {
     if take(reader, Clause::On) {
         let node = expression(alloc, reader)?;
@@ -264,7 +264,7 @@ fn condition_of(
     reader: &mut Reader<'_>,
     form: Form,
 ) -> Result<(Option<Node>, NameList), Stop>
-    ensures { Finds condition_tree (read.condition_of form) (condition_parts form) reader.old result reader.new }
+    ensures { Finds condition_tree (grammar.SpellsConditionOf form) (condition_parts form) reader.old result reader.new }
 {
     match form {
         Form::Plain => Ok((None, NameList::new(alloc))),
@@ -273,14 +273,14 @@ fn condition_of(
 }
 
 fn is_outer(form: Form) -> bool
-    ensures { result ≡ read.is_outer form }
+    ensures { result ≡ grammar.is_outer form }
 {
     matches!(form, Form::Outer)
 }
 
 /// A table that is brought in so.
 fn source(alloc: Global, reader: &mut Reader<'_>, form: Form) -> Result<TableRef, Stop>
-    ensures { Finds ref_of (read.source form) (form_parts form) reader.old result reader.new }
+    ensures { Finds ref_of (grammar.SpellsTable form) (form_parts form) reader.old result reader.new }
 {
     let table = name(reader)?;
     let alias = alias(reader)?;
@@ -295,7 +295,7 @@ fn source(alloc: Global, reader: &mut Reader<'_>, form: Form) -> Result<TableRef
 }
 
 fn source_list(alloc: Global, reader: &mut Reader<'_>) -> Result<TableRefList, Stop>
-    ensures { Finds (map ref_of) (read.listed (read.source Form.Plain) read.further_source) (source_parts ++ May optional.Sources ∷ []) reader.old result reader.new }
+    ensures { Finds (map ref_of) grammar.SpellsTables (source_parts ++ May optional.Sources ∷ []) reader.old result reader.new }
 {
     let mut sources = TableRefList::new(alloc);
     let first = source(alloc, reader, Form::Plain)?;
@@ -309,7 +309,7 @@ fn source_list(alloc: Global, reader: &mut Reader<'_>) -> Result<TableRefList, S
 
 /// The tables of FROM.
 fn sources(alloc: Global, reader: &mut Reader<'_>) -> Result<TableRefList, Stop>
-    ensures { Finds (map ref_of) read.sources (May optional.From ∷ []) reader.old result reader.new }
+    ensures { Finds (map ref_of) grammar.SpellsFrom (May optional.From ∷ []) reader.old result reader.new }
 {
     if take(reader, Clause::From) {
         source_list(alloc, reader)
@@ -320,7 +320,7 @@ fn sources(alloc: Global, reader: &mut Reader<'_>) -> Result<TableRefList, Stop>
 
 /// The condition of WHERE.
 fn filter(alloc: Global, reader: &mut Reader<'_>) -> Result<Option<Node>, Stop>
-    ensures { Finds (option_map tree_of) read.filter (May optional.Where ∷ []) reader.old result reader.new }
+    ensures { Finds (option_map tree_of) grammar.SpellsWhere (May optional.Where ∷ []) reader.old result reader.new }
 {
     if !take(reader, Clause::Where) {
         return Ok(None);
@@ -330,7 +330,7 @@ fn filter(alloc: Global, reader: &mut Reader<'_>) -> Result<Option<Node>, Stop>
 }
 
 fn expression_list(alloc: Global, reader: &mut Reader<'_>) -> Result<NodeList, Stop>
-    ensures { Finds (map tree_of) (read.with_commas read.expression) (Must (rule.Chain level.Or 0) ∷ May (optional.Item 0) ∷ []) reader.old result reader.new }
+    ensures { Finds (map tree_of) (grammar.WithCommas grammar.SpellsExpression) (Must (rule.Chain level.Or 0) ∷ May (optional.Item 0) ∷ []) reader.old result reader.new }
 {
     let mut nodes = NodeList::new(alloc);
     let first = expression(alloc, reader)?;
@@ -345,7 +345,7 @@ fn expression_list(alloc: Global, reader: &mut Reader<'_>) -> Result<NodeList, S
 
 /// The expressions of GROUP BY.
 fn keys(alloc: Global, reader: &mut Reader<'_>) -> Result<NodeList, Stop>
-    ensures { Finds (map tree_of) read.keys (May optional.Group ∷ []) reader.old result reader.new }
+    ensures { Finds (map tree_of) grammar.SpellsGroup (May optional.Group ∷ []) reader.old result reader.new }
 {
     if !take(reader, Clause::Group) {
         return Ok(NodeList::new(alloc));
@@ -358,7 +358,7 @@ fn keys(alloc: Global, reader: &mut Reader<'_>) -> Result<NodeList, Stop>
 
 /// The condition of HAVING.
 fn having(alloc: Global, reader: &mut Reader<'_>) -> Result<Option<Having>, Stop>
-    ensures { Finds (option_map having_of) read.having (May optional.Having ∷ []) reader.old result reader.new }
+    ensures { Finds (option_map having_of) grammar.SpellsHaving (May optional.Having ∷ []) reader.old result reader.new }
 {
     let place = reader.peek().span.start;
     if !take(reader, Clause::Having) {
@@ -370,7 +370,7 @@ fn having(alloc: Global, reader: &mut Reader<'_>) -> Result<Option<Having>, Stop
 
 /// Whether a term is descending.
 fn direction(reader: &mut Reader<'_>) -> bool
-    ensures { IsFound read.direction (May optional.Direction ∷ []) [] reader.old result reader.new }
+    ensures { IsFound grammar.SpellsDirection (May optional.Direction ∷ []) [] reader.old result reader.new }
 {
     if take(reader, Clause::Asc) {
         return false;
@@ -379,7 +379,7 @@ fn direction(reader: &mut Reader<'_>) -> bool
 }
 
 fn term(alloc: Global, reader: &mut Reader<'_>) -> Result<Term, Stop>
-    ensures { Finds term_of read.term term_parts reader.old result reader.new }
+    ensures { Finds term_of grammar.SpellsTerm term_parts reader.old result reader.new }
 {
     let node = expression(alloc, reader)?;
     let is_descending = direction(reader);
@@ -390,7 +390,7 @@ fn term(alloc: Global, reader: &mut Reader<'_>) -> Result<Term, Stop>
 }
 
 fn term_list(alloc: Global, reader: &mut Reader<'_>) -> Result<TermList, Stop>
-    ensures { Finds (map term_of) (read.with_commas read.term) (term_parts ++ May optional.Terms ∷ []) reader.old result reader.new }
+    ensures { Finds (map term_of) (grammar.WithCommas grammar.SpellsTerm) (term_parts ++ May optional.Terms ∷ []) reader.old result reader.new }
 {
     let mut terms = TermList::new(alloc);
     let first = term(alloc, reader)?;
@@ -405,7 +405,7 @@ fn term_list(alloc: Global, reader: &mut Reader<'_>) -> Result<TermList, Stop>
 
 /// The terms of ORDER BY.
 fn terms(alloc: Global, reader: &mut Reader<'_>) -> Result<TermList, Stop>
-    ensures { Finds (map term_of) read.terms (May optional.Order ∷ []) reader.old result reader.new }
+    ensures { Finds (map term_of) grammar.SpellsOrder (May optional.Order ∷ []) reader.old result reader.new }
 {
     if !take(reader, Clause::Order) {
         return Ok(TermList::new(alloc));
@@ -418,7 +418,7 @@ fn terms(alloc: Global, reader: &mut Reader<'_>) -> Result<TermList, Stop>
 
 /// A number without a sign.
 fn number(reader: &mut Reader<'_>) -> Result<i64, Stop>
-    ensures { Finds (λ n. n) read.number (One expected.Number ∷ []) reader.old result reader.new }
+    ensures { Finds (λ n. n) grammar.SpellsNumber (One expected.Number ∷ []) reader.old result reader.new }
 {
     let Kind::Number(value) = reader.peek().kind else {
         return Err(Stop::Refused);
@@ -434,14 +434,14 @@ fn number(reader: &mut Reader<'_>) -> Result<i64, Stop>
 
 /// Minus the size of a number. A token's number has no sign, so that this is its negative.
 fn minus(number: i64) -> i64
-    ensures { result ≡ read.minus number }
+    ensures { result ≡ grammar.minus number }
 {
     if number > 0 { -number } else { number }
 }
 
 /// A number with or without a sign.
 fn integer(reader: &mut Reader<'_>) -> Result<i64, Stop>
-    ensures { Finds (λ n. n) read.integer (Must rule.Integer ∷ []) reader.old result reader.new }
+    ensures { Finds (λ n. n) grammar.SpellsInteger (Must rule.Integer ∷ []) reader.old result reader.new }
 {
     match reader.peek().kind {
         Kind::Plus => {
@@ -459,7 +459,7 @@ fn integer(reader: &mut Reader<'_>) -> Result<i64, Stop>
 
 /// The number of OFFSET.
 fn offset(reader: &mut Reader<'_>) -> Result<Option<i64>, Stop>
-    ensures { Finds (λ n. n) read.offset (May optional.Offset ∷ []) reader.old result reader.new }
+    ensures { Finds (λ n. n) grammar.SpellsOffset (May optional.Offset ∷ []) reader.old result reader.new }
 {
     if !take(reader, Clause::Offset) {
         return Ok(None);
@@ -470,7 +470,7 @@ fn offset(reader: &mut Reader<'_>) -> Result<Option<i64>, Stop>
 
 /// The numbers of LIMIT and OFFSET.
 fn limits(reader: &mut Reader<'_>) -> Result<(Option<i64>, Option<i64>), Stop>
-    ensures { Finds (λ n. n) read.limits (May optional.Limit ∷ []) reader.old result reader.new }
+    ensures { Finds (λ n. n) grammar.SpellsLimit (May optional.Limit ∷ []) reader.old result reader.new }
 {
     if !take(reader, Clause::Limit) {
         return Ok((None, None));
@@ -482,7 +482,7 @@ fn limits(reader: &mut Reader<'_>) -> Result<(Option<i64>, Option<i64>), Stop>
 
 /// A whole select, before what may end its text.
 pub(crate) fn select(alloc: Global, reader: &mut Reader<'_>) -> Result<Select, Stop>
-    ensures { Finds select_of read.select_at select_parts reader.old result reader.new }
+    ensures { Finds select_of grammar.SpellsSelect select_parts reader.old result reader.new }
 {
     let is_distinct = opening(reader)?;
     let items = items(alloc, reader)?;

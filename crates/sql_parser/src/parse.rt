@@ -3,13 +3,13 @@
 ghost use Rattle.std.specs.Prelude.{List, ℕ, ◌≡◌, ◌≢◌, OnOk, IfOk, Some, None};
 ghost use Rattle.sql_tree.specs.View.{tree_of};
 ghost use Rattle.sql_faults.specs.Reading.{first_fault, whole as whole_expression, whole_select};
-ghost use Rattle.sql_parser.specs.Read.{tree_of_tokens};
 ghost use Rattle.sql_tree.specs.Tree.{Tree};
 ghost use Rattle.sql_tokens.specs.Lexing.{tokens_of};
-ghost use Rattle.sql_parser.specs.Text.{expression_of, expression_fault, select_of_text, select_fault, too_long};
+ghost use Rattle.sql_parser.specs.Text.{expression_fault, select_fault, too_long};
 ghost use Rattle.sql_parser.specs.Whole.{IsTree, WholeDescends};
 ghost use Rattle.sql_tree.specs.Select.{SelectTree, select_of};
-ghost use Rattle.sql_parser.specs.SelectRead.{select_of_tokens};
+ghost use Rattle.sql_parser.specs.SelectGrammar.{IsSelect};
+ghost use Rattle.sql_parser.specs.Judged.{Judged};
 ghost use Rattle.sql_parser.specs.SelectDescent.{SelectDescends};
 ghost use Rattle.sql_faults.specs.declared.error.ParseKind.TheVariants.{NoMemory};
 
@@ -62,7 +62,7 @@ fn parse_tokens(alloc: Global, tokens: &[Token]) -> Result<Node, ParseError>
 /// The tree of an expression's text, or its least fault.
 /// The kinds of faults and the places are those of `parse`.
 pub fn parse_expression(alloc: Global, text: &str) -> Result<Node, ParseError>
-    ensures tree { IfOk result (λ node. expression_of text.now ≡ Some (tree_of node)) }
+    ensures tree { IfOk result (λ node. IsTree (tokens_of text.now) (tree_of node)) }
     ensures accepted { OnOk result (expression_fault text.now ≡ None) }
     // The error is the least fault.
     ensures refused { (error : ParseError) → result ≡ Err error → error.kind ≢ NoMemory → expression_fault text.now ≡ Some error }
@@ -88,7 +88,7 @@ fn whole_select(alloc: Global, tokens: &[Token]) -> Result<Select, Stop>
 
 /// The tree that the grammar gives for the tokens of a select.
 fn parse_select(alloc: Global, tokens: &[Token]) -> Result<Select, ParseError>
-    ensures tree { IfOk result (λ select. select_of_tokens tokens.now ≡ Some (select_of select)) }
+    ensures tree { IfOk result (λ select. IsSelect tokens.now (select_of select)) }
     ensures accepted { OnOk result (first_fault whole_select tokens.now ≡ None) }
     // The error is the least fault.
     ensures refused { (error : ParseError) → result ≡ Err error → error.kind ≢ NoMemory → first_fault whole_select tokens.now ≡ Some error }
@@ -119,7 +119,8 @@ fn parse_select(alloc: Global, tokens: &[Token]) -> Result<Select, ParseError>
 /// parse(alloc, "SELECT")    // Err(ParseError { place: 6, kind: ParseKind::NotInGrammar })
 /// ```
 pub fn parse(alloc: Global, text: &str) -> Result<Select, ParseError>
-    ensures tree { IfOk result (λ select. select_of_text text.now ≡ Some (select_of select)) }
+    // The grammar derives the tree from all tokens of the text.
+    ensures tree { IfOk result (λ select. IsSelect (tokens_of text.now) (select_of select)) }
     ensures accepted { OnOk result (select_fault text.now ≡ None) }
     // The error is the least fault.
     ensures refused { (error : ParseError) → result ≡ Err error → error.kind ≢ NoMemory → select_fault text.now ≡ Some error }
@@ -140,22 +141,22 @@ fn too_long() -> ParseError
     }
 }
 
-/// The tokens have at most one tree.
+/// The tokens of an expression have at most one tree.
 pub fn one_tree()
     ensures { (tokens : List Token) → (a b : Tree) → IsTree tokens a → IsTree tokens b → a ≡ b }
 {}
 
-/// The tree of the tokens is the one that the reading computes.
-pub fn computed_tree()
-    ensures { (tokens : List Token) → (tree : Tree) → IsTree tokens tree → tree_of_tokens tokens ≡ Some tree }
+/// The tokens of a select have at most one tree.
+pub fn one_select()
+    ensures { (tokens : List Token) → (a b : SelectTree) → IsSelect tokens a → IsSelect tokens b → a ≡ b }
 {}
 
 /// A text that has no fault as an expression has a tree.
 pub fn faultless_expression()
-    ensures { (text : List ℕ) → expression_fault text ≡ None → (tree : Tree) × (expression_of text ≡ Some tree) }
+    ensures { (text : List ℕ) → expression_fault text ≡ None → (tree : Tree) × IsTree (tokens_of text) tree }
 {}
 
-/// A text that has no fault as a select has a tree.
-pub fn faultless_select()
-    ensures { (text : List ℕ) → select_fault text ≡ None → (tree : SelectTree) × (select_of_text text ≡ Some tree) }
+/// Tokens that have no fault as a select have a tree.
+pub fn judged_select()
+    ensures { (tokens : List Token) → Judged tokens }
 {}

@@ -22,11 +22,15 @@ use Rattle.sql_scope.specs.declared.scope.Seen.{Seen}
 use Rattle.sql_scope.specs.Scope.{table_number, known_as, scope_of}
 use Rattle.sql_query.specs.Resolved.{source_column}
 use Rattle.sql_tree.specs.declared.tree.Name.{Name}
+use Rattle.sql_texts.specs.TextTree.{select_of_tokens}
 use Rattle.sql_texts.specs.Texts.{query_in}
+use Rattle.sql_texts.proofs.DerivedTree.{given_unfaulted}
+use Rattle.sql_tokens.specs.Tokens.{after}
 use Rattle.sql_scope.specs.Spelling.{name_text}
 use Rattle.sql_tokens.specs.Words.{clause_of, operator_of, function_of, other_of}
 use Rattle.sql_tree.specs.Select.{SelectTree, all}
-use Rattle.sql_parser.specs.SelectRead.{select_of_tokens, select_at, opening, distinct, item, expression_item, expression, listed, comma, alias, name, sources, source, condition, join_form, join, outer, further_source, names, filter, keys, having, terms, term, by_list, direction, limits, integer, number, offset}
+use Rattle.sql_parser.specs.SelectGrammar.{IsSelect}
+use Rattle.sql_parser.specs.SelectGrammar as grammar
 use Rattle.sql_faults.specs.Reading.{first_fault, whole_select, settled, faults, fits, found, wide, type_fault, select_item_by, other_item_by, or_by, and_by, negated_by, equal_by, less_by, sum_by, product_by, joined_by, signed_by, atom_by, distinct_by, select_items_by, alias_by, from_by, sources_by, where_by, group_by, having_by, order_by, limit_by, semicolon_by, names_by, condition_by, name_by, not_by, item_by, terms_by, direction_by, offset_by}
 
 abbrev pub known_text : List ℕ
@@ -55,13 +59,39 @@ known_select = record {
   skip = None;
 }
 
-pub select-known : select_of_tokens known_tokens ≡ Some known_select
-unfolding select_of_tokens select_at opening distinct item expression_item expression listed comma alias name sources source condition join_form join outer further_source names filter keys having terms term by_list direction limits integer number offset
-select-known = refl
-
 pub unfaulted-known : first_fault whole_select known_tokens ≡ None
 unfolding settled faults fits found wide type_fault select_item_by other_item_by or_by and_by negated_by equal_by less_by sum_by product_by joined_by signed_by atom_by distinct_by select_items_by alias_by from_by sources_by where_by group_by having_by order_by limit_by semicolon_by names_by condition_by name_by not_by item_by terms_by direction_by offset_by
 unfaulted-known = refl
+
+-- what stands behind the table
+abbrev known_end : List Token
+known_end = token_at kind.End 25 25 25 ∷ []
+
+derived-known : IsSelect known_tokens known_select
+derived-known = record {
+  rest = known_end;
+  spelled = record {
+    behind_opening = after known_tokens;
+    behind_items = after (after known_tokens);
+    behind_from = known_end;
+    behind_where = known_end;
+    behind_group = known_end;
+    behind_having = known_end;
+    behind_order = known_end;
+    opening = grammar.an_opening refl (grammar.no_distinct (λ e. cc));
+    items = grammar.listed (grammar.all_columns refl) (grammar.no_further (grammar.no_comma (λ e. cc)));
+    from = grammar.a_from refl (grammar.listed (grammar.a_table (grammar.a_name refl) (grammar.no_alias refl (λ e. cc)) (refl, refl)) (grammar.no_further (grammar.no_further_table (grammar.no_table (λ e. cc) (λ e. cc) (λ e. cc) (λ e. cc) (λ e. cc)))));
+    filter = grammar.no_where (λ e. cc);
+    group = grammar.no_group (λ e. cc);
+    having = grammar.no_having (λ e. cc);
+    order = grammar.no_order (λ e. cc);
+    limit = grammar.no_limit (λ e. cc);
+  };
+  ended = grammar.at_end refl;
+}
+
+pub select-known : select_of_tokens known_tokens ≡ Some known_select
+select-known = given_unfaulted known_tokens known_select unfaulted-known derived-known
 
 abbrev pub integers : List ℕ → SourceColumn
 integers name = record { name = name; affinity = Some affinity.Integer }

@@ -1,3 +1,4 @@
+pub mod DerivedTree
 pub mod TextAnswers
 pub mod TextStands
 pub mod Known

@@ -3,14 +3,18 @@ use Rattle.std.proofs.Common.{◌≡◌, ℕ, List, Option, Some, None, ap, ◌�
 use Rattle.std.specs.Option.{option_map}
 use Rattle.sql_faults.specs.declared.error.ParseError.{ParseError}
 use Rattle.sql_tree.specs.Select.{SelectTree}
-use Rattle.sql_parser.specs.Text.{select_of_text, select_fault}
+use Rattle.sql_tokens.specs.Lexing.{tokens_of}
+use Rattle.sql_parser.specs.SelectGrammar.{IsSelect}
+use Rattle.sql_parser.specs.Text.{select_fault}
 use Rattle.sql_names.specs.declared.error.NameError.{NameError}
+use Rattle.sql_texts.specs.TextTree.{select_of_text}
 use Rattle.sql_texts.specs.declared.text.TextError.TheVariants.{Parse, Name}
 use Rattle.sql_scope.specs.Mentions.{mentions_of_select}
 use Rattle.sql_names.specs.Resolve.{name_fault, resolved, unless_fault, names_of_select}
 use Rattle.sql_names.specs.Making.{query_tree}
 use Rattle.sql_texts.specs.Texts.{query_unless, query_in}
 use Rattle.sql_texts.specs.TextFaults.{fault_or, text_fault}
+use Rattle.sql_texts.proofs.DerivedTree.{tree_given}
 
 pub unparsed_fault : (text : List ℕ) (fault : ParseError) → select_fault text ≡ Some fault → text_fault text ≡ Some (Parse fault)
 unfolding text_fault
@@ -20,13 +24,13 @@ pub unparsed_query : (text : List ℕ) (fault : ParseError) → select_fault tex
 unfolding query_in
 unparsed_query text fault f = ap (λ (x : Option ParseError). query_unless x text (select_of_text text)) f
 
-pub parsed_fault : (text : List ℕ) (tree : SelectTree) → select_fault text ≡ None → select_of_text text ≡ Some tree → text_fault text ≡ option_map Name (name_fault text tree)
+pub parsed_fault : (text : List ℕ) (tree : SelectTree) → select_fault text ≡ None → IsSelect (tokens_of text) tree → text_fault text ≡ option_map Name (name_fault text tree)
 unfolding text_fault
-parsed_fault text tree n t = ap (λ (x : Option ParseError). fault_or x text (select_of_text text)) n ∙ ap (λ (x : Option SelectTree). fault_or None text x) t
+parsed_fault text tree n t = ap (λ (x : Option ParseError). fault_or x text (select_of_text text)) n ∙ ap (λ (x : Option SelectTree). fault_or None text x) (tree_given text tree n t)
 
-pub parsed_query : (text : List ℕ) (tree : SelectTree) → select_fault text ≡ None → select_of_text text ≡ Some tree → query_in text ≡ resolved text tree
+pub parsed_query : (text : List ℕ) (tree : SelectTree) → select_fault text ≡ None → IsSelect (tokens_of text) tree → query_in text ≡ resolved text tree
 unfolding query_in
-parsed_query text tree n t = ap (λ (x : Option ParseError). query_unless x text (select_of_text text)) n ∙ ap (λ (x : Option SelectTree). query_unless None text x) t
+parsed_query text tree n t = ap (λ (x : Option ParseError). query_unless x text (select_of_text text)) n ∙ ap (λ (x : Option SelectTree). query_unless None text x) (tree_given text tree n t)
 
 pub unresolved : (text : List ℕ) (tree : SelectTree) (fault : NameError) → name_fault text tree ≡ Some fault → resolved text tree ≡ None
 unfolding resolved

@@ -2,11 +2,12 @@
 use Rattle.std.proofs.Common.{◌≡◌, ℕ, List, Option, Some, None}
 use Rattle.std.proofs.lemmas.Option.{none-some}
 use Rattle.sql_faults.specs.declared.error.ParseError.{ParseError}
-use Rattle.sql_parser.specs.Text.{select_of_text, select_fault}
+use Rattle.sql_parser.specs.Text.{select_fault}
 use Rattle.sql_tree.specs.Select.{SelectTree}
 use Rattle.sql_query.specs.Resolved.{QueryTree}
 use Rattle.sql_query.specs.Standing.{IsStanding}
 use Rattle.sql_names.proofs.QueryStands.{resolved_stands}
+use Rattle.sql_texts.specs.TextTree.{select_of_text}
 use Rattle.sql_texts.specs.Texts.{query_unless, query_in}
 
 query_by : (fault : Option ParseError) (text : List ℕ) (select : Option SelectTree) (query : QueryTree) → query_unless fault text select ≡ Some query → IsStanding query

@@ -1,3 +1,4 @@
+pub mod TextTree
 pub mod Texts
 pub mod TextFaults
 pub mod Meaning

@@ -5,9 +5,10 @@ use Rattle.sql_faults.specs.declared.error.ParseError.{ParseError}
 use Rattle.sql_faults.specs.declared.error.ParseKind.{ParseKind}
 use Rattle.sql_faults.specs.declared.error.ParseKind.TheVariants as parse
 use Rattle.sql_tree.specs.Select.{SelectTree}
-use Rattle.sql_parser.specs.Text.{select_of_text, select_fault}
+use Rattle.sql_parser.specs.Text.{select_fault}
 use Rattle.sql_names.specs.declared.error.NameKind.{NameKind}
 use Rattle.sql_names.specs.declared.error.NameKind.TheVariants as name
+use Rattle.sql_texts.specs.TextTree.{select_of_text}
 use Rattle.sql_texts.specs.declared.text.TextError.{TextError}
 use Rattle.sql_texts.specs.declared.text.TextError.TheVariants.{Parse, Name, NoMemory}
 use Rattle.sql_names.specs.Resolve.{name_fault}

@@ -2,9 +2,10 @@
 use Rattle.std.specs.Prelude.{ℕ, List, Option, Some, None}
 use Rattle.sql_faults.specs.declared.error.ParseError.{ParseError}
 use Rattle.sql_tree.specs.Select.{SelectTree}
-use Rattle.sql_parser.specs.Text.{select_of_text, select_fault}
+use Rattle.sql_parser.specs.Text.{select_fault}
 use Rattle.sql_names.specs.Resolve.{resolved}
 use Rattle.sql_query.specs.Resolved.{QueryTree}
+use Rattle.sql_texts.specs.TextTree.{select_of_text}
 
 abbrev pub query_unless : Option ParseError → List ℕ → Option SelectTree → Option QueryTree
 query_unless (Some fault) text tree = None

@@ -1,11 +1,16 @@
 //! What a text asks for.
 
-ghost use Rattle.std.specs.Prelude.{◌≡◌, ◌≢◌, Some, None, IfOk, IfErr, OnOk};
+ghost use Rattle.std.specs.Prelude.{List, ℕ, ◌≡◌, ◌≢◌, Some, None, IfOk, IfErr, OnOk};
 ghost use Rattle.sql_faults.specs.declared.error.ParseKind.TheVariants.{NoMemory as ParseWantsMemory};
 ghost use Rattle.sql_names.specs.declared.error.NameKind.TheVariants.{NoMemory as NameWantsMemory};
 ghost use Rattle.sql_texts.specs.declared.text.TextError.TheVariants.{Parse, Name, NoMemory};
 ghost use Rattle.sql_query.specs.Resolved.{query_of};
 ghost use Rattle.sql_query.specs.Standing.{IsStanding};
+ghost use Rattle.sql_tokens.specs.Lexing.{tokens_of};
+ghost use Rattle.sql_tree.specs.Select.{SelectTree};
+ghost use Rattle.sql_parser.specs.SelectGrammar.{IsSelect};
+ghost use Rattle.sql_parser.specs.Text.{select_fault};
+ghost use Rattle.sql_texts.specs.TextTree.{select_of_text};
 ghost use Rattle.sql_texts.specs.Texts.{query_in};
 ghost use Rattle.sql_texts.specs.TextFaults.{text_fault, place_of_fault, parse_kind_name, name_kind_name, name_of_fault};
 
@@ -130,3 +135,9 @@ pub fn query_of_text(alloc: Global, text: &str) -> Result<Query, TextError>
         },
     }
 }
+
+/// The tree of a text, as a function of the text, is the one that the grammar derives from its tokens.
+pub fn derived_tree()
+    ensures derived { (text : List ℕ) → (tree : SelectTree) → select_of_text text ≡ Some tree → IsSelect (tokens_of text) tree }
+    ensures given { (text : List ℕ) → (tree : SelectTree) → select_fault text ≡ None → IsSelect (tokens_of text) tree → select_of_text text ≡ Some tree }
+{}

@@ -6,7 +6,7 @@ use Rattle.sql_faults.specs.declared.part.Optional.TheVariants as optional
 use Rattle.sql_tokens.specs.declared.level.Level.TheVariants as level
 use Rattle.std.proofs.lemmas.List.{map-append}
 use Rattle.sql_tree.specs.View.{tree_of}
-use Rattle.sql_parser.specs.SelectRead as read
+use Rattle.sql_parser.specs.SelectGrammar as grammar
 use Rattle.sql_parser.proofs.Arms.{kind_at, kind_not, stopped_with}
 use Rattle.sql_parser.proofs.SelectArms.{comma_start, comma_more, comma_end, comma_stopped, item_comma, item_no_comma}
 use Rattle.sql_parser.proofs.clauses.expression_list.Goals as goal
@@ -18,17 +18,17 @@ returns-in_err-first c =
 
 pub loop-reader-init : goal.loop-reader-init
 loop-reader-init c =
-    comma_start read.expression (Must (rule.Chain level.Or 0) ∷ []) (optional.Item 0) c.args.reader.now c.expression.new.reader (tree_of c.in_ok-first.first) _ c.in_ok-first.ensures (ap (map tree_of) (c.in_ok-push.ensures.ok ∙ ap (λ xs. xs ++ c.in_ok-first.first ∷ []) c.new-nodes.ensures))
+    comma_start grammar.SpellsExpression (Must (rule.Chain level.Or 0) ∷ []) (optional.Item 0) c.args.reader.now c.expression.new.reader (tree_of c.in_ok-first.first) _ c.in_ok-first.ensures (ap (map tree_of) (c.in_ok-push.ensures.ok ∙ ap (λ xs. xs ++ c.in_ok-first.first ∷ []) c.new-nodes.ensures))
 
 pub returns-in_err-further : goal.returns-in_err-further
 returns-in_err-further c =
     let p = err_from_is_err_and c.from_residual-in_err-further.result c.from_residual-in_err-further.ensures.1 in
-    rw (p.1, p.2) (comma_stopped read.expression (read.with_commas read.expression) (Must (rule.Chain level.Or 0) ∷ May (optional.Item 0) ∷ []) (Must (rule.Chain level.Or 0) ∷ []) (optional.Item 0) c.args.reader.now c.loop-reader.reader c.advance.new.self (map tree_of c.loop-reader.nodes) c.in_err-further.field-0.0 c.loop-reader.invariant (kind_at c.loop-reader.reader c.peek.ensures c.in-Comma.is) c.advance.ensures item_comma c.in_err-further.ensures)
+    rw (p.1, p.2) (comma_stopped grammar.SpellsExpression (grammar.WithCommas grammar.SpellsExpression) (Must (rule.Chain level.Or 0) ∷ May (optional.Item 0) ∷ []) (Must (rule.Chain level.Or 0) ∷ []) (optional.Item 0) c.args.reader.now c.loop-reader.reader c.advance.new.self (map tree_of c.loop-reader.nodes) c.in_err-further.field-0.0 c.loop-reader.invariant (kind_at c.loop-reader.reader c.peek.ensures c.in-Comma.is) c.advance.ensures item_comma c.in_err-further.ensures)
 
 pub loop-reader-preserved : goal.loop-reader-preserved
 loop-reader-preserved c =
-    comma_more read.expression (read.with_commas read.expression) (Must (rule.Chain level.Or 0) ∷ May (optional.Item 0) ∷ []) (Must (rule.Chain level.Or 0) ∷ []) (optional.Item 0) c.args.reader.now c.loop-reader.reader c.advance.new.self c.expression-in-Comma.new.reader (tree_of c.in_ok-further.further) (map tree_of c.loop-reader.nodes) _ c.loop-reader.invariant (kind_at c.loop-reader.reader c.peek.ensures c.in-Comma.is) c.advance.ensures item_comma c.in_ok-further.ensures (ap (map tree_of) (c.in_ok-push-2.ensures.ok) ∙ map-append tree_of c.loop-reader.nodes (c.in_ok-further.further ∷ []))
+    comma_more grammar.SpellsExpression (grammar.WithCommas grammar.SpellsExpression) (Must (rule.Chain level.Or 0) ∷ May (optional.Item 0) ∷ []) (Must (rule.Chain level.Or 0) ∷ []) (optional.Item 0) c.args.reader.now c.loop-reader.reader c.advance.new.self c.expression-in-Comma.new.reader (tree_of c.in_ok-further.further) (map tree_of c.loop-reader.nodes) _ c.loop-reader.invariant (kind_at c.loop-reader.reader c.peek.ensures c.in-Comma.is) c.advance.ensures item_comma c.in_ok-further.ensures (ap (map tree_of) (c.in_ok-push-2.ensures.ok) ∙ map-append tree_of c.loop-reader.nodes (c.in_ok-further.further ∷ []))
 
 pub returns : goal.returns
 returns c =
-    comma_end read.expression (read.with_commas read.expression) (Must (rule.Chain level.Or 0) ∷ May (optional.Item 0) ∷ []) (optional.Item 0) c.args.reader.now c.loop-reader.reader (map tree_of c.loop-reader.nodes) c.loop-reader.invariant (kind_not c.loop-reader.reader c.peek.ensures c.in_default.not-Comma) (item_no_comma _ (kind_not c.loop-reader.reader c.peek.ensures c.in_default.not-Comma))
+    comma_end grammar.SpellsExpression (grammar.WithCommas grammar.SpellsExpression) (Must (rule.Chain level.Or 0) ∷ May (optional.Item 0) ∷ []) (optional.Item 0) c.args.reader.now c.loop-reader.reader (map tree_of c.loop-reader.nodes) c.loop-reader.invariant (kind_not c.loop-reader.reader c.peek.ensures c.in_default.not-Comma) (item_no_comma _ (kind_not c.loop-reader.reader c.peek.ensures c.in_default.not-Comma))

