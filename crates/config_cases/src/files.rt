@@ -11,7 +11,7 @@ use std::str;
 
 fn push_error(text: &mut String, error: &ConfiguredError) -> Result<(), NoMemory> {
     match error {
-        ConfiguredError::Fault => text.push_str("Fault\n")?,
+        ConfiguredError::Fault { file } => writeln!(text, "Fault at {}", file.as_str())?,
         ConfiguredError::Missing => text.push_str("Missing\n")?,
         ConfiguredError::Refused { error } => push_refusal(text, error)?,
         ConfiguredError::NoMemory => return Err(NoMemory),

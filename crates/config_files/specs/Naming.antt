@@ -1,5 +1,6 @@
 -- How the error of a document is called, and what is told of a pack that is left out by it.
 use Rattle.std.specs.Prelude.{ℕ, List, [], ◌++◌, codes}
+use Rattle.control_escapes.specs.Escapes.{escaped_controls}
 use Rattle.osq_config.specs.declared.error.ConfigError.{ConfigError}
 use Rattle.osq_config.specs.declared.error.ConfigError.TheVariants.{NotJson, WrongShape, OutOfRange, TooManyQueries, NoMemory}
 
@@ -17,6 +18,6 @@ key_of_error (OutOfRange key) = key
 key_of_error TooManyQueries = []
 key_of_error NoMemory = []
 
--- the line for a pack that is left out
+-- the line for a pack that is left out, whose name ends no line
 abbrev pub left_out_line : List ℕ → List ℕ → List ℕ
-left_out_line name kind = codes "osqd: pack " ++ name ++ codes " left out: " ++ kind ++ codes "\n"
+left_out_line name kind = codes "osqd: pack " ++ escaped_controls name ++ codes " left out: " ++ kind ++ codes "\n"

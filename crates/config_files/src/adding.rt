@@ -1,16 +1,17 @@
 //! Adds the packs that stand in files of their own.
 
-ghost use Rattle.std.specs.Prelude.{◌≡◌, ℕ, List, [], ◌∷◌, ◌++◌, OnOk};
-ghost use Rattle.osq_outside.specs.Causes.{FaultHasCause};
-ghost use Rattle.osq_outside.specs.declared.files.FilesError.{FilesError};
+ghost use Rattle.std.specs.Prelude.{◌≡◌, ◌≤◌, ℕ, List, [], ◌∷◌, ◌++◌, IfErr, OnOk};
+ghost use Rattle.osq_outside.specs.Causes.{Rose};
 ghost use Rattle.config_files.specs.Adding.{AddsFile, AddsPack, AddsPacks};
+ghost use Rattle.config_files.specs.Refusals.{IsUnreadAt, IsUnreadOf};
 ghost use Rattle.config_files.specs.Texts.{texts_in};
 
 use crate::configured::Configured;
+use crate::error::ConfiguredError;
 use crate::naming::push_note;
 use crate::reading::pack_text;
 use osq_config::{Config, ConfigError, PackFile, add_pack};
-use osq_outside::{Files, FilesError};
+use osq_outside::Files;
 use osq_value::{Bytes, NoMemory};
 use std::alloc::Global;
 
@@ -37,11 +38,12 @@ fn add_file<F: Files>(
     files: &mut F,
     made: &mut Configured,
     pack: &PackFile,
-) -> Result<(), FilesError>
+) -> Result<(), ConfiguredError>
     ensures adds { OnOk result ((text line : List ℕ) × AddsFile F.tells (F.file files.old) pack.now made.old.config made.new.config text line
         × (made.new.documents ≡ made.old.documents ++ text ∷ []) × (made.new.notes ≡ made.old.notes ++ line)) }
-    ensures cause { FaultHasCause FilesError.Fault (F.faults files.old) (F.faults files.new) result }
+    ensures cause { IfErr result (IsUnreadAt pack.now.path (Rose (F.faults files.old) (F.faults files.new))) }
     ensures same { F.tells → (path : List ℕ) → F.file files.new path ≡ F.file files.old path }
+    ensures later { F.faults files.old ≤ F.faults files.new }
 {
     let text = pack_text(alloc, files, pack.path.as_str())?;
     add_text(
@@ -61,12 +63,13 @@ pub(crate) fn add_files<F: Files>(
     files: &mut F,
     made: &mut Configured,
     packs: &[PackFile],
-) -> Result<(), FilesError>
+) -> Result<(), ConfiguredError>
     ensures adds { OnOk result ((texts : List (List ℕ)) × (lines : List ℕ) × AddsPacks packs.now texts made.old.config made.new.config lines
         × (F.tells → texts ≡ texts_in (F.file files.old) packs.now)
         × (made.new.documents ≡ made.old.documents ++ texts) × (made.new.notes ≡ made.old.notes ++ lines)) }
-    ensures cause { FaultHasCause FilesError.Fault (F.faults files.old) (F.faults files.new) result }
+    ensures cause { IfErr result (IsUnreadOf packs.now (Rose (F.faults files.old) (F.faults files.new))) }
     ensures same { F.tells → (path : List ℕ) → F.file files.new path ≡ F.file files.old path }
+    ensures later { F.faults files.old ≤ F.faults files.new }
 {
     for pack in packs {
         add_file(alloc, files, made, pack)?;

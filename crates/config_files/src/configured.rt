@@ -26,7 +26,8 @@ pub struct Configured {
 }
 
 /// The configuration in the file of this path, with the packs that stand in files of their own. A pack whose file is missing or refused is
-/// left out. `Fault` comes only where the count of the files' faults rose, `Missing` exactly where there is no such file, and `Refused` by
+/// left out. `Fault` comes only where the count of the files' faults rose, and names the file that wasn't read, the path's or that of a pack of
+/// the configuration in it; `Missing` comes exactly where there is no such file, and `Refused` by
 /// the first fault of the file's document.
 /// A pack that is left out is no error: a note tells of it.
 pub fn read_configured<F: Files>(

@@ -1,14 +1,17 @@
 //! Why there is no configuration.
 
+ghost use Rattle.config_files.specs.Refusals.{IsUnread};
+
 use osq_config::ConfigError;
 use osq_outside::FilesError;
-use osq_value::NoMemory;
+use osq_value::{NoMemory, Str};
+use std::alloc::Global;
 
 /// Why a file gives no configuration.
 #[derive(Drop)]
 pub enum ConfiguredError {
-    /// The files failed.
-    Fault,
+    /// The files failed where this one was to be read.
+    Fault { file: Str },
     /// There is no such file.
     Missing,
     /// The document in the file is no configuration. The error isn't want of memory.
@@ -28,20 +31,6 @@ impl From<NoMemory> for ConfiguredError {
     }
 }
 
-impl From<FilesError> for ConfiguredError {
-    ghost use Rattle.std.specs.Prelude.{◌≡◌};
-    ghost use Rattle.config_files.specs.Refusals.{of_files};
-
-    ghost from_gives = { λ error refused. refused ≡ of_files error };
-
-    fn from(error: FilesError) -> Self {
-        match error {
-            FilesError::Fault => ConfiguredError::Fault,
-            FilesError::NoMemory => ConfiguredError::NoMemory,
-        }
-    }
-}
-
 impl From<ConfigError> for ConfiguredError {
     ghost use Rattle.std.specs.Prelude.{◌≡◌};
     ghost use Rattle.config_files.specs.Refusals.{of_document};
@@ -53,5 +42,18 @@ impl From<ConfigError> for ConfiguredError {
             ConfigError::NoMemory => ConfiguredError::NoMemory,
             error => ConfiguredError::Refused { error },
         }
+    }
+}
+
+/// The answer where the file of this path isn't read.
+pub(crate) fn unread(alloc: Global, path: &str, error: FilesError) -> ConfiguredError
+    ensures { IsUnread path.now error result }
+{
+    match error {
+        FilesError::NoMemory => ConfiguredError::NoMemory,
+        FilesError::Fault => match Str::of(alloc, path) {
+            Ok(file) => ConfiguredError::Fault { file },
+            Err(NoMemory) => ConfiguredError::NoMemory,
+        },
     }
 }

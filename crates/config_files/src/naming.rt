@@ -3,6 +3,7 @@
 ghost use Rattle.std.specs.Prelude.{◌≡◌, ◌++◌, OnOk};
 ghost use Rattle.config_files.specs.Naming.{key_of_error, kind_of_error, left_out_line};
 
+use control_escapes::push_text;
 use osq_config::ConfigError;
 use osq_value::{Bytes, NoMemory};
 
@@ -32,12 +33,12 @@ pub fn key_of(error: &ConfigError) -> &str
     }
 }
 
-/// Adds the line that tells that the pack of this name is left out for this error.
+/// Adds the line that tells that the pack of this name is left out for this error. Control characters of the name are escaped.
 pub(crate) fn push_note(notes: &mut Bytes, name: &str, error: &ConfigError) -> Result<(), NoMemory>
     ensures { OnOk result (notes.new ≡ notes.old ++ left_out_line name.now (kind_of_error error.now)) }
 {
     notes.extend(b"osqd: pack ")?;
-    notes.extend(name.as_bytes())?;
+    push_text(notes, name.as_bytes())?;
     notes.extend(b" left out: ")?;
     notes.extend(kind_of(error).as_bytes())?;
     notes.extend(b"\n")

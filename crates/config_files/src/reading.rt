@@ -4,16 +4,16 @@ ghost use Rattle.std.specs.Prelude.{◌≡◌, ◌≤◌, ℕ, List, [], ◌∷�
 ghost use Rattle.osq_config.specs.Counts.{fault_of_config};
 ghost use Rattle.osq_config.specs.Reads.{Answers};
 ghost use Rattle.osq_config.specs.Values.{config_of};
-ghost use Rattle.osq_outside.specs.Causes.{FaultHasCause, Rose};
-ghost use Rattle.osq_outside.specs.declared.files.FilesError.{FilesError};
+ghost use Rattle.osq_outside.specs.Causes.{Rose};
 ghost use Rattle.config_files.specs.Causes.{IsCaused};
+ghost use Rattle.config_files.specs.Refusals.{IsUnreadAt};
 ghost use Rattle.config_files.specs.Texts.{text_in, text_of};
 
 use crate::configured::Configured;
-use crate::error::ConfiguredError;
+use crate::error::{ConfiguredError, unread};
 use crate::text::text_of;
 use osq_config::{Config, read_config};
-use osq_outside::{Files, FilesError};
+use osq_outside::Files;
 use osq_value::{Bytes, NoMemory, Str, TextList};
 use std::alloc::Global;
 
@@ -32,6 +32,23 @@ fn begun(alloc: Global, config: Config, document: Bytes) -> Result<Configured, N
     })
 }
 
+/// The bytes of the file of this path, and `None` where there is no such file. A fault names the file.
+fn bytes_in<F: Files>(
+    alloc: Global,
+    files: &mut F,
+    path: &str,
+) -> Result<Option<Bytes>, ConfiguredError>
+    ensures bytes { F.tells → IfOk result (λ found. found ≡ F.file files.old path.now) }
+    ensures cause { IfErr result (IsUnreadAt path.now (Rose (F.faults files.old) (F.faults files.new))) }
+    ensures same { F.tells → (path : List ℕ) → F.file files.new path ≡ F.file files.old path }
+    ensures later { F.faults files.old ≤ F.faults files.new }
+{
+    match files.read(alloc, path) {
+        Ok(found) => Ok(found),
+        Err(error) => Err(unread(alloc, path, error)),
+    }
+}
+
 /// The configuration in the file of this path, before packs are added.
 pub(crate) fn config_in<F: Files>(
     alloc: Global,
@@ -44,24 +61,25 @@ pub(crate) fn config_in<F: Files>(
     ensures same { F.tells → (path : List ℕ) → F.file files.new path ≡ F.file files.old path }
     ensures later { F.faults files.old ≤ F.faults files.new }
 {
-    let Some(document) = files.read(alloc, path)? else {
+    let Some(document) = bytes_in(alloc, files, path)? else {
         return Err(ConfiguredError::Missing);
     };
     let config = read_config(alloc, document.as_slice())?;
     Ok(begun(alloc, config, document)?)
 }
 
-/// The text in a pack's file; the empty text where there is no such file or it isn't UTF-8.
+/// The text in a pack's file; the empty text where there is no such file or it isn't UTF-8. A fault names the file.
 pub(crate) fn pack_text<F: Files>(
     alloc: Global,
     files: &mut F,
     path: &str,
-) -> Result<Str, FilesError>
+) -> Result<Str, ConfiguredError>
     ensures text { F.tells → IfOk result (λ text. text ≡ text_in (F.file files.old path.now)) }
-    ensures cause { FaultHasCause FilesError.Fault (F.faults files.old) (F.faults files.new) result }
+    ensures cause { IfErr result (IsUnreadAt path.now (Rose (F.faults files.old) (F.faults files.new))) }
     ensures same { F.tells → (path : List ℕ) → F.file files.new path ≡ F.file files.old path }
+    ensures later { F.faults files.old ≤ F.faults files.new }
 {
-    match files.read(alloc, path)? {
+    match bytes_in(alloc, files, path)? {
         None => Ok(Str::empty()),
         Some(bytes) => Ok(text_of(bytes)),
     }

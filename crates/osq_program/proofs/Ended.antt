@@ -17,7 +17,7 @@ rose_behind first between now later rose = omega (arith, later, rose)
 pub later_then : (first between now : ℕ) → first ≤ between → between ≤ now → first ≤ now
 later_then first between now before behind = omega (arith, before, behind)
 
--- one of two sinks failed, the second between two other calls of it
-pub failed_between : (A : Type 0) (first from to now : ℕ) → first ≤ from → to ≤ now → A ⊎ Rose from to → A ⊎ Rose first now
-failed_between A first from to now before behind (inl failed) = inl failed
-failed_between A first from to now before behind (inr rose) = inr (omega (arith, before, behind, rose))
+-- one of two sinks failed, the second before another call of it
+pub failed_before : (A : Type 0) (first to now : ℕ) → to ≤ now → A ⊎ Rose first to → A ⊎ Rose first now
+failed_before A first to now behind (inl failed) = inl failed
+failed_before A first to now behind (inr rose) = inr (omega (arith, behind, rose))

@@ -3,7 +3,9 @@ use Rattle.std.proofs.Common.{◌≡◌, inl, inr, ◌≤◌, ℕ, Bool, true, f
 use Rattle.osq_value.specs.declared.reading.Category.{Category}
 use Rattle.osq_value.specs.declared.value.Value.{Value}
 use Rattle.entry_model.specs.declared.entry.Entry.{Entry}
+use Rattle.entry_model.specs.declared.restored.Taken.{Taken}
 use Rattle.entry_model.specs.Legal.{Legal}
+use Rattle.entry_model.specs.Summary.{summary}
 use Rattle.program_words.specs.declared.command.QueryWords.{QueryWords}
 use Rattle.sql_texts.specs.Meaning.{is_accepted, names_of}
 use Rattle.sql_query.specs.Answers.{result_names}
@@ -15,6 +17,7 @@ use Rattle.daemon_rounds.specs.declared.setup.SourceName.{SourceName as SessionS
 use Rattle.replay_rounds.specs.Sources.{sources_of}
 use Rattle.replay_rounds.specs.declared.refused.RunError.TheVariants as running
 use Rattle.query_rounds.specs.Asking as asking
+use Rattle.query_rounds.specs.Skipping.{TellsSkipped}
 use Rattle.query_rounds.specs.declared.asking.Asked.{Asked}
 use Rattle.query_rounds.specs.declared.error.AskError.{AskError}
 use Rattle.query_rounds.specs.declared.error.AskError.TheVariants as ask
@@ -128,7 +131,7 @@ pub no_memory : (words : QueryWords) (told : Told) (r : Status) → r ≡ OutOfM
     → (told.keeper_tells → told.kept_after ≡ told.kept_before) → IsQuery words told r
 no_memory words told r is same kept = subst (IsQuery words told) (sym is) (record { leaves = same; cause = λ refusal. tt; kept = kept })
 
--- the lines of packs that are left out could not be written
+-- the lines of packs that are left out, or of sources of which lines were skipped, could not be written
 pub untold : (words : QueryWords) (told : Told) (r : Status) → r ≡ SinkFault → IsPosed words told → told.status_failed → (told.sink_tells → told.results_after ≡ told.results_before)
     → (told.keeper_tells → told.kept_after ≡ told.kept_before) → IsQuery words told r
 untold words told r is posed failed same kept =
@@ -179,16 +182,24 @@ pub meant_for : (words : QueryWords) (tells : Type 0) (kept : List Entry) (names
 meant_for words tells kept names text moment rows named is meant =
     subst (λ (text : List ℕ). asking.IsMeant tells kept (map source_in words.sources) text moment rows) is (subst (λ (names : List SessionSource). asking.IsMeant tells kept names text moment rows) named meant)
 
+-- what its sources skipped is told of the sources that the words name
+pub skips_for : (words : QueryWords) (told : Told) (paths : List Category) (taken : List Taken) (names : List SessionSource) (all_bytes : List (List ℕ)) (is_end : Bool) (lines : List ℕ) → names ≡ map source_in words.sources
+    → told.all_bytes ≡ all_bytes → TellsSkipped told.source_tells paths taken names all_bytes is_end lines → TellsSkipped told.source_tells paths taken (map source_in words.sources) told.all_bytes is_end lines
+skips_for words told paths taken names all_bytes is_end lines named bytes skips =
+    subst (λ (bytes : List (List ℕ)). TellsSkipped told.source_tells paths taken (map source_in words.sources) bytes is_end lines) (sym bytes)
+    (subst (λ (names : List SessionSource). TellsSkipped told.source_tells paths taken names all_bytes is_end lines) named skips)
+
 -- the question was answered, and what was then written
 module _ (words : QueryWords) (told : Told) (posed : IsPosed words told) (moment : ℕ) (read : told.reads moment) (early : moment ≤ LAST_MOMENT) (asked : Asked)
     (meant : asking.IsMeant told.keeper_tells told.kept_before (map source_in words.sources) words.text moment asked.rows)
+    (taken : List Taken) (taken_is : told.keeper_tells → taken ≡ (summary told.kept_before).taken) (skips : TellsSkipped told.source_tells posed.watched.paths taken (map source_in words.sources) told.all_bytes asked.is_end asked.skipped)
     (answer : told.keeper_tells → told.source_tells → Legal told.kept_before → (given : Given) → IsGiven words told posed given → asking.IsAnswer given told.kept_before words.text words.ticks moment asked)
     (lines : List ℕ) (same : lines ≡ lines_in words asked) (kept : told.keeper_tells → told.kept_after ≡ told.kept_before) where
   abbrev has : (is_end : Bool) → asked.is_end ≡ is_end → HasAnswer words told is_end
-  has is_end end_is = record { posed = posed; moment = moment; read = read; early = early; asked = asked; end_is = end_is; meant = meant; answer = answer }
+  has is_end end_is = record { posed = posed; moment = moment; read = read; early = early; asked = asked; end_is = end_is; meant = meant; taken = taken; taken_is = taken_is; skips = skips; answer = answer }
 
   leaves_written : (s : Status) → Writes told.sink_tells asked.is_end told.results_before told.results_after lines told.results_failed s
-      → (IsDoneStatus s → told.sink_tells → told.status_after ≡ told.status_before ++ posed.watched.notes) → Leaves words told s
+      → (IsDoneStatus s → told.sink_tells → told.status_after ≡ told.status_before ++ (posed.watched.notes ++ asked.skipped)) → Leaves words told s
   leaves_written Done writes quiet =
       (has true writes.0, λ tells. (writes.1 tells ∙ ap (λ (ls : List ℕ). told.results_before ++ ls) same, quiet tt tells))
   leaves_written Usage writes quiet = absurd writes
@@ -223,7 +234,7 @@ module _ (words : QueryWords) (told : Told) (posed : IsPosed words told) (moment
   caused_written OutOfMemory writes refusal = tt
 
   pub answered : (s : Status) → Writes told.sink_tells asked.is_end told.results_before told.results_after lines told.results_failed s
-      → (IsDoneStatus s → told.sink_tells → told.status_after ≡ told.status_before ++ posed.watched.notes) → IsQuery words told s
+      → (IsDoneStatus s → told.sink_tells → told.status_after ≡ told.status_before ++ (posed.watched.notes ++ asked.skipped)) → IsQuery words told s
   answered s writes quiet = record { leaves = leaves_written s writes quiet; cause = caused_written s writes; kept = kept }
 
 -- a question ends as a session does, where it is for the same reason

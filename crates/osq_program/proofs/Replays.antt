@@ -20,7 +20,7 @@ use Rattle.replay_rounds.specs.declared.running.Ended.{Ended}
 use Rattle.replay_rounds.specs.declared.refused.RunError.{RunError}
 use Rattle.replay_rounds.specs.declared.refused.RunError.TheVariants as running
 use Rattle.replay_rounds.specs.Fixed.{given_of}
-use Rattle.replay_rounds.specs.Noting.{IsGrown}
+use Rattle.replay_rounds.specs.Noting.{HasTold}
 use Rattle.replay_rounds.specs.Running.{HasRun, IsKept, IsWritten}
 use Rattle.replay_rounds.specs.Sources.{sources_of}
 use Rattle.osq_program.specs.declared.status.Status.{Status}
@@ -145,11 +145,6 @@ pub no_memory : (words : ReplayWords) (told : Told) (r : Status) → r ≡ OutOf
     → IsReplay words told r
 no_memory words told r is kept same = unbegun words told OutOfMemory r is tt kept same
 
--- the lines of left out packs could not be written
-pub untold : (words : ReplayWords) (told : Told) (r : Status) → r ≡ SinkFault → IsAccepted words told → told.status_failed → (told.keeper_tells → told.kept_after ≡ told.kept_before)
-    → (told.sink_tells → told.results_after ≡ told.results_before) → IsReplay words told r
-untold words told r is accepted failed kept same = unbegun words told SinkFault r is (accepted, inr failed) kept same
-
 -- what a session is given by its setup
 abbrev pub given_is : {S : Type 0} (left : S → List ℕ) (words : ReplayWords) (told : Told) (setup : Setup) (config : Config) (documents : List (List ℕ)) (notes : List ℕ) (objects : List S) → setup ≡ setup_in words
     → told.all_bytes ≡ map left objects → IsConfigured told.files_tell told.file words.config config documents notes → IsGiven words told (given_of setup config documents left objects)
@@ -161,22 +156,17 @@ given_is left words told setup config documents notes objects is bytes configure
   records = ap (λ (s : Setup). s.records) is;
 }
 
--- what was written behind the notes, and then behind what the session told
-behind : (told : Told) (noted between notes text : List ℕ) → noted ≡ told.status_before ++ notes → IsGrown noted between → told.status_after ≡ between ++ text → IsToldBy told notes text
-behind told noted between notes text first (lines, second) third =
-    (lines, third ∙ ap (λ (t : List ℕ). t ++ text) (second ∙ ap (λ (t : List ℕ). t ++ lines) first) ∙ append_assoc (told.status_before ++ notes) lines text ∙ append_assoc told.status_before notes (lines ++ text))
-
 -- a session that did all its ticks, and what was then told of it
 module _ (words : ReplayWords) (told : Told) (status : Status) (given : Given) (is : IsGiven words told given) (ended : Ended)
-    (run : HasRun (fixed told given) told.has_read words.ticks told.kept_after told.results_after ended) (noted between : List ℕ) (notes_are : told.sink_tells → noted ≡ told.status_before ++ is.notes) (grown : told.sink_tells → IsGrown noted between) where
+    (run : HasRun (fixed told given) told.has_read words.ticks told.kept_after told.results_after ended) (between : List ℕ) (session : told.sink_tells → HasTold given.config given.host is.notes told.status_before between) where
   abbrev ran_with : (is_end : Bool) → ended.is_end ≡ is_end → Ran words told is_end
   ran_with is_end end_is = record { given = given; is = is; ended = ended; end_is = end_is; run = run }
 
-  told_by : (text : List ℕ) → told.sink_tells → told.status_after ≡ between ++ text → IsToldBy told is.notes text
-  told_by text tells written = behind told noted between is.notes text (notes_are tells) (grown tells) written
+  told_by : (text : List ℕ) → told.sink_tells → told.status_after ≡ between ++ text → IsToldBy told given is.notes text
+  told_by text tells written = (between, session tells, written)
 
   told_spent : (failed : Type 0) → (failed → told.status_failed) → told.sink_tells → (told.status_after ≡ between ++ (spent_line ++ final_line 11 ended.numbers 0)) ⊎ failed
-      → IsToldBy told is.notes (spent_line ++ final_line 11 ended.numbers 0) ⊎ told.status_failed
+      → IsToldBy told given is.notes (spent_line ++ final_line 11 ended.numbers 0) ⊎ told.status_failed
   told_spent failed more tells (inl written) = inl (told_by (spent_line ++ final_line 11 ended.numbers 0) tells written)
   told_spent failed more tells (inr rose) = inr (more rose)
 

@@ -1,5 +1,5 @@
 -- What `check` does.
-use Rattle.std.specs.Prelude.{◌≡◌, ◌≢◌, ◌⊎◌, ℕ, true, List, [], ◌++◌, map, flat_map, take, Option, None, codes}
+use Rattle.std.specs.Prelude.{◌≡◌, ◌≢◌, ◌⊎◌, ℕ, Bool, true, List, [], ◌++◌, map, flat_map, take, Option, None, codes}
 use Rattle.std.specs.Fmt.{decimal}
 use Rattle.osq_config.specs.declared.config.Config.{Config}
 use Rattle.osq_config.specs.declared.config.Pack.{Pack}
@@ -8,11 +8,13 @@ use Rattle.osq_config.specs.declared.error.ConfigError.TheVariants.{NoMemory}
 use Rattle.config_files.specs.Causes.{IsFaulty}
 use Rattle.config_files.specs.Configurations.{IsConfigured}
 use Rattle.config_files.specs.Naming.{key_of_error, kind_of_error}
+use Rattle.pack_rules.specs.declared.host.Host.{Host}
 use Rattle.pack_rules.specs.declared.schedule.Mode.{Mode}
 use Rattle.pack_rules.specs.declared.schedule.Mode.TheVariants.{Evented, Snapshot}
 use Rattle.pack_rules.specs.declared.schedule.Schedule.{Schedule}
 use Rattle.pack_rules.specs.declared.schedule.Scheduled.{Scheduled}
 use Rattle.pack_rules.specs.Schedules.{IsScheduleOf}
+use Rattle.schedule_notes.specs.Notes.{AreNotes}
 use Rattle.osq_program.specs.declared.status.Status.{Status}
 use Rattle.osq_program.specs.declared.status.Status.TheVariants.{Ok as Done, ConfigRefused, OutOfMemory, SinkFault}
 use Rattle.osq_program.specs.Answers.{Causes, IsCaused, IsSpentStatus, IsRefusal, no_causes}
@@ -47,18 +49,27 @@ Refuses error (ConfigRefused kind key) = (error ≢ NoMemory) × (kind.now ≡ k
 Refuses error OutOfMemory = error ≡ NoMemory
 Refuses error status = ⊥
 
--- a line for each query of the schedule that the configuration gives the host, with every pack found
-pub record IsListing (w : CheckWords) (config : Config) (lines : List ℕ) : Type 0 where
+abbrev pub checked_host : CheckWords → Host
+checked_host w = record { identifier = w.host; platform = w.platform; agent = w.agent }
+
+-- every pack counts as found
+abbrev pub all_found : Config → List Bool
+all_found config = map (λ (pack : Pack). true) config.packs
+
+-- a line for each query of the schedule that the configuration gives the host
+pub record IsListing (config : Config) (host : Host) (found : List Bool) (lines : List ℕ) : Type 0 where
   pub schedule : Schedule
-  pub is : IsScheduleOf config (record { identifier = w.host; platform = w.platform; agent = w.agent }) (map (λ (pack : Pack). true) config.packs) schedule
+  pub is : IsScheduleOf config host found schedule
   pub are : lines ≡ schedule_lines schedule.queries
 
--- the lines of a check: those of the schedule, and those that tell of packs that are left out
+-- the lines of a check: those of the schedule, and those that a session of it would tell of the configuration
 pub record HasLines (w : CheckWords) (told : Told) (lines notes : List ℕ) : Type 0 where
   pub config : Config
   pub documents : List (List ℕ)
-  pub configured : IsConfigured told.files_tell told.file w.config config documents notes
-  pub listing : IsListing w config lines
+  pub left_out : List ℕ
+  pub configured : IsConfigured told.files_tell told.file w.config config documents left_out
+  pub listing : IsListing config (checked_host w) (all_found config) lines
+  pub noted : AreNotes config (checked_host w) (all_found config) left_out notes
 
 -- the causes of a check
 abbrev pub causes_of : CheckWords → Told → Causes

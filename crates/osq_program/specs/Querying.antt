@@ -1,7 +1,9 @@
 -- What `query` does.
 use Rattle.std.specs.Prelude.{◌≡◌, ◌⊎◌, ◌<◌, ◌≤◌, ℕ, Bool, true, false, List, [], ◌∷◌, ◌++◌, map, take, flat_map, None, Some}
 use Rattle.osq_value.specs.declared.value.Value.{Value}
+use Rattle.entry_model.specs.declared.restored.Taken.{Taken}
 use Rattle.entry_model.specs.Legal.{Legal}
+use Rattle.entry_model.specs.Summary.{summary}
 use Rattle.program_words.specs.declared.command.QueryWords.{QueryWords}
 use Rattle.result_batches.specs.Labels.{labelled}
 use Rattle.result_batches.specs.Lines.{object}
@@ -10,6 +12,7 @@ use Rattle.sql_texts.specs.declared.text.TextError.{TextError}
 use Rattle.sql_texts.specs.TextFaults.{text_fault, place_of_fault, name_of_fault}
 use Rattle.session_model.specs.Given.{Given}
 use Rattle.query_rounds.specs.Asking.{IsAnswer, IsMeant, Spends}
+use Rattle.query_rounds.specs.Skipping.{TellsSkipped}
 use Rattle.query_rounds.specs.declared.asking.Asked.{Asked}
 use Rattle.osq_program.specs.declared.status.Status.{Status}
 use Rattle.osq_program.specs.declared.status.Status.TheVariants.{Ok as Done, SinkFault, TicksSpent, OutOfMemory}
@@ -45,7 +48,7 @@ pub record IsGiven (words : QueryWords) (told : Told) (posed : IsPosed words tol
   pub records : given.records ≡ words.records
 
 -- The question was answered at the clock's one reading, over the kept list and what the sources have behind it: they were read to their ends, or
--- one of them had more. Whatever the sources tell, the rows are those that the text means over the kept list, an opening, and entries for what they gave.
+-- one of them had more, and the lines that were skipped were counted. Whatever the sources tell, the rows are those that the text means over the kept list, an opening, and entries for what they gave.
 pub record HasAnswer (words : QueryWords) (told : Told) (is_end : Bool) : Type 0 where
   pub posed : IsPosed words told
   pub moment : ℕ
@@ -54,6 +57,9 @@ pub record HasAnswer (words : QueryWords) (told : Told) (is_end : Bool) : Type 0
   pub asked : Asked
   pub end_is : asked.is_end ≡ is_end
   pub meant : IsMeant told.keeper_tells told.kept_before (map source_in words.sources) words.text moment asked.rows
+  pub taken : List Taken
+  pub taken_is : told.keeper_tells → taken ≡ (summary told.kept_before).taken
+  pub skips : TellsSkipped told.source_tells posed.watched.paths taken (map source_in words.sources) told.all_bytes asked.is_end asked.skipped
   pub answer : told.keeper_tells → told.source_tells → Legal told.kept_before → (given : Given) → IsGiven words told posed given → IsAnswer given told.kept_before words.text words.ticks moment asked
 
 -- the lines of these rows
@@ -84,12 +90,12 @@ Writes tells is_end before after lines failed TicksSpent = (is_end ≡ false) ×
 Writes tells is_end before after lines failed OutOfMemory = tells → after ≡ before
 Writes tells is_end before after lines failed _ = ⊥
 
--- What each answer leaves in the results, and where the query is done on the status stream, which then tells of each pack that is left out. At a fault of
--- the status stream before the question was asked, and at any other refusal, the results are as before; at a fault of theirs they have a front
+-- What each answer leaves in the results, and where the query is done on the status stream, which then tells of each pack that is left out and of the
+-- lines that were skipped. At a fault of the status stream before the rows are written, and at any other refusal, the results are as before; at a fault of theirs they have a front
 -- part of the lines.
 abbrev pub Leaves : QueryWords → Told → Status → Type 0
 Leaves words told Done = (has : HasAnswer words told true)
-    × (told.sink_tells → (told.results_after ≡ told.results_before ++ lines_in words has.asked) × (told.status_after ≡ told.status_before ++ has.posed.watched.notes))
+    × (told.sink_tells → (told.results_after ≡ told.results_before ++ lines_in words has.asked) × (told.status_after ≡ told.status_before ++ (has.posed.watched.notes ++ has.asked.skipped)))
 Leaves words told SinkFault = (told.status_failed × (told.sink_tells → told.results_after ≡ told.results_before))
     ⊎ ((has : HasAnswer words told true) × told.results_failed × (told.sink_tells → (count : ℕ) × (told.results_after ≡ told.results_before ++ take count (lines_in words has.asked))))
 Leaves words told TicksSpent = HasAnswer words told false × (told.sink_tells → told.results_after ≡ told.results_before)

@@ -5,6 +5,7 @@ use Rattle.program_words.specs.declared.command.ReplayWords.{ReplayWords}
 use Rattle.session_model.specs.Given.{Given}
 use Rattle.replay_rounds.specs.declared.running.Ended.{Ended}
 use Rattle.replay_rounds.specs.Fixed.{Fixed}
+use Rattle.replay_rounds.specs.Noting.{HasTold}
 use Rattle.replay_rounds.specs.Running.{HasRun, IsKept, IsWritten}
 use Rattle.replay_rounds.specs.Spent.{HasSpent}
 use Rattle.osq_program.specs.declared.status.Status.{Status}
@@ -68,14 +69,16 @@ causes_of words told =
       sink = IsAccepted words told × (told.results_failed ⊎ told.status_failed);
     }
 
--- The status stream has grown by the lines of packs that are left out, by those that the session told, and by these.
-abbrev pub IsToldBy : Told → List ℕ → List ℕ → Type 0
-IsToldBy told notes last = (lines : List ℕ) × (told.status_after ≡ told.status_before ++ (notes ++ (lines ++ last)))
+-- The status stream has grown by what the session told: of its configuration with the packs that are left out, of each later one, and of
+-- skipped lines; and then by these.
+abbrev pub IsToldBy : Told → Given → List ℕ → List ℕ → Type 0
+IsToldBy told given left_out last =
+    (between : List ℕ) × HasTold given.config given.host left_out told.status_before between × (told.status_after ≡ between ++ last)
 
 pub record IsReplay (words : ReplayWords) (told : Told) (status : Status) : Type 0 where
-  pub done : IsDoneStatus status → (ran : Ran words told true) × (told.sink_tells → IsToldBy told ran.is.notes (final_line 0 ran.ended.numbers 0))
+  pub done : IsDoneStatus status → (ran : Ran words told true) × (told.sink_tells → IsToldBy told ran.given ran.is.notes (final_line 0 ran.ended.numbers 0))
   pub spent : IsSpentStatus status → (ran : Ran words told false)
-      × (told.sink_tells → IsToldBy told ran.is.notes (spent_line ++ final_line 11 ran.ended.numbers 0) ⊎ told.status_failed)
+      × (told.sink_tells → IsToldBy told ran.given ran.is.notes (spent_line ++ final_line 11 ran.ended.numbers 0) ⊎ told.status_failed)
   pub cause : IsRefusal status → IsCaused (causes_of words told) status
   -- however it ends
   pub kept : told.keeper_tells → (told.kept_after ≡ told.kept_before) ⊎ ((given : Given) × IsGiven words told given × IsKept (fixed told given) told.has_read told.kept_after)

@@ -1,10 +1,15 @@
 -- The lines of the status stream that clauses speak of.
 use Rattle.std.specs.Prelude.{ℕ, ◌+◌, nat_lt, if◌then◌else◌, List, ◌++◌, codes}
 use Rattle.std.specs.Fmt.{decimal}
+use Rattle.control_escapes.specs.Escapes.{escaped_controls}
 use Rattle.replay_rounds.specs.declared.refused.Numbers.{Numbers}
 
 abbrev pub usage_text : List ℕ
 usage_text = codes "usage: osqd COMMAND [OPTIONS]\n"
+
+-- a file can't be read
+abbrev pub unread_line : List ℕ → List ℕ
+unread_line file = codes "osqd: file " ++ escaped_controls file ++ codes " can't be read\n"
 
 -- of so many batches the first that the collector has not acknowledged, or 0
 abbrev pub next_of : ℕ → ℕ → ℕ

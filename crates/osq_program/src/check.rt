@@ -1,12 +1,13 @@
 //! The command `check`: the schedule that a configuration gives a host.
 
-ghost use Rattle.std.specs.Prelude.{◌≡◌, ℕ, ◌∷◌, [], true, map, IfOk};
+ghost use Rattle.std.specs.Prelude.{◌≡◌, ℕ, ◌∷◌, [], true, map, length, IfOk};
 ghost use Rattle.osq_config.specs.declared.config.Pack.{Pack};
 ghost use Rattle.osq_outside.specs.Causes.{Rose};
 ghost use Rattle.daemon_rounds.specs.Rounding.{FailsAt};
 ghost use Rattle.replay_rounds.specs.Running.{ReadsAll};
 ghost use Rattle.osq_program.specs.Answers.{IsUsageStatus};
-ghost use Rattle.osq_program.specs.Checking.{IsCheck, IsListing};
+ghost use Rattle.osq_program.specs.Checking.{IsCheck, IsListing, all_found, checked_host};
+ghost use Rattle.schedule_notes.specs.Notes.{AreNotes};
 
 use crate::configuration::configured;
 use crate::link::Link;
@@ -14,13 +15,15 @@ use crate::outside::Outside;
 use crate::schedule_lines::lines_of;
 use crate::setup::host_of;
 use crate::status::Status;
-use crate::stop::refuse;
+use crate::stop::{refuse, refuse_unconfigured};
 use batch_keeper::Keeper;
+use config_files::Configured;
 use osq_config::{Config, Pack};
 use osq_outside::{Clock, Files, Sink, Source, write_all};
 use osq_value::{Bytes, NoMemory};
-use pack_rules::schedule_of;
+use pack_rules::{Host, schedule_of};
 use program_words::CheckWords;
+use schedule_notes::schedule_notes;
 use std::alloc::Global;
 
 /// One truth value for each pack: every pack counts as found.
@@ -34,17 +37,40 @@ fn all_found(alloc: Global, packs: &[Pack]) -> Result<Vec<bool>, NoMemory>
     Ok(found)
 }
 
+/// What is written of a configuration that is checked.
+#[derive(Drop)]
+struct Checked {
+    /// The lines of the schedule that it gives the host.
+    lines: Bytes,
+    /// What a session of that host would tell of it, where every pack is found.
+    notes: Bytes,
+}
+
 /// The lines of the schedule that a configuration gives the host.
-fn listing(alloc: Global, config: &Config, words: &CheckWords) -> Result<Bytes, NoMemory>
-    ensures { IfOk result (IsListing (words.now) config.now) }
+fn listing(alloc: Global, config: &Config, host: &Host, found: &[bool]) -> Result<Bytes, NoMemory>
+    requires { length found.now ≡ length config.now.packs }
+    ensures { IfOk result (IsListing config.now host.now found.now) }
 {
-    let host = host_of(alloc, &words.host, &words.platform, &words.agent)?;
-    let found = all_found(alloc, config.packs.as_slice())?;
-    let schedule = schedule_of(alloc, config, &host, found.as_slice())?;
+    let schedule = schedule_of(alloc, config, host, found)?;
     lines_of(alloc, schedule.queries.as_slice())
 }
 
-/// Writes the schedule of the configuration, and tells on the status stream which packs are left out, or why nothing is written.
+/// What is written of a configuration.
+fn texts_of(alloc: Global, configured: &Configured, words: &CheckWords) -> Result<Checked, NoMemory>
+    ensures lines { IfOk result (λ checked. IsListing configured.now.config (checked_host words.now) (all_found configured.now.config) checked.lines) }
+    ensures notes { IfOk result (λ checked. AreNotes configured.now.config (checked_host words.now) (all_found configured.now.config) configured.now.notes checked.notes) }
+{
+    let config = &configured.config;
+    let host = host_of(alloc, &words.host, &words.platform, &words.agent)?;
+    let found = all_found(alloc, config.packs.as_slice())?;
+    let found = found.as_slice();
+    let lines = listing(alloc, config, &host, found)?;
+    let notes = schedule_notes(alloc, config, &host, found, configured.notes.as_slice())?;
+    Ok(Checked { lines, notes })
+}
+
+/// Writes the schedule of the configuration, and tells on the status stream what a session would tell of the configuration, or why nothing is
+/// written.
 pub(crate) fn run_check<S: Source, O: Sink, F: Files, C: Clock, K: Keeper, L: Link>(
     alloc: Global,
     words: &CheckWords,
@@ -80,15 +106,15 @@ pub(crate) fn run_check<S: Source, O: Sink, F: Files, C: Clock, K: Keeper, L: Li
 {
     let made = match configured(alloc, &mut outside.files, &words.config) {
         Ok(made) => made,
-        Err(status) => return refuse(alloc, &mut outside.status, status),
+        Err(refused) => return refuse_unconfigured(alloc, &mut outside.status, refused),
     };
-    let Ok(lines) = listing(alloc, &made.config, words) else {
+    let Ok(checked) = texts_of(alloc, &made, words) else {
         return refuse(alloc, &mut outside.status, Status::OutOfMemory);
     };
-    if write_all(&mut outside.status, made.notes.as_slice()).is_err() {
+    if write_all(&mut outside.status, checked.notes.as_slice()).is_err() {
         return Status::SinkFault;
     }
-    match write_all(&mut outside.results, lines.as_slice()) {
+    match write_all(&mut outside.results, checked.lines.as_slice()) {
         Ok(()) => Status::Ok,
         Err(_) => refuse(alloc, &mut outside.status, Status::SinkFault),
     }

@@ -17,7 +17,7 @@ use crate::link::Link;
 use crate::outside::Outside;
 use crate::setup::sources_of;
 use crate::status::Status;
-use crate::stop::refuse;
+use crate::stop::{refuse, refuse_unconfigured};
 use crate::watching::watched_by;
 use batch_keeper::Keeper;
 use osq_outside::{Clock, Files, Sink, Source, write_all};
@@ -100,7 +100,7 @@ fn write_answer<O: Sink>(
 }
 
 /// Answers the text over the kept list and what the sources have behind it, and tells on the status stream which packs of a configuration are
-/// left out, or why there is no answer.
+/// left out and of which sources lines were skipped, or why there is no answer.
 pub(crate) fn run_query<S: Source, O: Sink, F: Files, C: Clock, K: Keeper, L: Link>(
     alloc: Global,
     words: &QueryWords,
@@ -142,7 +142,7 @@ pub(crate) fn run_query<S: Source, O: Sink, F: Files, C: Clock, K: Keeper, L: Li
     };
     let watched = match watched_by(alloc, &mut outside.files, &words.config) {
         Ok(watched) => watched,
-        Err(status) => return refuse(alloc, &mut outside.status, status),
+        Err(refused) => return refuse_unconfigured(alloc, &mut outside.status, refused),
     };
     let Ok(names) = sources_of(alloc, words.sources.as_slice()) else {
         return refuse(alloc, &mut outside.status, Status::OutOfMemory);
@@ -161,13 +161,18 @@ pub(crate) fn run_query<S: Source, O: Sink, F: Files, C: Clock, K: Keeper, L: Li
         outside.sources.as_mut_slice(),
         &mut outside.keeper,
     ) {
-        Ok(asked) => write_answer(
-            alloc,
-            &query,
-            asked,
-            &mut outside.results,
-            &mut outside.status,
-        ),
+        Ok(asked) => {
+            if write_all(&mut outside.status, asked.skipped.as_slice()).is_err() {
+                return Status::SinkFault;
+            }
+            write_answer(
+                alloc,
+                &query,
+                asked,
+                &mut outside.results,
+                &mut outside.status,
+            )
+        }
         Err(error) => {
             let status = answer_to(alloc, words.sources.as_slice(), ended(error));
             refuse(alloc, &mut outside.status, status)

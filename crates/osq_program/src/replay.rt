@@ -14,14 +14,14 @@ use crate::link::Link;
 use crate::outside::Outside;
 use crate::setup::setup_of;
 use crate::status::Status;
-use crate::stop::{refuse, stop};
+use crate::stop::{refuse, refuse_unconfigured, stop};
 use batch_keeper::Keeper;
-use osq_outside::{Clock, Files, Sink, Source, write_all};
+use osq_outside::{Clock, Files, Sink, Source};
 use program_words::ReplayWords;
 use replay_rounds::run_session;
 use std::alloc::Global;
 
-/// Runs the session that the words ask for, and tells on the status stream which packs are left out, what the session tells, and how it ended.
+/// Runs the session that the words ask for, and tells on the status stream what the session tells, and how it ended.
 pub(crate) fn run_replay<S: Source, O: Sink, F: Files, C: Clock, K: Keeper, L: Link>(
     alloc: Global,
     words: &ReplayWords,
@@ -57,13 +57,10 @@ pub(crate) fn run_replay<S: Source, O: Sink, F: Files, C: Clock, K: Keeper, L: L
 {
     let configured = match configured(alloc, &mut outside.files, &words.config) {
         Ok(configured) => configured,
-        Err(status) => return refuse(alloc, &mut outside.status, status),
+        Err(refused) => return refuse_unconfigured(alloc, &mut outside.status, refused),
     };
     let Ok(setup) = setup_of(alloc, words) else {
         return refuse(alloc, &mut outside.status, Status::OutOfMemory);
-    };
-    let Ok(()) = write_all(&mut outside.status, configured.notes.as_slice()) else {
-        return Status::SinkFault;
     };
     match run_session(
         alloc,

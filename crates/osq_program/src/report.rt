@@ -2,10 +2,12 @@
 
 ghost use Rattle.std.specs.Prelude.{◌≡◌, ◌++◌, IfOk, OnOk};
 ghost use Rattle.std.specs.Fmt.{decimal};
-ghost use Rattle.osq_program.specs.Report.{final_line, next_of};
+ghost use Rattle.control_escapes.specs.Escapes.{escaped_controls};
+ghost use Rattle.osq_program.specs.Report.{final_line, next_of, unread_line};
 
 use crate::status::Status;
-use osq_value::{Bytes, NoMemory};
+use control_escapes::push_text;
+use osq_value::{Bytes, NoMemory, Str};
 use replay_rounds::Numbers;
 use std::alloc::Global;
 
@@ -76,14 +78,21 @@ fn name_of(status: &Status) -> &'static str {
     }
 }
 
+/// Adds a label and a name, whose control characters are escaped.
+fn push_named(line: &mut Bytes, label: &str, name: &Str) -> Result<(), NoMemory>
+    ensures { OnOk result (line.new ≡ line.old ++ label.now ++ escaped_controls name.now) }
+{
+    line.extend(label.as_bytes())?;
+    push_text(line, name.as_str().as_bytes())
+}
+
 /// Adds the fields of a refusal.
 fn push_fields(alloc: Global, line: &mut Bytes, status: &Status) -> Result<(), NoMemory> {
     match status {
         Status::ConfigRefused { kind, key } => {
             line.extend(b" kind=")?;
             line.extend(kind.as_bytes())?;
-            line.extend(b" key=")?;
-            line.extend(key.as_str().as_bytes())
+            push_named(line, " key=", key)
         }
         Status::MomentTooLarge { moment } => push_field(alloc, line, " moment=", *moment),
         Status::QueryRefused { place, kind } => {
@@ -91,17 +100,13 @@ fn push_fields(alloc: Global, line: &mut Bytes, status: &Status) -> Result<(), N
             line.extend(b" kind=")?;
             line.extend(kind.as_bytes())
         }
-        Status::SourceFault { source } => {
-            line.extend(b" source=")?;
-            line.extend(source.as_str().as_bytes())
-        }
+        Status::SourceFault { source } => push_named(line, " source=", source),
         Status::SourceShrank {
             source,
             kept,
             found,
         } => {
-            line.extend(b" source=")?;
-            line.extend(source.as_str().as_bytes())?;
+            push_named(line, " source=", source)?;
             push_field(alloc, line, " kept=", *kept)?;
             push_field(alloc, line, " found=", *found)
         }
@@ -122,5 +127,15 @@ pub(crate) fn refusal_line(alloc: Global, status: &Status) -> Result<Bytes, NoMe
     line.extend(name_of(status).as_bytes())?;
     push_fields(alloc, &mut line, status)?;
     line.extend(b"\n")?;
+    Ok(line)
+}
+
+/// The line that tells that the file of this path can't be read.
+pub(crate) fn unread_line(alloc: Global, file: &Str) -> Result<Bytes, NoMemory>
+    ensures { IfOk result (λ line. line ≡ unread_line file.now) }
+{
+    let mut line = Bytes::new(alloc);
+    push_named(&mut line, "osqd: file ", file)?;
+    line.extend(b" can't be read\n")?;
     Ok(line)
 }

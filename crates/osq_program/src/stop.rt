@@ -2,9 +2,11 @@
 
 ghost use Rattle.std.specs.Prelude.{◌≡◌, ◌≤◌};
 
-use crate::report::{final_line, refusal_line};
+use crate::configuration::Unconfigured;
+use crate::report::{final_line, refusal_line, unread_line};
 use crate::status::Status;
 use osq_outside::{Sink, write_all};
+use osq_value::Str;
 use replay_rounds::Numbers;
 use std::alloc::Global;
 
@@ -44,4 +46,26 @@ pub(crate) fn refuse<O: Sink>(alloc: Global, sink: &mut O, status: Status) -> St
     ensures { result ≡ status }
 {
     stop(alloc, sink, status, None)
+}
+
+/// Tells of the file that can't be read, as far as the sink and memory allow.
+fn tell_unread<O: Sink>(alloc: Global, sink: &mut O, file: &Str) {
+    if let Ok(line) = unread_line(alloc, file) {
+        let _written = write_all(sink, line.as_slice());
+    }
+}
+
+/// Tells on the status stream why a command has no configuration: of the file that can't be read, where it is that, and then as `refuse` does.
+pub(crate) fn refuse_unconfigured<O: Sink>(
+    alloc: Global,
+    sink: &mut O,
+    refused: Unconfigured,
+) -> Status
+    ensures { result ≡ refused.status }
+{
+    let Unconfigured { status, unread } = refused;
+    if let Some(file) = &unread {
+        tell_unread(alloc, sink, file);
+    }
+    refuse(alloc, sink, status)
 }

@@ -5,8 +5,7 @@ ghost use Rattle.osq_outside.specs.Causes.{Rose};
 ghost use Rattle.osq_program.specs.Answers.{no_causes, IsCaused};
 ghost use Rattle.osq_program.specs.Watching.{AreWatched, IsRefusedIn};
 
-use crate::configuration::configured;
-use crate::status::Status;
+use crate::configuration::{Unconfigured, configured};
 use config_files::Configured;
 use osq_outside::Files;
 use osq_value::{Bytes, CategoryList, Str};
@@ -26,13 +25,13 @@ pub(crate) fn watched_by<F: Files>(
     alloc: Global,
     files: &mut F,
     path: &Option<Str>,
-) -> Result<Watched, Status>
+) -> Result<Watched, Unconfigured>
     ensures watched { IfOk result (λ made. AreWatched F.tells (F.file files.old) path.now made.paths made.notes) }
     ensures unread { path.now ≡ None → files.new ≡ files.old }
-    ensures cause { IfErr result (IsCaused (record no_causes {
+    ensures cause { IfErr result (λ refused. IsCaused (record no_causes {
       files = Rose (F.faults files.old) (F.faults files.new);
       refused = IsRefusedIn F.tells (F.file files.old) path.now;
-    })) }
+    }) refused.status) }
 {
     let Some(path) = path else {
         return Ok(Watched {
@@ -51,6 +50,6 @@ pub(crate) fn watched_by<F: Files>(
             paths: config.categories,
             notes,
         }),
-        Err(status) => Err(status),
+        Err(refused) => Err(refused),
     }
 }

@@ -58,8 +58,8 @@ module _ {S : Type 0} (tells : Type 0) (left : S → List ℕ) (faults : S → �
         let all_run = read.runs.all_run ended_not in
         (all_run, λ some. has_more tells left given kept read.runs.count entries end taken full_end (sym read.runs.over ∙ ended_not) (omega (arith, some, all_run)))
 
-    pub answer_of : (text : List ℕ) (moment : ℕ) (rows : List (List Value)) → AnswersBehind state text moment rows → IsAnswer given kept text rounds moment (record { rows = rows; is_end = is_end })
-    answer_of text moment rows answers = record {
+    pub answer_of : (text : List ℕ) (moment : ℕ) (rows : List (List Value)) (skipped : List ℕ) → AnswersBehind state text moment rows → IsAnswer given kept text rounds moment (record { rows = rows; is_end = is_end; skipped = skipped })
+    answer_of text moment rows skipped answers = record {
       present = all_present tells left given.config.categories kept (opened_behind kept ++ entries) given.sources read.feeds rests told taken.fed;
       count = read.runs.count;
       few = read.runs.few;
@@ -70,6 +70,6 @@ module _ {S : Type 0} (tells : Type 0) (left : S → List ℕ) (faults : S → �
       more = more_left;
     }
 
-  pub answered : (paths : List Category) (records : ℕ) → IsGiven left names objects paths records given → HasRead tells left faults names paths records rounds (summary kept) objects rests state is_end → (text : List ℕ) (moment : ℕ) (rows : List (List Value)) → AnswersBehind state text moment rows → IsAnswer given kept text rounds moment (record { rows = rows; is_end = is_end })
+  pub answered : (paths : List Category) (records : ℕ) → IsGiven left names objects paths records given → HasRead tells left faults names paths records rounds (summary kept) objects rests state is_end → (text : List ℕ) (moment : ℕ) (rows : List (List Value)) (skipped : List ℕ) → AnswersBehind state text moment rows → IsAnswer given kept text rounds moment (record { rows = rows; is_end = is_end; skipped = skipped })
   answered paths records is read =
       answer_of is.sources_are (subst (λ (records : ℕ). HasRead tells left faults names given.config.categories records rounds (summary kept) objects rests state is_end) (sym is.records_are) (subst (λ (paths : List Category). HasRead tells left faults names paths records rounds (summary kept) objects rests state is_end) (sym is.paths_are) read))

@@ -1,4 +1,5 @@
 pub mod Answered
+pub mod Counted
 pub mod Meant
 pub mod Refused
 pub mod Rounded

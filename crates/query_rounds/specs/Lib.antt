@@ -3,3 +3,4 @@ pub mod Reading
 pub mod Refusals
 pub mod Rounds
 pub mod Running
+pub mod Skipping

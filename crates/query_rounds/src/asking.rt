@@ -1,6 +1,6 @@
 //! A question over a kept list and what its sources have behind it.
 
-ghost use Rattle.std.specs.Prelude.{◌≡◌, ◌<◌, ◌≤◌, ℕ, true, List, length, bytes_eq, Err, IfOk};
+ghost use Rattle.std.specs.Prelude.{◌≡◌, ◌<◌, ◌≤◌, ℕ, true, List, length, map, bytes_eq, Err, IfOk};
 ghost use Rattle.osq_outside.specs.Causes.{Rose};
 ghost use Rattle.sql_texts.specs.Meaning.{is_accepted};
 ghost use Rattle.entry_model.specs.Fits.{Fits, IsDistinct};
@@ -13,6 +13,7 @@ ghost use Rattle.daemon_rounds.specs.Rounding.{FailsAt};
 ghost use Rattle.daemon_rounds.specs.Starting.{HasShrunk, source_names};
 ghost use Rattle.query_rounds.specs.Asking.{IsAnswer, IsGiven, IsMeant, Spends};
 ghost use Rattle.query_rounds.specs.Reading.{IsOverfull};
+ghost use Rattle.query_rounds.specs.Skipping.{TellsSkipped};
 ghost use Rattle.query_rounds.specs.declared.error.AskError.{AskError};
 
 use crate::answering::answer_behind;
@@ -22,7 +23,7 @@ use batch_keeper::Keeper;
 use daemon_rounds::setup::SourceName;
 use daemon_rounds::{MomentTooLarge, read_moment};
 use osq_outside::{Clock, Source};
-use osq_value::{CategoryList, RowList};
+use osq_value::{Bytes, CategoryList, RowList};
 use replay_rounds::load_values;
 use std::alloc::Global;
 
@@ -33,6 +34,8 @@ pub struct Asked {
     pub rows: RowList,
     /// Every source was read to its end.
     pub is_end: bool,
+    /// A line for each source of which lines were skipped, as the end of a session tells them.
+    pub skipped: Bytes,
 }
 
 /// Answers an accepted text over the keeper's list and what the sources have behind it. The list is loaded, the clock is read once, and the
@@ -57,6 +60,7 @@ pub fn ask_kept<S: Source, K: Keeper, C: Clock>(
     requires paired { length sources.old ≡ length names.now }
     requires distinct { IsDistinct bytes_eq (source_names names.now) }
     ensures answer { IfOk result (λ asked. (moment : ℕ) × C.reads clock.old moment clock.new × (moment ≤ 253402300799) × IsMeant K.tells (K.kept keeper.old) names.now text.now moment asked.rows × (K.tells → S.tells → Legal (K.kept keeper.old) → (given : Given) → IsGiven S.left names.now sources.old paths.now records given → IsAnswer given (K.kept keeper.old) text.now rounds moment asked)) }
+    ensures skipped { IfOk result (λ asked. (taken : List Taken) × (K.tells → taken ≡ (summary (K.kept keeper.old)).taken) × TellsSkipped S.tells paths.now taken names.now (map S.left sources.old) asked.is_end asked.skipped) }
     ensures same { K.tells → K.kept keeper.new ≡ K.kept keeper.old }
     ensures keeper_cause { result ≡ Err AskError.KeeperFault → Rose (K.faults keeper.old) (K.faults keeper.new) }
     ensures refused { K.tells → result ≡ Err AskError.KeeperRefused → ¬ Fits (summary (K.kept keeper.old)) }
@@ -76,14 +80,20 @@ pub fn ask_kept<S: Source, K: Keeper, C: Clock>(
         Ok(moment) => moment,
         Err(MomentTooLarge { moment }) => return Err(AskError::MomentTooLarge { moment }),
     };
-    let Behind { state, is_end } = match read_behind(
-        alloc, restored, names, paths, records, rounds, sources,
-    ) {
+    let Behind {
+        state,
+        skipped,
+        is_end,
+    } = match read_behind(alloc, restored, names, paths, records, rounds, sources) {
         Ok(behind) => behind,
         Err(error) => return Err(error),
     };
     let Ok(rows) = answer_behind(alloc, text, &state, moment) else {
         return Err(AskError::NoMemory);
     };
-    Ok(Asked { rows, is_end })
+    Ok(Asked {
+        rows,
+        is_end,
+        skipped,
+    })
 }

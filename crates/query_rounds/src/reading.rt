@@ -1,10 +1,11 @@
 //! What the sources have behind a kept list.
 
-ghost use Rattle.std.specs.Prelude.{◌≡◌, ◌≢◌, ℕ, length, bytes_eq, Err, IfOk};
+ghost use Rattle.std.specs.Prelude.{◌≡◌, ◌≢◌, ℕ, length, map, bytes_eq, Err, IfOk};
 ghost use Rattle.entry_model.specs.Fits.{Fits, IsDistinct};
 ghost use Rattle.daemon_rounds.specs.Rounding.{FailsAt};
 ghost use Rattle.daemon_rounds.specs.Starting.{HasShrunk, source_names};
 ghost use Rattle.query_rounds.specs.Reading.{HasRead, IsOverfull};
+ghost use Rattle.query_rounds.specs.Skipping.{TellsSkipped};
 ghost use Rattle.query_rounds.specs.declared.error.AskError.{AskError};
 
 use crate::error::{AskError, unstarted, untaken};
@@ -13,7 +14,8 @@ use daemon_rounds::setup::SourceName;
 use daemon_rounds::start_sources;
 use entry_model::restored::Restored;
 use osq_outside::Source;
-use osq_value::CategoryList;
+use osq_value::{Bytes, CategoryList};
+use replay_rounds::skipped_lines;
 use session_state::State;
 use std::alloc::Global;
 
@@ -21,6 +23,8 @@ use std::alloc::Global;
 #[derive(Drop)]
 pub(crate) struct Behind {
     pub(crate) state: State,
+    /// A line for each source of which lines were skipped.
+    pub(crate) skipped: Bytes,
     /// Every source was read to its end.
     pub(crate) is_end: bool,
 }
@@ -40,6 +44,7 @@ pub(crate) fn read_behind<S: Source>(
     requires paired { length sources.old ≡ length names.now }
     requires distinct { IsDistinct bytes_eq (source_names names.now) }
     ensures read { IfOk result (λ behind. HasRead S.tells S.left S.faults names.now paths.now records rounds restored sources.old sources.new behind.state behind.is_end) }
+    ensures skipped { IfOk result (λ behind. TellsSkipped S.tells paths.now restored.taken names.now (map S.left sources.old) behind.is_end behind.skipped) }
     ensures fault { (place : ℕ) → result ≡ Err (AskError.SourceFault place) → FailsAt S.faults place sources.old sources.new }
     ensures shrank { (place kept found : ℕ) → result ≡ Err (AskError.SourceShrank place kept found) → HasShrunk S.tells S.left restored.taken names.now place kept found sources.old }
     ensures over { result ≡ Err AskError.NumbersSpent → IsOverfull S.tells S.left S.faults names.now paths.now records rounds restored sources.old sources.new }
@@ -52,15 +57,17 @@ pub(crate) fn read_behind<S: Source>(
     let Ok(mut state) = State::begin(alloc, restored) else {
         return Err(AskError::NoMemory);
     };
-    match take_rounds(
-        alloc,
-        &mut state,
-        feeds.as_mut_slice(),
-        sources,
-        records,
-        rounds,
-    ) {
-        Ok(is_end) => Ok(Behind { state, is_end }),
-        Err(error) => Err(untaken(error)),
-    }
+    let feeds = feeds.as_mut_slice();
+    let is_end = match take_rounds(alloc, &mut state, feeds, sources, records, rounds) {
+        Ok(is_end) => is_end,
+        Err(error) => return Err(untaken(error)),
+    };
+    let Ok(skipped) = skipped_lines(alloc, feeds) else {
+        return Err(AskError::NoMemory);
+    };
+    Ok(Behind {
+        state,
+        skipped,
+        is_end,
+    })
 }

@@ -18,7 +18,7 @@ use Rattle.daemon_rounds.specs.Starting.{AreFeedsOf, IsFeedOf, IsStart, IsStarte
 use Rattle.replay_rounds.specs.Sources.{AreFed, IsFed, sources_of}
 
 -- where no read gave nothing yet, a publisher isn't at its source's end
-not_at_end : (reader : Reader) → reader.is_ended ≡ false → is_at_end reader ≡ false
+pub not_at_end : (reader : Reader) → reader.is_ended ≡ false → is_at_end reader ≡ false
 not_at_end reader open_still = ap (λ (ended : Bool). ended && length reader.ready == 0) open_still
 
 module _ {S : Type 0} (tells : Type 0) (left : S → List ℕ) (faults : S → ℕ) (paths : List Category) (start : List Entry) (taken : List Taken) (same : (name : List ℕ) → offset_at taken name ≡ taken_from start name) where

@@ -24,3 +24,8 @@ of_error P result error holds is = subst (λ (r : Result _ _). IfErr r P) is hol
 pub of_value : {T E : Type 0} (A B C : T → Type 0) (result : Result T E) → IfOk result A → IfOk result B → ((value : T) → A value → B value → C value) → IfOk result C
 of_value A B C (Ok value) first second follows = follows value first second
 of_value A B C (Err error) first second follows = tt
+
+-- three texts were added, one behind another
+pub pushed : (old first second new a b c : List ℕ) → first ≡ old ++ a → second ≡ first ++ b → new ≡ second ++ c → new ≡ old ++ (a ++ (b ++ c))
+pushed old first second new a b c one two three =
+    three ∙ ap (λ (text : List ℕ). text ++ c) (two ∙ ap (λ (text : List ℕ). text ++ b) one) ∙ append_assoc (old ++ a) b c ∙ append_assoc old a (b ++ c)

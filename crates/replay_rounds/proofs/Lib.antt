@@ -10,6 +10,7 @@ pub mod Feeds
 pub mod Filled
 pub mod Grown
 pub mod Looping
+pub mod Noted
 pub mod Nothing
 pub mod OpenedSession
 pub mod Overrun

@@ -1,11 +1,62 @@
 -- What a session tells on the status stream.
-use Rattle.std.specs.Prelude.{◌≡◌, ℕ, List, ◌++◌}
+use Rattle.std.specs.Prelude.{◌≡◌, ℕ, zero, suc, ◌==◌, Bool, true, false, if◌then◌else◌, List, [], ◌++◌, map, flat_map, codes}
+use Rattle.std.specs.Fmt.{decimal}
+use Rattle.control_escapes.specs.Escapes.{escaped_controls}
+use Rattle.sql_meaning.specs.Meaning.{View}
+use Rattle.osq_config.specs.declared.config.Config.{Config}
+use Rattle.pack_rules.specs.declared.host.Host.{Host}
+use Rattle.query_answers.specs.Discovery.{is_found}
+use Rattle.schedule_notes.specs.Notes.{AreNotes}
+use Rattle.source_feeds.specs.Feeding.{Feeding}
 use Rattle.replay_rounds.specs.declared.refused.RunError.{RunError}
 use Rattle.replay_rounds.specs.declared.refused.RunError.TheVariants as run
 
 -- text was written behind what there was
 abbrev pub IsGrown : List ℕ → List ℕ → Type 0
 IsGrown before after = (text : List ℕ) × (after ≡ before ++ text)
+
+-- the lines that tell of a configuration on a host, whatever tables its discovery saw; `left_out` are those of packs that are left out
+abbrev pub AreNotesOf : Config → Host → List ℕ → List ℕ → Type 0
+AreNotesOf config host left_out lines = (view : View) × AreNotes config host (map (is_found view) config.packs) left_out lines
+
+-- they were written
+abbrev pub IsNoted : Config → Host → List ℕ → List ℕ → List ℕ → Type 0
+IsNoted config host left_out before after = (lines : List ℕ) × AreNotesOf config host left_out lines × (after ≡ before ++ lines)
+
+-- they were written where the session is configured again, and else nothing
+abbrev pub IsNotedAgain : Bool → Config → Host → List ℕ → List ℕ → List ℕ → Type 0
+IsNotedAgain true config host left_out before after = IsNoted config host left_out before after
+IsNotedAgain false config host left_out before after = after ≡ before
+
+-- the notes of so many configurations, one after another
+abbrev pub AreAllNotes : Config → Host → List ℕ → ℕ → List ℕ → Type 0
+AreAllNotes config host left_out zero lines = lines ≡ []
+AreAllNotes config host left_out (suc count) lines =
+    (earlier last : List ℕ) × AreAllNotes config host left_out count earlier × AreNotesOf config host left_out last × (lines ≡ earlier ++ last)
+
+-- a session told of its configuration, and again of each later one
+abbrev pub HasNoted : Config → Host → List ℕ → List ℕ → List ℕ → Type 0
+HasNoted config host left_out before after =
+    (later : ℕ) × (lines : List ℕ) × AreAllNotes config host left_out (suc later) lines × (after ≡ before ++ lines)
+
+abbrev pub skipped_end : ℕ → List ℕ
+skipped_end count = codes " skipped " ++ decimal count ++ codes " lines\n"
+
+-- `osqd: source NAME skipped N lines`, a line that no byte of the name ends
+abbrev pub skipped_of : List ℕ → ℕ → List ℕ
+skipped_of name count = codes "osqd: source " ++ escaped_controls name ++ skipped_end count
+
+-- no line where none was skipped
+abbrev pub skipped_line : Feeding → List ℕ
+skipped_line feed = if feed.skipped == 0 then [] else skipped_of feed.name feed.skipped
+
+abbrev pub skipped_lines : List Feeding → List ℕ
+skipped_lines feeds = flat_map skipped_line feeds
+
+-- it told of its configurations, and at its end of the lines that were skipped
+abbrev pub HasTold : Config → Host → List ℕ → List ℕ → List ℕ → Type 0
+HasTold config host left_out before after =
+    (between : List ℕ) × (feeds : List Feeding) × HasNoted config host left_out before between × (after ≡ between ++ skipped_lines feeds)
 
 -- Why a step between ticks is refused: by the moment that the clock gave, by a fault of the status stream, or for want of memory.
 abbrev pub IsBetween : (late : ℕ → Type 0) (sink : Type 0) → RunError → Type 0

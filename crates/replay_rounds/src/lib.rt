@@ -9,6 +9,7 @@ pub mod running;
 mod ticking;
 
 pub use loading::{LoadError, load_values};
+pub use noting::skipped_lines;
 pub use refused::{Numbers, Refused, RunError};
 pub use running::{Ended, all_over, run_session};
 pub use ticking::take_tick;

@@ -1,15 +1,16 @@
 //! What a session tells on the status stream.
 
-ghost use Rattle.std.specs.Prelude.{◌≡◌, ◌≤◌};
+ghost use Rattle.std.specs.Prelude.{◌≡◌, ◌≤◌, ◌++◌, IfOk, OnOk};
 ghost use Rattle.osq_outside.specs.Causes.{FaultHasCause};
-ghost use Rattle.replay_rounds.specs.Noting.{IsGrown};
+ghost use Rattle.replay_rounds.specs.Noting.{AreNotesOf, IsGrown, IsNoted, skipped_end, skipped_line, skipped_lines, skipped_of};
 ghost use Rattle.replay_rounds.specs.declared.noting.NoteError.{NoteError};
 
 use crate::refused::Refused;
 use config_files::Configured;
+use control_escapes::push_text;
 use daemon_rounds::setup::Setup;
 use osq_outside::{Sink, write_all};
-use osq_value::{Bytes, NoMemory};
+use osq_value::{Bytes, NoMemory, Str};
 use query_answers::found_packs;
 use schedule_notes::schedule_notes;
 use session_state::State;
@@ -24,21 +25,21 @@ pub(crate) enum NoteError {
     NoMemory,
 }
 
-/// Writes these lines, where there was memory for them.
-fn write_lines<O: Sink>(status: &mut O, lines: Result<Bytes, NoMemory>) -> Result<(), NoteError>
+/// Writes these lines.
+fn write_lines<O: Sink>(status: &mut O, lines: &Bytes) -> Result<(), NoteError>
+    ensures text { O.tells → OnOk result (O.written status.new ≡ O.written status.old ++ lines.now) }
     ensures grown { O.tells → IsGrown (O.written status.old) (O.written status.new) }
     ensures cause { FaultHasCause NoteError.SinkFault (O.faults status.old) (O.faults status.new) result }
 {
-    let Ok(lines) = lines else {
-        return Err(NoteError::NoMemory);
-    };
     match write_all(status, lines.as_slice()) {
         Ok(()) => Ok(()),
         Err(_) => Err(NoteError::SinkFault),
     }
 }
 
-/// The lines that tell of a configuration at this moment, where discovery sees the tables of the state.
+/// The lines that tell of a configuration at this moment, where discovery sees the tables of the state. At a session's opening that is the
+/// state behind its first Configured, and later the state before the tick's Ticked: both have the tables that the configuration's own
+/// discovery sees.
 fn notes_at(
     alloc: Global,
     setup: &Setup,
@@ -47,11 +48,13 @@ fn notes_at(
     moment: u64,
 ) -> Result<Bytes, NoMemory>
     requires { moment ≤ 253402300799 }
+    ensures { IfOk result (AreNotesOf configured.now.config setup.now.host configured.now.notes) }
 {
     let config = &configured.config;
     let view = state.tables_view(alloc, moment)?;
     let found = found_packs(alloc, config, &view)?;
-    schedule_notes(alloc, config, &setup.host, found.as_slice())
+    let left_out = configured.notes.as_slice();
+    schedule_notes(alloc, config, &setup.host, found.as_slice(), left_out)
 }
 
 /// Writes the lines that tell of a configuration at this moment.
@@ -64,29 +67,54 @@ pub(crate) fn write_notes<O: Sink>(
     moment: u64,
 ) -> Result<(), NoteError>
     requires { moment ≤ 253402300799 }
+    ensures noted { O.tells → OnOk result (IsNoted configured.now.config setup.now.host configured.now.notes (O.written status.old) (O.written status.new)) }
     ensures grown { O.tells → IsGrown (O.written status.old) (O.written status.new) }
     ensures cause { FaultHasCause NoteError.SinkFault (O.faults status.old) (O.faults status.new) result }
 {
-    write_lines(status, notes_at(alloc, setup, configured, state, moment))
+    let Ok(lines) = notes_at(alloc, setup, configured, state, moment) else {
+        return Err(NoteError::NoMemory);
+    };
+    write_lines(status, &lines)
 }
 
-/// Adds the line that tells how many lines of a source were skipped.
-fn push_skipped(alloc: Global, lines: &mut Bytes, feed: &Feed) -> Result<(), NoMemory> {
-    let skipped = feed.skipped().to_string(alloc)?;
-    lines.extend(b"osqd: source ")?;
-    lines.extend(feed.name().as_str().as_bytes())?;
+/// Adds how many lines were skipped.
+fn push_count(alloc: Global, lines: &mut Bytes, count: u64) -> Result<(), NoMemory>
+    ensures { OnOk result (lines.new ≡ lines.old ++ skipped_end count) }
+{
+    let count = count.to_string(alloc)?;
     lines.extend(b" skipped ")?;
-    lines.extend(skipped.as_bytes())?;
+    lines.extend(count.as_bytes())?;
     lines.extend(b" lines\n")
 }
 
-/// A line for each source of which lines were skipped.
-fn skipped_lines(alloc: Global, feeds: &[Feed]) -> Result<Bytes, NoMemory> {
+/// Adds the line that tells how many lines of the source of this name were skipped.
+fn push_named(alloc: Global, lines: &mut Bytes, name: &Str, count: u64) -> Result<(), NoMemory>
+    ensures { OnOk result (lines.new ≡ lines.old ++ skipped_of name.now count) }
+{
+    lines.extend(b"osqd: source ")?;
+    push_text(lines, name.as_str().as_bytes())?;
+    push_count(alloc, lines, count)?;
+    Ok(())
+}
+
+/// Adds the line that tells how many lines of a source were skipped, where some were.
+fn push_skipped(alloc: Global, lines: &mut Bytes, feed: &Feed) -> Result<(), NoMemory>
+    ensures { OnOk result (lines.new ≡ lines.old ++ skipped_line feed.now) }
+{
+    if feed.skipped() == 0 {
+        Ok(())
+    } else {
+        push_named(alloc, lines, feed.name(), feed.skipped())
+    }
+}
+
+/// A line for each source of which lines were skipped, in the order of the sources. Control characters of a name are escaped.
+pub fn skipped_lines(alloc: Global, feeds: &[Feed]) -> Result<Bytes, NoMemory>
+    ensures { IfOk result (λ lines. lines ≡ skipped_lines feeds.now) }
+{
     let mut lines = Bytes::new(alloc);
     for feed in feeds {
-        if feed.skipped() > 0 {
-            push_skipped(alloc, &mut lines, feed)?;
-        }
+        push_skipped(alloc, &mut lines, feed)?;
     }
     Ok(lines)
 }
@@ -97,10 +125,14 @@ pub(crate) fn write_skipped<O: Sink>(
     feeds: &[Feed],
     status: &mut O,
 ) -> Result<(), NoteError>
+    ensures skipped { O.tells → OnOk result (O.written status.new ≡ O.written status.old ++ skipped_lines feeds.now) }
     ensures grown { O.tells → IsGrown (O.written status.old) (O.written status.new) }
     ensures cause { FaultHasCause NoteError.SinkFault (O.faults status.old) (O.faults status.new) result }
 {
-    write_lines(status, skipped_lines(alloc, feeds))
+    let Ok(lines) = skipped_lines(alloc, feeds) else {
+        return Err(NoteError::NoMemory);
+    };
+    write_lines(status, &lines)
 }
 
 /// The same refusal. Before it a line is written for each source of which lines were skipped, as far as the sink and memory allow.

@@ -7,7 +7,7 @@ ghost use Rattle.entry_model.specs.Fits.{Fits, IsDistinct};
 ghost use Rattle.daemon_rounds.specs.Rounding.{AreGoing, FailsAt};
 ghost use Rattle.daemon_rounds.specs.Session.{IsOpen, IsOverfull};
 ghost use Rattle.daemon_rounds.specs.Starting.{HasShrunk, source_names};
-ghost use Rattle.replay_rounds.specs.Noting.{IsGrown};
+ghost use Rattle.replay_rounds.specs.Noting.{IsGrown, IsNoted};
 ghost use Rattle.replay_rounds.specs.declared.refused.Refused.{Refused};
 ghost use Rattle.replay_rounds.specs.declared.refused.RunError.{RunError};
 
@@ -52,6 +52,7 @@ pub(crate) fn open_noted<S: Source, C: Clock, O: Sink>(
     ensures shrank { (refused : Refused) (place kept found : ℕ) → result ≡ Err refused → refused.error ≡ RunError.SourceShrank place kept found → HasShrunk S.tells S.left restored.taken setup.now.sources place kept found sources.old }
     ensures spent { (refused : Refused) → result ≡ Err refused → refused.error ≡ RunError.NumbersSpent → IsOverfull S.tells S.left S.faults setup.now configured.now.config restored sources.old sources.new }
     ensures sink_cause { (refused : Refused) → result ≡ Err refused → refused.error ≡ RunError.SinkFault → Rose (O.faults status.old) (O.faults status.new) }
+    ensures noted { O.tells → IfOk result (λ session. IsNoted configured.now.config setup.now.host configured.now.notes (O.written status.old) (O.written status.new)) }
     ensures grown { O.tells → IsGrown (O.written status.old) (O.written status.new) }
     ensures later { O.faults status.old ≤ O.faults status.new }
 {

@@ -12,7 +12,8 @@ ghost use Rattle.daemon_rounds.specs.Moments.{IsRead};
 ghost use Rattle.daemon_rounds.specs.Rounding.{FailsAt};
 ghost use Rattle.daemon_rounds.specs.Starting.{HasShrunk, source_names};
 ghost use Rattle.replay_rounds.specs.Fixed.{fixed_of};
-ghost use Rattle.replay_rounds.specs.Noting.{IsBetween, IsGrown};
+ghost use Rattle.replay_rounds.specs.Noting.{HasTold, IsBetween, IsGrown, IsNotedAgain, skipped_lines};
+ghost use Rattle.daemon_rounds.specs.Ticking.{asks_again};
 ghost use Rattle.replay_rounds.specs.Refusals.{numbers_of};
 ghost use Rattle.replay_rounds.specs.Running.{HasRun, IsKept, IsWritten, ReadsAll};
 ghost use Rattle.replay_rounds.specs.Sources.{all_over};
@@ -58,6 +59,7 @@ fn next_moment<C: Clock, O: Sink>(
     requires { configured_at ≤ state.now.counts.moment }
     ensures read { IfOk result (λ moment. IsRead C.reads clock.old clock.new state.now.counts.moment moment) }
     ensures once { (reading : ℕ) × C.reads clock.old reading clock.new }
+    ensures noted { O.tells → IfOk result (λ moment. IsNotedAgain (asks_again configured.now.config configured_at moment) configured.now.config setup.now.host configured.now.notes (O.written status.old) (O.written status.new)) }
     ensures cause { IfErr result (λ refused. IsBetween (λ moment. C.reads clock.old moment clock.new × (253402300799 < moment)) (Rose (O.faults status.old) (O.faults status.new)) refused.error) }
     ensures grown { O.tells → IsGrown (O.written status.old) (O.written status.new) }
     ensures later { O.faults status.old ≤ O.faults status.new }
@@ -98,6 +100,7 @@ fn end_session<O: Sink>(
 ) -> Result<Ended, Refused>
     ensures is_end { IfOk result (λ ended. ended.is_end ≡ all_over feeds.now) }
     ensures numbers { IfOk result (λ ended. ended.numbers ≡ numbers_of state.now) }
+    ensures skipped { O.tells → IfOk result (λ ended. O.written status.new ≡ O.written status.old ++ skipped_lines feeds.now) }
     ensures cause { IfErr result (λ refused. IsBetween (λ moment. ⊥) (Rose (O.faults status.old) (O.faults status.new)) refused.error) }
     ensures grown { O.tells → IsGrown (O.written status.old) (O.written status.new) }
     ensures later { O.faults status.old ≤ O.faults status.new }
@@ -141,6 +144,7 @@ pub fn run_session<S: Source, K: Keeper, O: Sink, C: Clock>(
     ensures shrank { (refused : Refused) (place kept found : ℕ) → result ≡ Err refused → refused.error ≡ RunError.SourceShrank place kept found → (taken : List Taken) × (K.tells → taken ≡ (summary (K.kept keeper.old)).taken) × HasShrunk S.tells S.left taken setup.now.sources place kept found sources.old }
     ensures spent { (refused : Refused) → result ≡ Err refused → refused.error ≡ RunError.NumbersSpent → HasSpent (fixed_of K.tells O.tells S.tells S.left setup.now configured.now.config configured.now.documents sources.old (K.kept keeper.old) (O.written results.old)) (λ readings. ReadsAll C.reads clock.old readings clock.new) (K.kept keeper.new) }
     ensures sink_cause { (refused : Refused) → result ≡ Err refused → refused.error ≡ RunError.SinkFault → Rose (O.faults results.old) (O.faults results.new) ⊎ Rose (O.faults status.old) (O.faults status.new) }
+    ensures told { O.tells → IfOk result (λ ended. HasTold configured.now.config setup.now.host configured.now.notes (O.written status.old) (O.written status.new)) }
     ensures notes { O.tells → IsGrown (O.written status.old) (O.written status.new) }
     ensures later { (K.faults keeper.old ≤ K.faults keeper.new) × (O.faults results.old ≤ O.faults results.new) × (O.faults status.old ≤ O.faults status.new) }
 {

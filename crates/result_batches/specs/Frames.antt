@@ -8,7 +8,8 @@ use Rattle.sql_texts.specs.Meaning.{names_of}
 use Rattle.pack_rules.specs.declared.schedule.Mode.{Mode}
 use Rattle.pack_rules.specs.declared.schedule.Mode.TheVariants.{Evented, Snapshot}
 use Rattle.entry_model.specs.declared.entry.Batch.{Batch}
-use Rattle.result_batches.specs.Json.{hex_digit, quoted, array}
+use Rattle.control_escapes.specs.Escapes.{hex_digit}
+use Rattle.result_batches.specs.Json.{quoted, array}
 
 abbrev pub mode_text : Mode → List ℕ
 mode_text Evented = codes "evented"

@@ -1,22 +1,13 @@
 -- JSON texts without blanks.
-use Rattle.std.specs.Prelude.{ℕ, ◌+◌, ◌/◌, ◌%◌, ◌==◌, nat_lt, if◌then◌else◌, List, [], ◌∷◌, ◌++◌, flat_map, codes}
+use Rattle.std.specs.Prelude.{ℕ, ◌==◌, if◌then◌else◌, List, [], ◌∷◌, ◌++◌, flat_map}
+use Rattle.control_escapes.specs.Escapes.{escaped_control}
 
--- a hexadecimal digit
-abbrev pub hex_digit : ℕ → ℕ
-hex_digit n = if nat_lt n 10 then 48 + n else 87 + n
-
--- a byte inside a quoted text
+-- a byte inside a quoted text: the quote and the backslash behind a backslash, and a control character by its escape
 abbrev pub escaped : ℕ → List ℕ
 escaped b =
     if b == 34 then 92 ∷ 34 ∷ []
     else (if b == 92 then 92 ∷ 92 ∷ []
-    else (if b == 8 then 92 ∷ 98 ∷ []
-    else (if b == 9 then 92 ∷ 116 ∷ []
-    else (if b == 10 then 92 ∷ 110 ∷ []
-    else (if b == 12 then 92 ∷ 102 ∷ []
-    else (if b == 13 then 92 ∷ 114 ∷ []
-    else (if nat_lt b 32 then codes "\\u00" ++ hex_digit (b / 16) ∷ hex_digit (b % 16) ∷ []
-    else b ∷ [])))))))
+    else escaped_control b)
 
 abbrev pub quoted : List ℕ → List ℕ
 quoted text = 34 ∷ (flat_map escaped text ++ 34 ∷ [])

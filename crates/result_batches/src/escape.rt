@@ -1,21 +1,10 @@
 //! Texts inside JSON strings.
 
-ghost use Rattle.std.specs.Prelude.{◌≡◌, ◌<◌, ◌++◌, flat_map, OnOk};
-ghost use Rattle.result_batches.specs.Json.{hex_digit, escaped, quoted};
+ghost use Rattle.std.specs.Prelude.{◌≡◌, ◌++◌, flat_map, OnOk};
+ghost use Rattle.result_batches.specs.Json.{escaped, quoted};
 
+use control_escapes::push_byte;
 use osq_value::{Bytes, NoMemory};
-
-/// The hexadecimal digit of a number below 16, in lower case.
-fn digit(number: u8) -> u8
-    requires { number < 16 }
-    ensures { result ≡ hex_digit number }
-{
-    if number < 10 {
-        b'0' + number
-    } else {
-        b'a' - 10 + number
-    }
-}
 
 /// Adds one byte of a string as JSON (RFC 8259, section 7) writes it.
 fn push_escaped(line: &mut Bytes, byte: u8) -> Result<(), NoMemory>
@@ -24,13 +13,7 @@ fn push_escaped(line: &mut Bytes, byte: u8) -> Result<(), NoMemory>
     match byte {
         b'"' => line.extend(b"\\\""),
         b'\\' => line.extend(b"\\\\"),
-        8 => line.extend(b"\\b"),
-        b'\t' => line.extend(b"\\t"),
-        b'\n' => line.extend(b"\\n"),
-        12 => line.extend(b"\\f"),
-        b'\r' => line.extend(b"\\r"),
-        0..=31 => line.extend(&[b'\\', b'u', b'0', b'0', digit(byte / 16), digit(byte % 16)]),
-        _ => line.extend(&[byte]),
+        _ => push_byte(line, byte),
     }
 }
 

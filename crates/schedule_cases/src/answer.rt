@@ -11,7 +11,7 @@ use std::alloc::Global;
 const KINDS: [&[&str]; 3] = [
     &["rules", "host"],
     &["number"],
-    &["schedule", "found", "host"],
+    &["schedule", "found", "host", "left_out"],
 ];
 
 /// Tells whether rules hold on a host.

@@ -3,8 +3,9 @@
 //!
 //! - `rules`, with what it has of `platform`, `version` and `shard`: whether they hold on the host.
 //! - `number`, the identifier of a host: its number.
-//! - `schedule`, a configuration; and `found`, for each of its packs whether its discovery found something: the seconds of expiry, most
-//!   events and form of results, then the queries of the schedule, each as its mode, name, seconds and text, and at last the notes.
+//! - `schedule`, a configuration; `found`, for each of its packs whether its discovery found something; and maybe `left_out`, the lines of packs
+//!   that are left out: the seconds of expiry, most events and form of results, then the queries of the schedule, each as its mode, name,
+//!   seconds and text, and at last the notes.
 //!
 //! Rules and schedules are for the host `host`, with its `identifier`, `platform` and `agent`: it is `abc`, `linux` and `5.10.0` where a
 //! row doesn't say otherwise.

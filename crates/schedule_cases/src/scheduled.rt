@@ -3,7 +3,7 @@
 ghost use Rattle.std.specs.Prelude.{◌≡◌, length};
 
 use crate::given::{found_of, host_of};
-use case_text::bytes_of;
+use case_text::{bytes_of, member_text};
 use osq_config::{Config, ConfigError, read_config};
 use osq_value::NoMemory;
 use pack_rules::schedule::{Form, Mode, Schedule, Scheduled};
@@ -49,19 +49,20 @@ fn push_notes(text: &mut String, notes: &[u8]) -> Result<(), NoMemory> {
     }
 }
 
-/// Tells the schedule of a configuration with a word for each of its packs, and the notes.
+/// Tells the schedule of a configuration with a word for each of its packs, and the notes with these lines of packs that are left out.
 fn push_scheduled(
     alloc: Global,
     text: &mut String,
     config: &Config,
     host: &Host,
     found: &[bool],
+    left_out: &str,
 ) -> Result<(), NoMemory>
     requires { length found.now ≡ length config.now.packs }
 {
     let schedule = schedule_of(alloc, config, host, found)?;
     push_schedule(text, &schedule)?;
-    let notes = schedule_notes(alloc, config, host, found)?;
+    let notes = schedule_notes(alloc, config, host, found, left_out.as_bytes())?;
     push_notes(text, notes.as_slice())
 }
 
@@ -77,7 +78,8 @@ fn push_found(
     if found.len() != config.packs.len() {
         return Ok(text.push_str("not a word for each pack\n")?);
     }
-    push_scheduled(alloc, text, config, &host, found.as_slice())
+    let left_out = member_text(row, "left_out");
+    push_scheduled(alloc, text, config, &host, found.as_slice(), left_out)
 }
 
 /// Reads the configuration of a row, and tells its schedule.

@@ -1,9 +1,13 @@
 //! The entries of a configuration that a host is to run, and what becomes of each.
 
-ghost use Rattle.std.specs.Prelude.{◌≡◌, length};
+ghost use Rattle.std.specs.Prelude.{◌≡◌, ◌∷◌, [], ◌++◌, length, filter, IfOk, OnOk};
+ghost use Rattle.std.specs.List.{dedup};
+ghost use Rattle.pack_rules.specs.Offers.{name_in_pack};
+ghost use Rattle.schedule_notes.specs.Listed.{IsInOrder, all_pack_judged, judged, judged_as, judged_in_pack, outcome_by, outcome_of, own_judged, pack_judged};
+ghost use Rattle.schedule_notes.specs.Notes.{has_same_name, is_taken};
 
 use osq_config::{Config, Pack, QueryEntry};
-use osq_value::{Copied, NoMemory, Str};
+use osq_value::{Copied, NoMemory, Sequence, Str};
 use pack_rules::{Host, rules_hold};
 use sql_query::answers::is_evented;
 use sql_texts::text::{TextError, query_of_text};
@@ -11,7 +15,7 @@ use std::alloc::Global;
 
 /// What becomes of an entry whose rules hold.
 #[derive(Clone, Copy)]
-pub(crate) enum Outcome {
+pub enum Outcome {
     /// Its text isn't accepted, and not for want of memory.
     Refused(TextError),
     /// It runs as it is configured.
@@ -22,14 +26,21 @@ pub(crate) enum Outcome {
 
 /// An entry whose rules hold, by the name under which it is scheduled.
 #[derive(Drop)]
-pub(crate) struct Judged {
-    pub(crate) name: Str,
-    pub(crate) outcome: Outcome,
+pub struct Judged {
+    /// The name in the schedule, with the pack's name before it where it is an entry of a pack.
+    pub name: Str,
+    /// What becomes of it.
+    pub outcome: Outcome,
 }
+
+/// Entries whose rules hold.
+pub(crate) type JudgedList = Sequence<Judged>;
 
 impl Judged {
     /// Its text is accepted.
-    pub(crate) fn is_taken(&self) -> bool {
+    pub(crate) fn is_taken(&self) -> bool
+        ensures { result ≡ is_taken self.now }
+    {
         match self.outcome {
             Outcome::Refused(_) => false,
             Outcome::AsConfigured => true,
@@ -38,73 +49,154 @@ impl Judged {
     }
 }
 
-fn outcome_of(alloc: Global, entry: &QueryEntry) -> Result<Outcome, NoMemory> {
+fn outcome_by(is_configured: bool) -> Outcome
+    ensures { result ≡ outcome_by is_configured }
+{
+    if is_configured {
+        Outcome::AsConfigured
+    } else {
+        Outcome::AsSnapshot
+    }
+}
+
+/// What becomes of an entry whose rules hold.
+fn outcome_of(alloc: Global, entry: &QueryEntry) -> Result<Outcome, NoMemory>
+    ensures { IfOk result (λ outcome. outcome ≡ outcome_of entry.now) }
+{
     match query_of_text(alloc, entry.text.as_str()) {
-        Ok(query) => {
-            if entry.is_snapshot || is_evented(&query) {
-                Ok(Outcome::AsConfigured)
-            } else {
-                Ok(Outcome::AsSnapshot)
-            }
-        }
+        Ok(query) => Ok(outcome_by(entry.is_snapshot || is_evented(&query))),
         Err(TextError::NoMemory) => Err(NoMemory),
         Err(error) => Ok(Outcome::Refused(error)),
     }
 }
 
-/// The name of an entry with this key, which stands in the schedule or in a pack.
-fn name_of(alloc: Global, pack: Option<&Str>, key: &Str) -> Result<Str, NoMemory> {
-    match pack {
-        None => key.copy(alloc),
-        Some(pack) => {
-            let (pack, key) = (pack.as_str(), key.as_str());
-            Ok(Str::from_string(format!(in alloc; "pack_{pack}_{key}")?))
-        }
-    }
+/// The name of a pack's entry.
+fn name_in_pack(alloc: Global, pack: &str, key: &str) -> Result<Str, NoMemory>
+    ensures { IfOk result (λ name. name ≡ name_in_pack pack.now key.now) }
+{
+    Ok(Str::from_string(format!(in alloc; "pack_{pack}_{key}")?))
 }
 
-/// Adds those of the entries whose rules hold.
-fn push_entries(
+/// Adds an entry under this name.
+fn push_named(
     alloc: Global,
-    judged: &mut Vec<Judged>,
+    judged: &mut JudgedList,
+    name: Str,
+    entry: &QueryEntry,
+) -> Result<(), NoMemory>
+    ensures { OnOk result (judged.new ≡ judged.old ++ record { name = name; outcome = outcome_of entry.now } ∷ []) }
+{
+    let outcome = outcome_of(alloc, entry)?;
+    judged.push(Judged { name, outcome })
+}
+
+/// Adds an entry of the schedule, where its rules hold.
+fn push_own(
+    alloc: Global,
+    judged: &mut JudgedList,
     host: &Host,
-    pack: Option<&Str>,
+    entry: &QueryEntry,
+) -> Result<(), NoMemory>
+    ensures { OnOk result (judged.new ≡ judged.old ++ judged_as host.now entry.now.name entry.now) }
+{
+    if !rules_hold(host, &entry.rules) {
+        return Ok(());
+    }
+    let name = entry.name.copy(alloc)?;
+    push_named(alloc, judged, name, entry)
+}
+
+/// Adds an entry of a pack, where its rules hold.
+fn push_packed(
+    alloc: Global,
+    judged: &mut JudgedList,
+    host: &Host,
+    pack: &Str,
+    entry: &QueryEntry,
+) -> Result<(), NoMemory>
+    ensures { OnOk result (judged.new ≡ judged.old ++ judged_as host.now (name_in_pack pack.now entry.now.name) entry.now) }
+{
+    if !rules_hold(host, &entry.rules) {
+        return Ok(());
+    }
+    let name = name_in_pack(alloc, pack.as_str(), entry.name.as_str())?;
+    push_named(alloc, judged, name, entry)
+}
+
+fn push_schedule(
+    alloc: Global,
+    judged: &mut JudgedList,
+    host: &Host,
     entries: &[QueryEntry],
-) -> Result<(), NoMemory> {
+) -> Result<(), NoMemory>
+    ensures { OnOk result (judged.new ≡ judged.old ++ own_judged host.now entries.now) }
+{
     for entry in entries {
-        if rules_hold(host, &entry.rules) {
-            judged.push(Judged {
-                name: name_of(alloc, pack, &entry.name)?,
-                outcome: outcome_of(alloc, entry)?,
-            })?;
-        }
+        push_own(alloc, judged, host, entry)?;
     }
     Ok(())
 }
 
-/// Adds the entries of the active packs.
+fn push_entries(
+    alloc: Global,
+    judged: &mut JudgedList,
+    host: &Host,
+    pack: &Str,
+    entries: &[QueryEntry],
+) -> Result<(), NoMemory>
+    ensures { OnOk result (judged.new ≡ judged.old ++ judged_in_pack host.now pack.now entries.now) }
+{
+    for entry in entries {
+        push_packed(alloc, judged, host, pack, entry)?;
+    }
+    Ok(())
+}
+
+/// Adds the entries of a pack, where it is active.
+fn push_pack(
+    alloc: Global,
+    judged: &mut JudgedList,
+    host: &Host,
+    pack: &Pack,
+    is_found: bool,
+) -> Result<(), NoMemory>
+    ensures { OnOk result (judged.new ≡ judged.old ++ pack_judged host.now pack.now is_found) }
+{
+    if is_found && rules_hold(host, &pack.rules) {
+        push_entries(alloc, judged, host, &pack.name, pack.queries.as_slice())
+    } else {
+        Ok(())
+    }
+}
+
 fn push_packs(
     alloc: Global,
-    judged: &mut Vec<Judged>,
+    judged: &mut JudgedList,
     host: &Host,
     packs: &[Pack],
     found: &[bool],
 ) -> Result<(), NoMemory>
     requires { length found.now ≡ length packs.now }
+    ensures { OnOk result (judged.new ≡ judged.old ++ all_pack_judged host.now packs.now found.now) }
 {
     for at in 0..packs.len() {
-        let pack = &packs[at];
-        if found[at] && rules_hold(host, &pack.rules) {
-            push_entries(
-                alloc,
-                judged,
-                host,
-                Some(&pack.name),
-                pack.queries.as_slice(),
-            )?;
-        }
+        push_pack(alloc, judged, host, &packs[at], found[at])?;
     }
     Ok(())
+}
+
+/// The entries in byte order of their names, those of one name as they stood. They are moved.
+fn by_name(judged: JudgedList) -> Result<JudgedList, NoMemory>
+    ensures { IfOk result (IsInOrder judged) }
+{
+    let mut entries = judged.into_vec();
+    entries.sort_by(|left, right| {
+        left.name
+            .as_str()
+            .as_bytes()
+            .cmp(right.name.as_str().as_bytes())
+    })?;
+    Ok(JudgedList::from_vec(entries))
 }
 
 /// The entries whose rules hold, of the schedule and of active packs, in byte order of their names. Those of one name stand as they are
@@ -114,17 +206,22 @@ pub(crate) fn judged_entries(
     config: &Config,
     host: &Host,
     found: &[bool],
-) -> Result<Vec<Judged>, NoMemory>
+) -> Result<JudgedList, NoMemory>
     requires { length found.now ≡ length config.now.packs }
+    ensures { IfOk result (IsInOrder (judged config.now host.now found.now)) }
 {
-    let mut judged = Vec::new(alloc);
-    push_entries(alloc, &mut judged, host, None, config.schedule.as_slice())?;
+    let mut judged = JudgedList::new(alloc);
+    push_schedule(alloc, &mut judged, host, config.schedule.as_slice())?;
     push_packs(alloc, &mut judged, host, config.packs.as_slice(), found)?;
-    judged.sort_by(|left, right| {
-        left.name
-            .as_str()
-            .as_bytes()
-            .cmp(right.name.as_str().as_bytes())
-    })?;
-    Ok(judged)
+    by_name(judged)
+}
+
+/// Of these entries those that are scheduled: each whose text is accepted, and of those of one name that stand together the first.
+pub(crate) fn scheduled(judged: JudgedList) -> JudgedList
+    ensures { result ≡ dedup has_same_name (filter is_taken judged) }
+{
+    let mut entries = judged.into_vec();
+    entries.retain(|entry| entry.is_taken());
+    entries.dedup_by(|later, earlier| later.name.is(&earlier.name));
+    JudgedList::from_vec(entries)
 }

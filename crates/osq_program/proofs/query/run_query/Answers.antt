@@ -1,4 +1,4 @@
-use Rattle.std.proofs.Common.{Err, refl, ℕ, List, ap, sym, subst, ◌∙◌, ◌++◌, map, length}
+use Rattle.std.proofs.Common.{Err, refl, ℕ, List, ap, sym, subst, ◌∙◌, ◌++◌, append_assoc, map, length}
 use Rattle.program_words.specs.declared.source.SourceName.{SourceName}
 use Rattle.sql_query.specs.Resolved.{query_of}
 use Rattle.sql_texts.specs.TextFaults.{text_fault}
@@ -6,7 +6,7 @@ use Rattle.sql_texts.specs.Texts.{query_in}
 use Rattle.query_rounds.specs.Asking.{IsAnswer}
 use Rattle.osq_program.specs.Ending.{IsAnswerTo}
 use Rattle.osq_program.specs.Setups.{source_in}
-use Rattle.osq_program.proofs.Questions.{accepted_by, answered, as_fault, as_keeper, as_late, as_refused, as_shrank, as_spent, given_for, meant_for, no_memory, no_sink, of_text, posed_by, refused_config, refused_text, same_lines, unanswered, untold}
+use Rattle.osq_program.proofs.Questions.{accepted_by, answered, as_fault, as_keeper, as_late, as_refused, as_shrank, as_spent, given_for, meant_for, no_memory, no_sink, of_text, posed_by, refused_config, refused_text, same_lines, skips_for, unanswered, untold}
 use Rattle.osq_program.proofs.Replays.{answered as caused, fails_there, is_within, shrank_by}
 use Rattle.osq_program.proofs.Setups.{names_distinct}
 use Rattle.osq_program.proofs.query.run_query.Goals as goal
@@ -17,7 +17,7 @@ returns-in-Err-clause-does g c =
 
 pub returns-in-Err-watched_by-clause-does : goal.returns-in-Err-watched_by-clause-does
 returns-in-Err-watched_by-clause-does g c =
-    refused_config _ _ c.in-Err-watched_by.status _ c.refuse-in-Err-watched_by.ensures (ap text_fault (sym c.as_str-text.ensures) ∙ c.in-Ok.ensures.accepted) c.in-Err-watched_by.ensures.cause (λ tells. refl) (λ tells. refl)
+    refused_config _ _ c.in-Err-watched_by.refused.status _ c.refuse_unconfigured.ensures (ap text_fault (sym c.as_str-text.ensures) ∙ c.in-Ok.ensures.accepted) c.in-Err-watched_by.ensures.cause (λ tells. refl) (λ tells. refl)
 
 pub returns-in_default-clause-does : goal.returns-in_default-clause-does
 returns-in_default-clause-does g c = no_memory _ _ _ c.refuse-in_default.ensures (λ tells. refl) (λ tells. refl)
@@ -42,12 +42,17 @@ returns-in-Ok-ask_kept-clause-does g c =
     let names = c.as_slice-3.ensures ∙ c.in-Ok-sources_of.ensures ∙ ap (map source_in) c.as_slice.ensures in
     let bytes = sym (ap (map left) c.as_mut_slice.ensures.value) in
     let (moment, read, early, meant, answer) = c.in-Ok-ask_kept.ensures.answer in
+    let (taken, taken_is, skips) = c.in-Ok-ask_kept.ensures.skipped in
     answered _ _ (posed_by _ _ _ watched.paths watched.notes c.as_str-text.ensures c.in-Ok.ensures.accepted c.in-Ok-watched_by.ensures.watched) moment read early asked
     (meant_for c.args.words.now _ _ _ _ moment asked.rows names c.as_str-text.ensures meant)
+    taken taken_is (skips_for c.args.words.now _ watched.paths taken _ _ asked.is_end asked.skipped names bytes skips)
     (λ kept_told source_told legal given is. subst (λ (text : List ℕ). IsAnswer given (g.K.Keeper.kept c.args.outside.now.keeper) text c.args.words.now.ticks moment asked) c.as_str-text.ensures
     (answer kept_told source_told legal given (given_for left _ _ _ _ _ given names bytes is)))
     _ (same_lines c.args.words.now.text (query_of c.in-Ok.query) asked.rows (ap query_in (sym c.as_str-text.ensures) ∙ c.in-Ok.ensures.query)) c.in-Ok-ask_kept.ensures.same _ c.write_answer.ensures.writes
-    (λ done tells. ap g.O.Sink.written (c.write_answer.ensures.quiet done) ∙ c.in-Ok-write_all.ensures.bytes tells ∙ ap (λ (notes : List ℕ). g.O.Sink.written c.args.outside.now.status ++ notes) c.as_slice-2.ensures)
+    (λ done tells. ap g.O.Sink.written (c.write_answer.ensures.quiet done) ∙ c.in-Ok-write_all-2.ensures.bytes tells
+    ∙ ap (λ (skipped : List ℕ). g.O.Sink.written c.write_all.new.sink ++ skipped) c.as_slice-4.ensures
+    ∙ ap (λ (text : List ℕ). text ++ asked.skipped) (c.in-Ok-write_all.ensures.bytes tells ∙ ap (λ (notes : List ℕ). g.O.Sink.written c.args.outside.now.status ++ notes) c.as_slice-2.ensures)
+    ∙ append_assoc (g.O.Sink.written c.args.outside.now.status) watched.notes asked.skipped)
 
 pub answer_to-status-requires-clause-fault : goal.answer_to-status-requires-clause-fault
 answer_to-status-requires-clause-fault g c = λ place is.

@@ -1,22 +1,17 @@
-use Rattle.std.proofs.Common.{refl, inr, ℕ, List, ap, sym, subst, ◌∙◌, ◌++◌, map, length}
+use Rattle.std.proofs.Common.{refl, inr, List, ap, sym, subst, ◌∙◌, map, length}
 use Rattle.program_words.specs.declared.source.SourceName.{SourceName}
 use Rattle.daemon_rounds.specs.declared.setup.Setup.{Setup}
 use Rattle.osq_program.specs.Ending.{IsAnswerTo}
-use Rattle.osq_program.proofs.Ended.{failed_between, later_then, rose_behind}
-use Rattle.osq_program.proofs.Replays.{answered, fails_there, given_is, is_within, no_memory, ran, refused_config, shrank_by, stopped, untold}
+use Rattle.osq_program.proofs.Ended.{failed_before, rose_behind}
+use Rattle.osq_program.proofs.Replays.{answered, fails_there, given_is, is_within, no_memory, ran, refused_config, shrank_by, stopped}
 use Rattle.osq_program.proofs.Setups.{for_ticks, setup_distinct, setup_paired, setup_ticks}
 use Rattle.osq_program.proofs.replay.run_replay.Goals as goal
 
 pub returns-in-Err-clause-does : goal.returns-in-Err-clause-does
-returns-in-Err-clause-does g c = refused_config _ _ c.in-Err.status _ c.refuse.ensures c.in-Err.ensures.cause (λ tells. refl) (λ tells. refl)
+returns-in-Err-clause-does g c = refused_config _ _ c.in-Err.refused.status _ c.refuse_unconfigured.ensures c.in-Err.ensures.cause (λ tells. refl) (λ tells. refl)
 
 pub returns-in_default-clause-does : goal.returns-in_default-clause-does
 returns-in_default-clause-does g c = no_memory _ _ _ c.refuse-in_default.ensures (λ tells. refl) (λ tells. refl)
-
-pub returns-in_default-write_all-clause-does : goal.returns-in_default-write_all-clause-does
-returns-in_default-write_all-clause-does g c =
-    untold _ _ _ refl (_, given_is g.S.Source.left _ _ c.in-Ok-setup_of.setup c.in-Ok.configured.config c.in-Ok.configured.documents c.in-Ok.configured.notes _ c.in-Ok-setup_of.ensures refl c.in-Ok.ensures.config)
-    c.in_default-write_all.ensures.cause.failed (λ tells. refl) (λ tells. refl)
 
 pub run_session-requires-clause-configuration : goal.run_session-requires-clause-configuration
 run_session-requires-clause-configuration g c κs within = c.in-Ok.ensures.config.holds
@@ -40,9 +35,8 @@ returns-in-Ok-run_session-clause-does g c =
     let left = g.S.Source.left in
     let bytes = sym (ap (map left) c.as_mut_slice.ensures.value) in
     let is = given_is left _ _ c.in-Ok-setup_of.setup c.in-Ok.configured.config c.in-Ok.configured.documents c.in-Ok.configured.notes _ c.in-Ok-setup_of.ensures bytes c.in-Ok.ensures.config in
-    ran _ _ _ _ is c.in-Ok-run_session.ended (for_ticks c.in-Ok-setup_of.setup c.args.words.now _ _ _ _ _ c.in-Ok-setup_of.ensures s.done) _ _
-    (λ tells. c.in-Ok-write_all.ensures.bytes tells ∙ ap (λ (notes : List ℕ). g.O.Sink.written c.args.outside.now.status ++ notes) c.as_slice.ensures) s.notes _
-    (rose_behind _ _ _ (later_then _ _ _ c.in-Ok-write_all.ensures.cause.later s.later.2)) c.finish.ensures.done c.finish.ensures.spent c.finish.ensures.cause s.kept s.written
+    ran _ _ _ _ is c.in-Ok-run_session.ended (for_ticks c.in-Ok-setup_of.setup c.args.words.now _ _ _ _ _ c.in-Ok-setup_of.ensures s.done) _ s.told _
+    (rose_behind _ _ _ s.later.2) c.finish.ensures.done c.finish.ensures.spent c.finish.ensures.cause s.kept s.written
 
 pub answer_to-status-requires-clause-fault : goal.answer_to-status-requires-clause-fault
 answer_to-status-requires-clause-fault g c = λ place is.
@@ -75,5 +69,5 @@ returns-clause-does g c =
     let h = s.shrank r place kept found refl e in
     ((_, is), shrank_by left _ _ setup.sources _ h.0 place kept found name (ap (λ (s : Setup). s.sources) c.in-Ok-setup_of.ensures) bytes h.1 h.2 named))
     (λ e. (_, is, s.spent r refl e))
-    (λ e. ((_, is), failed_between _ _ _ _ _ c.in-Ok-write_all.ensures.cause.later c.stop.ensures.later (s.sink_cause r refl e))))
+    (λ e. ((_, is), failed_before _ _ _ _ c.stop.ensures.later (s.sink_cause r refl e))))
     (λ tells. inr (_, is, s.kept tells)) (λ tells. inr (_, is, s.written tells))

@@ -24,8 +24,12 @@ returns-clause-answer g c =
       λ told sources_told legal given is.
           answered g.S.Source.tells g.S.Source.left g.S.Source.faults c.args.names.now c.args.sources.now c.read_behind.new.sources c.args.rounds given (g.K.Keeper.kept c.args.keeper.now) behind.state behind.is_end sources_told legal c.requires.distinct c.args.paths.now c.args.records is
           (subst (λ (restored : Restored). HasRead g.S.Source.tells g.S.Source.left g.S.Source.faults c.args.names.now c.args.paths.now c.args.records c.args.rounds restored c.args.sources.now c.read_behind.new.sources behind.state behind.is_end) (c.in-Ok.ensures.value told) c.in-Ok-read_behind.ensures.read)
-          c.args.text.now c.in-Ok-read_moment.moment c.in-Ok-answer_behind.rows c.in-Ok-answer_behind.ensures,
+          c.args.text.now c.in-Ok-read_moment.moment c.in-Ok-answer_behind.rows behind.skipped c.in-Ok-answer_behind.ensures,
     )
+
+pub returns-clause-skipped : goal.returns-clause-skipped
+returns-clause-skipped g c =
+    (c.in-Ok.restored.taken, λ tells. ap (λ (restored : Restored). restored.taken) (c.in-Ok.ensures.value tells), c.in-Ok-read_behind.ensures.skipped)
 
 pub returns-in-Err-read_behind-clause-spent : goal.returns-in-Err-read_behind-clause-spent
 returns-in-Err-read_behind-clause-spent g c = λ is told sources_told legal given over.

@@ -12,6 +12,7 @@ use Rattle.replay_rounds.proofs.Causes.{by_sink}
 use Rattle.replay_rounds.proofs.Done.{has_run}
 use Rattle.replay_rounds.proofs.Grown.{grown_then, of_error, of_value}
 use Rattle.replay_rounds.proofs.Looping.{goes_on_here, grown_of, kept_first, kept_on, looped_first, looped_on, opens_here, partly_first, partly_on, still_written, written_on}
+use Rattle.replay_rounds.proofs.Noted.{noted_first, noted_on}
 use Rattle.replay_rounds.proofs.Ran.{all_is_kept, none_kept, none_written, reads_more, still_kept}
 use Rattle.replay_rounds.proofs.Spent.{spent_first, spent_nowhere, spent_on}
 use Rattle.replay_rounds.proofs.running.run_session.Goals as goal
@@ -147,6 +148,7 @@ loop-init g c =
       results_later = results_first;
       status_later = c.open_noted.ensures.later;
       noted = c.open_noted.ensures.grown;
+      told = λ tells. noted_first _ _ _ _ _ (c.in-Ok-open_noted.ensures.noted tells);
     }
 
 pub returns-in-Err-next_moment-clause-kept : goal.returns-in-Err-next_moment-clause-kept
@@ -313,6 +315,7 @@ loop-preserved g c =
       results_later = omega (arith, r, r2);
       status_later = omega (arith, s, noted);
       noted = λ tells. grown_then _ _ _ (c.loop.invariant.noted tells) (c.next_moment.ensures.grown tells);
+      told = λ tells. noted_on _ _ _ _ _ _ _ (c.loop.invariant.told tells) (c.in-Ok-next_moment.ensures.noted tells);
     }
 
 pub returns-clause-done : goal.returns-clause-done
@@ -365,6 +368,11 @@ returns-clause-sink_cause g c refused is error =
     let rose = subst (IsBetween _ _) error (of_error _ c.end_session.result refused c.end_session.ensures.cause is) in
     let before = c.loop.invariant.status_later in
     inr (omega (arith, rose, before))
+
+pub returns-clause-told : goal.returns-clause-told
+returns-clause-told g c tells =
+    let skipped = c.end_session.ensures.skipped tells in
+    of_value _ _ _ c.end_session.result skipped skipped (λ ended is same. (g.O.Sink.written c.loop.status, c.loop.feeds, c.loop.invariant.told tells, is))
 
 pub returns-clause-notes : goal.returns-clause-notes
 returns-clause-notes g c tells =
