@@ -183,11 +183,11 @@ meant_for words tells kept names text moment rows named is meant =
     subst (λ (text : List ℕ). asking.IsMeant tells kept (map source_in words.sources) text moment rows) is (subst (λ (names : List SessionSource). asking.IsMeant tells kept names text moment rows) named meant)
 
 -- what its sources skipped is told of the sources that the words name
-pub skips_for : (words : QueryWords) (told : Told) (paths : List Category) (taken : List Taken) (names : List SessionSource) (all_bytes : List (List ℕ)) (is_end : Bool) (lines : List ℕ) → names ≡ map source_in words.sources
-    → told.all_bytes ≡ all_bytes → TellsSkipped told.source_tells paths taken names all_bytes is_end lines → TellsSkipped told.source_tells paths taken (map source_in words.sources) told.all_bytes is_end lines
-skips_for words told paths taken names all_bytes is_end lines named bytes skips =
-    subst (λ (bytes : List (List ℕ)). TellsSkipped told.source_tells paths taken (map source_in words.sources) bytes is_end lines) (sym bytes)
-    (subst (λ (names : List SessionSource). TellsSkipped told.source_tells paths taken names all_bytes is_end lines) named skips)
+pub skips_for : (words : QueryWords) (tells : Type 0) (paths : List Category) (taken : List Taken) (names : List SessionSource) (given_bytes all_bytes : List (List ℕ)) (is_end : Bool) (lines : List ℕ) → names ≡ map source_in words.sources
+    → given_bytes ≡ all_bytes → TellsSkipped tells paths taken names all_bytes is_end lines → TellsSkipped tells paths taken (map source_in words.sources) given_bytes is_end lines
+skips_for words tells paths taken names given_bytes all_bytes is_end lines named bytes skips =
+    subst (λ (bytes : List (List ℕ)). TellsSkipped tells paths taken (map source_in words.sources) bytes is_end lines) (sym bytes)
+    (subst (λ (names : List SessionSource). TellsSkipped tells paths taken names all_bytes is_end lines) named skips)
 
 -- the question was answered, and what was then written
 module _ (words : QueryWords) (told : Told) (posed : IsPosed words told) (moment : ℕ) (read : told.reads moment) (early : moment ≤ LAST_MOMENT) (asked : Asked)

@@ -162,9 +162,9 @@ pub(crate) fn run_query<S: Source, O: Sink, F: Files, C: Clock, K: Keeper, L: Li
         &mut outside.keeper,
     ) {
         Ok(asked) => {
-            if write_all(&mut outside.status, asked.skipped.as_slice()).is_err() {
+            let Ok(()) = write_all(&mut outside.status, asked.skipped.as_slice()) else {
                 return Status::SinkFault;
-            }
+            };
             write_answer(
                 alloc,
                 &query,

@@ -45,12 +45,12 @@ returns-in-Ok-ask_kept-clause-does g c =
     let (taken, taken_is, skips) = c.in-Ok-ask_kept.ensures.skipped in
     answered _ _ (posed_by _ _ _ watched.paths watched.notes c.as_str-text.ensures c.in-Ok.ensures.accepted c.in-Ok-watched_by.ensures.watched) moment read early asked
     (meant_for c.args.words.now _ _ _ _ moment asked.rows names c.as_str-text.ensures meant)
-    taken taken_is (skips_for c.args.words.now _ watched.paths taken _ _ asked.is_end asked.skipped names bytes skips)
+    taken taken_is (skips_for c.args.words.now _ watched.paths taken _ _ _ asked.is_end asked.skipped names bytes skips)
     (λ kept_told source_told legal given is. subst (λ (text : List ℕ). IsAnswer given (g.K.Keeper.kept c.args.outside.now.keeper) text c.args.words.now.ticks moment asked) c.as_str-text.ensures
     (answer kept_told source_told legal given (given_for left _ _ _ _ _ given names bytes is)))
     _ (same_lines c.args.words.now.text (query_of c.in-Ok.query) asked.rows (ap query_in (sym c.as_str-text.ensures) ∙ c.in-Ok.ensures.query)) c.in-Ok-ask_kept.ensures.same _ c.write_answer.ensures.writes
     (λ done tells. ap g.O.Sink.written (c.write_answer.ensures.quiet done) ∙ c.in-Ok-write_all-2.ensures.bytes tells
-    ∙ ap (λ (skipped : List ℕ). g.O.Sink.written c.write_all.new.sink ++ skipped) c.as_slice-4.ensures
+    ∙ ap (λ (skipped : List ℕ). g.O.Sink.written c.write_all.new.sink ++ skipped) c.as_slice-in-Ok-ask_kept.ensures
     ∙ ap (λ (text : List ℕ). text ++ asked.skipped) (c.in-Ok-write_all.ensures.bytes tells ∙ ap (λ (notes : List ℕ). g.O.Sink.written c.args.outside.now.status ++ notes) c.as_slice-2.ensures)
     ∙ append_assoc (g.O.Sink.written c.args.outside.now.status) watched.notes asked.skipped)
 

@@ -11,7 +11,7 @@ pub returns-in-Err-clause-does : goal.returns-in-Err-clause-does
 returns-in-Err-clause-does g c = refused_config _ _ c.in-Err.refused.status _ c.refuse_unconfigured.ensures c.in-Err.ensures.cause (λ tells. refl) (λ tells. refl)
 
 pub returns-in_default-clause-does : goal.returns-in_default-clause-does
-returns-in_default-clause-does g c = no_memory _ _ _ c.refuse-in_default.ensures (λ tells. refl) (λ tells. refl)
+returns-in_default-clause-does g c = no_memory _ _ _ c.refuse.ensures (λ tells. refl) (λ tells. refl)
 
 pub run_session-requires-clause-configuration : goal.run_session-requires-clause-configuration
 run_session-requires-clause-configuration g c κs within = c.in-Ok.ensures.config.holds
@@ -42,13 +42,13 @@ pub answer_to-status-requires-clause-fault : goal.answer_to-status-requires-clau
 answer_to-status-requires-clause-fault g c = λ place is.
     let fails = c.in-Err-run_session.ensures.fault c.in-Err-run_session.refused place refl is in
     is_within c.as_mut_slice.result.now _ place fails.source
-    (c.as_mut_slice.ensures.len ∙ c.requires.sources ∙ sym (ap (λ (sources : List SourceName). length sources) c.as_slice-in-Err-run_session.ensures)) fails.was
+    (c.as_mut_slice.ensures.len ∙ c.requires.sources ∙ sym (ap (λ (sources : List SourceName). length sources) c.as_slice.ensures)) fails.was
 
 pub answer_to-status-requires-clause-shrank : goal.answer_to-status-requires-clause-shrank
 answer_to-status-requires-clause-shrank g c = λ place kept found is.
     let h = c.in-Err-run_session.ensures.shrank c.in-Err-run_session.refused place kept found refl is in
     is_within c.as_mut_slice.result.now _ place h.2.source
-    (c.as_mut_slice.ensures.len ∙ c.requires.sources ∙ sym (ap (λ (sources : List SourceName). length sources) c.as_slice-in-Err-run_session.ensures)) h.2.source_there
+    (c.as_mut_slice.ensures.len ∙ c.requires.sources ∙ sym (ap (λ (sources : List SourceName). length sources) c.as_slice.ensures)) h.2.source_there
 
 pub returns-clause-does : goal.returns-clause-does
 returns-clause-does g c =
@@ -58,7 +58,7 @@ returns-clause-does g c =
     let setup = c.in-Ok-setup_of.setup in
     let bytes = sym (ap (map left) c.as_mut_slice.ensures.value) in
     let is = given_is left _ _ setup c.in-Ok.configured.config c.in-Ok.configured.documents c.in-Ok.configured.notes _ c.in-Ok-setup_of.ensures bytes c.in-Ok.ensures.config in
-    let answer = subst (λ (sources : List SourceName). IsAnswerTo sources r.error c.answer_to-status.result) c.as_slice-in-Err-run_session.ensures c.answer_to-status.ensures in
+    let answer = subst (λ (sources : List SourceName). IsAnswerTo sources r.error c.answer_to-status.result) c.as_slice.ensures c.answer_to-status.ensures in
     stopped _ _ c.answer_to-status.result _ c.stop.ensures.same
     (answered _ c.args.words.now.sources r.error _ answer
     (λ e. ((_, is), s.keeper_cause r refl e))
