@@ -1,0 +1,39 @@
+//! Why a line is no frame.
+
+use osq_value::NoMemory;
+
+/// What is wrong with a line, by the first of these that holds.
+#[derive(Clone, Copy)]
+pub enum BadKind {
+    /// The line is no JSON value.
+    NotJson,
+    /// The value isn't an object with exactly the keys of a frame and values of their kinds, or the frame isn't valid.
+    WrongShape,
+    /// The digest isn't that of the frame.
+    BadDigest,
+    /// The frame's text is another.
+    NotCanonical,
+}
+
+/// Why a line wasn't decoded.
+#[derive(Clone, Copy)]
+pub enum FrameError {
+    /// The line is no frame.
+    BadFrame {
+        /// What is wrong with it.
+        kind: BadKind,
+    },
+    /// Memory was wanting.
+    NoMemory,
+}
+
+impl From<NoMemory> for FrameError {
+    ghost use Rattle.std.specs.Prelude.{◌≡◌};
+    ghost use Rattle.batch_frames.specs.declared.error.FrameError.TheVariants as fault;
+
+    ghost from_gives = { λ _ e. e ≡ fault.NoMemory };
+
+    fn from(_error: NoMemory) -> Self {
+        FrameError::NoMemory
+    }
+}

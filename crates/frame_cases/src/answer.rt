@@ -1,0 +1,26 @@
+//! What rows give.
+
+use crate::frames::{push_decoded, push_encoded};
+use case_text::{bytes_of, kind_of_row};
+use osq_value::NoMemory;
+use serde_json::Value as Json;
+use std::alloc::Global;
+
+const KINDS: [&[&str]; 2] = [
+    &[
+        "frame", "number", "text", "mode", "lo", "hi", "cut", "moment", "names", "rows",
+    ],
+    &["line"],
+];
+
+/// Adds what a row gives.
+pub(crate) fn push_answer(alloc: Global, text: &mut String, row: &Json) -> Result<(), NoMemory> {
+    match kind_of_row(&KINDS, row) {
+        Some("frame") => push_encoded(alloc, text, row),
+        Some("line") => {
+            let line = bytes_of(alloc, row.get("line").unwrap_or(row))?;
+            push_decoded(alloc, text, line.as_slice())
+        }
+        _ => Ok(text.push_str("no such row\n")?),
+    }
+}
