@@ -46,6 +46,7 @@ module _ {S : Type 0} (m n : IndexMap (List ℕ) (List (List ℕ)) S) (host key 
 
 module _ {S : Type 0} (m : IndexMap (List ℕ) (List (List ℕ)) S) (host : List ℕ) (at : ℕ) (key : List ℕ) (was now : List (List ℕ))
     (place : Some at ≡ position (bytes_eq host) (keys m)) (entry : slice_get m.entries at ≡ Some (key, was)) where
+  -- the key at the place of a host is its name
   key-is : key ≡ host
   key-is =
       let there = slice_get-map (λ (e : List ℕ × List (List ℕ)). e.0) m.entries at ∙ ap (option_map (λ (e : List ℕ × List (List ℕ)). e.0)) entry in

@@ -13,7 +13,7 @@ abbrev pub Isolation : Type 0
 Isolation = (host : List ℕ) (one other : HostDigests) (frames others : List Frame) → one host ≡ other host → frames_of host frames ≡ frames_of host others
     → all_received one frames host ≡ all_received other others host
 
--- a frame that is received once more changes nothing
+-- a frame that is received again right away changes nothing
 abbrev pub Once : Type 0
 Once = (recorded : HostDigests) (frame : Frame) (host : List ℕ) → received (received recorded frame) frame host ≡ received recorded frame host
 

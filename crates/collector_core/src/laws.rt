@@ -8,7 +8,7 @@ pub fn isolation()
     ensures { Isolation }
 {}
 
-/// A frame that is received twice is recorded once at most.
+/// A frame that is received twice in a row is recorded once at most.
 pub fn once()
     ensures { Once }
 {}
