@@ -5,7 +5,7 @@ use Rattle.std.proofs.lemmas.List.{append_assoc, append-nil, length_push}
 use Rattle.std.proofs.lemmas.Slice.Eq.{bytes_eq-Decides}
 use Rattle.batch_frames.specs.Texts.{digest_of}
 use Rattle.batch_frames.specs.declared.frame.Frame.{Frame}
-use Rattle.collector_core.specs.Laws.{AreNumbered, InOrder, Isolation, Once, frames_of}
+use Rattle.collector_core.specs.Laws.{Stays, AreNumbered, InOrder, Isolation, Once, frames_of}
 use Rattle.collector_core.specs.Received.{HostDigests, all_received, none_recorded, received}
 use Rattle.collector_core.specs.Receipts.{kept_after}
 
@@ -74,3 +74,20 @@ in-order-on host recorded (frame ∷ frames) numbered =
 
 pub in-order : InOrder
 in-order host frames numbered = in-order-on host none_recorded frames numbered
+
+-- digests are only added
+added-one : (b : Bool) (digests : List (List ℕ)) (digest : List ℕ) → (added : List (List ℕ)) × ((if b then digests ++ digest ∷ [] else digests) ≡ digests ++ added)
+added-one true digests digest = (digest ∷ [], refl)
+added-one false digests digest = ([], sym (append-nil digests))
+
+added-own : (b : Bool) (digests : List (List ℕ)) (number : ℕ) (digest : List ℕ)
+    → (added : List (List ℕ)) × ((if b then kept_after digests number digest else digests) ≡ digests ++ added)
+added-own true digests number digest = added-one (number == length digests + 1) digests digest
+added-own false digests number digest = ([], sym (append-nil digests))
+
+pub stays : Stays
+stays recorded [] host = ([], sym (append-nil (recorded host)))
+stays recorded (frame ∷ frames) host =
+    let first = added-own (bytes_eq frame.host host) (recorded host) frame.batch.number (digest_of frame) in
+    let later = stays (received recorded frame) frames host in
+    (first.0 ++ later.0, later.1 ∙ ap (λ (digests : List (List ℕ)). digests ++ later.0) first.1 ∙ append_assoc (recorded host) first.0 later.0)

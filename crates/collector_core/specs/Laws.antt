@@ -1,5 +1,5 @@
 -- What holds of the frames that are received.
-use Rattle.std.specs.Prelude.{◌≡◌, ℕ, ◌+◌, bytes_eq, List, [], ◌∷◌, filter, map}
+use Rattle.std.specs.Prelude.{◌≡◌, ℕ, ◌+◌, bytes_eq, List, [], ◌∷◌, ◌++◌, filter, map}
 use Rattle.batch_frames.specs.Texts.{digest_of}
 use Rattle.batch_frames.specs.declared.frame.Frame.{Frame}
 use Rattle.collector_core.specs.Received.{HostDigests, all_received, none_recorded, received}
@@ -16,6 +16,10 @@ Isolation = (host : List ℕ) (one other : HostDigests) (frames others : List Fr
 -- a frame that is received again right away changes nothing
 abbrev pub Once : Type 0
 Once = (recorded : HostDigests) (frame : Frame) (host : List ℕ) → received (received recorded frame) frame host ≡ received recorded frame host
+
+-- what is recorded of a host stands first in what is recorded later
+abbrev pub Stays : Type 0
+Stays = (recorded : HostDigests) (frames : List Frame) (host : List ℕ) → (added : List (List ℕ)) × (all_received recorded frames host ≡ recorded host ++ added)
 
 -- the frames are a host's, numbered from there on
 abbrev pub AreNumbered : ℕ → List ℕ → List Frame → Type 0
