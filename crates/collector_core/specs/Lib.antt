@@ -1,0 +1,4 @@
+pub mod Laws
+pub mod Ledgers
+pub mod Receipts
+pub mod Received
