@@ -1,16 +1,18 @@
 //! What rows give.
 
 use crate::frames::{push_decoded, push_encoded};
-use case_text::{bytes_of, kind_of_row};
+use crate::ledger::push_receipts;
+use case_text::{bytes_of, items_of, kind_of_row};
 use osq_value::NoMemory;
 use serde_json::Value as Json;
 use std::alloc::Global;
 
-const KINDS: [&[&str]; 2] = [
+const KINDS: [&[&str]; 3] = [
     &[
         "frame", "number", "text", "mode", "lo", "hi", "cut", "moment", "names", "rows",
     ],
     &["line"],
+    &["frames"],
 ];
 
 /// Adds what a row gives.
@@ -21,6 +23,7 @@ pub(crate) fn push_answer(alloc: Global, text: &mut String, row: &Json) -> Resul
             let line = bytes_of(alloc, row.get("line").unwrap_or(row))?;
             push_decoded(alloc, text, line.as_slice())
         }
+        Some("frames") => push_receipts(alloc, text, items_of(row.get("frames"))),
         _ => Ok(text.push_str("no such row\n")?),
     }
 }

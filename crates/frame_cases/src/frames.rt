@@ -35,7 +35,7 @@ fn names_of(alloc: Global, row: &Json) -> Result<TextList, NoMemory> {
 }
 
 /// One row with one value.
-fn one_row(alloc: Global, text: &str) -> Result<RowList, NoMemory> {
+pub(crate) fn one_row(alloc: Global, text: &str) -> Result<RowList, NoMemory> {
     let mut row = Row::new(alloc);
     row.push(Value::Text(Str::of(alloc, text)?))?;
     let mut rows = RowList::new(alloc);
@@ -52,7 +52,7 @@ fn table_of(alloc: Global, row: &Json) -> Result<RowList, NoMemory> {
 }
 
 /// The query `u` with a text.
-fn query_of(alloc: Global, text: &str, mode: Mode) -> Result<QueryKey, NoMemory> {
+pub(crate) fn query_of(alloc: Global, text: &str, mode: Mode) -> Result<QueryKey, NoMemory> {
     Ok(QueryKey {
         name: Str::of(alloc, "u")?,
         text: Str::of(alloc, text)?,
