@@ -46,7 +46,7 @@ fn process_row(alloc: Global, line: &AuditLine, lines: &[AuditLine]) -> Result<R
     row.push(number_value(line, "egid"))?;
     row.push(number_value(line, "ppid"))?;
     row.push(time_of(line))?;
-    Ok(row)
+    row.shared(alloc)
 }
 
 /// The text of `mode` in the line of the first path.

@@ -63,7 +63,7 @@ fn row(
     row.push(Value::Int(remote_port))?;
     row.push(Value::Text(found.socket))?;
     row.push(time_of(line))?;
-    Ok(row)
+    row.shared(alloc)
 }
 
 fn status_of(alloc: Global, line: &AuditLine) -> Result<Str, NoMemory>

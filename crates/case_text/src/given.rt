@@ -31,13 +31,18 @@ pub fn value_of(alloc: Global, item: &Json) -> Result<Value, NoMemory> {
     }
 }
 
+/// The values of an array.
+pub fn values_of(alloc: Global, item: &Json) -> Result<Vec<Value>, NoMemory> {
+    let mut values = Vec::new(alloc);
+    for value in items_of(Some(item)) {
+        values.push(value_of(alloc, value)?)?;
+    }
+    Ok(values)
+}
+
 /// The row of an array of values.
 pub fn row_of(alloc: Global, item: &Json) -> Result<Row, NoMemory> {
-    let mut row = Row::new(alloc);
-    for value in items_of(Some(item)) {
-        row.push(value_of(alloc, value)?)?;
-    }
-    Ok(row)
+    Ok(Row::from_vec(values_of(alloc, item)?))
 }
 
 /// The rows of arrays of values.

@@ -7,8 +7,8 @@ mod outside;
 mod parts;
 mod shown;
 
-pub use given::{items_of, member_text, row_of, rows_of, value_of};
+pub use given::{items_of, member_text, row_of, rows_of, value_of, values_of};
 pub use line::{LineKind, json_of_line, kind_of, kind_of_row, odd_member};
 pub use outside::{fails_of, files_of};
 pub use parts::bytes_of;
-pub use shown::{push_row, push_rows, push_value};
+pub use shown::{push_row, push_rows, push_value, push_values};

@@ -12,14 +12,19 @@ pub fn push_value(text: &mut String, value: &Value) -> Result<(), NoMemory> {
     Ok(())
 }
 
-/// Adds a row in brackets.
-pub fn push_row(text: &mut String, row: &Row) -> Result<(), NoMemory> {
+/// Adds values in brackets.
+pub fn push_values(text: &mut String, values: &[Value]) -> Result<(), NoMemory> {
     text.push_str("[")?;
-    for value in row.as_slice() {
+    for value in values {
         push_value(text, value)?;
     }
     text.push_str(" ]")?;
     Ok(())
+}
+
+/// Adds the values of a row in brackets.
+pub fn push_row(text: &mut String, row: &Row) -> Result<(), NoMemory> {
+    push_values(text, row.as_slice())
 }
 
 /// Adds a blank and a row in brackets for each row.

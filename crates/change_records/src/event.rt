@@ -80,7 +80,7 @@ fn row(alloc: Global, change: &Change, category: &Str) -> Result<Row, NoMemory>
     row.push(number_at(alloc, numbers, 3)?)?;
     row.push(number_at(alloc, numbers, 4)?)?;
     row.push(change.time.copy(alloc)?)?;
-    Ok(row)
+    row.shared(alloc)
 }
 
 fn number_at(alloc: Global, numbers: &Row, place: usize) -> Result<Value, NoMemory>

@@ -97,7 +97,7 @@ fn cells(alloc: Global, columns: &[ColumnDesc], item: &Json) -> Result<Row, Line
     for column in columns {
         cells.push(cell(alloc, column, item)?)?;
     }
-    Ok(cells)
+    Ok(cells.shared(alloc)?)
 }
 
 fn cell(alloc: Global, column: &ColumnDesc, item: &Json) -> Result<Value, LineError>

@@ -75,5 +75,5 @@ impl Tables for CutView {
         }
     }
 
-    ghost outside = { λ view table past. Prim.grind (arith) };
+    ghost outside = { λ view table past named. Prim.grind (arith) };
 }

@@ -1,9 +1,10 @@
 //! What a source gave: events, or a table.
 
 use crate::memory::NoMemory;
+use crate::rows::RowList;
 use crate::sequence::{Copied, Sequence};
 use crate::text::{Str, TextList};
-use crate::value::{EventList, RowList, TableId};
+use crate::value::{EventList, TableId};
 use std::alloc::Global;
 
 /// A named set of paths: those that a pattern matches and no excluded pattern does.

@@ -43,7 +43,7 @@ impl Tables for ThreeTables {
         }
     }
 
-    ghost outside = { λ s table past. Prim.grind (arith) };
+    ghost outside = { λ s table past named. Prim.grind (arith) };
 }
 
 impl ThreeTables {

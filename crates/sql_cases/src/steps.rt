@@ -5,8 +5,8 @@ use crate::sql::{
     Fold, ResultRow, ResultRowList, Worth, count_rows, cut, firsts, fold_values, order,
 };
 use crate::values::given_values;
-use case_text::{items_of, member_text, push_rows, push_value, row_of, rows_of};
-use osq_value::{NoMemory, Value};
+use case_text::{items_of, member_text, push_rows, push_value, rows_of, values_of};
+use osq_value::{NoMemory, Sequence, Value};
 use serde_json::Value as Json;
 use std::alloc::Global;
 
@@ -32,7 +32,7 @@ fn folded(alloc: Global, fold: Fold, line: &Json) -> Result<Value, NoMemory> {
         alloc,
         fold,
         is_set(line, "is_distinct"),
-        given_values(alloc, line)?,
+        Sequence::from_vec(given_values(alloc, line)?),
     )
 }
 
@@ -47,7 +47,7 @@ pub(crate) fn push_fold(alloc: Global, shown: &mut String, line: &Json) -> Resul
 /// A row of a result, whose values were made.
 fn made_row(alloc: Global, item: &Json) -> Result<ResultRow<'static>, NoMemory> {
     let mut worths = ResultRow::new(alloc);
-    for value in row_of(alloc, item)?.into_vec() {
+    for value in values_of(alloc, item)? {
         worths.push(Worth::Made { value })?;
     }
     Ok(worths)

@@ -2,7 +2,7 @@
 
 use crate::signs::{function_of, operator_of};
 use crate::sql::{Expr, Operator, apply, call, evaluate, minus, negation, query_of_text, truth};
-use case_text::{member_text, push_value, row_of, value_of};
+use case_text::{member_text, push_value, value_of, values_of};
 use osq_value::{Affinity, NoMemory, Row, Value};
 use serde_json::Value as Json;
 use std::alloc::Global;
@@ -30,10 +30,10 @@ fn operation(line: &Json) -> Option<Operation> {
 }
 
 /// The values that the line gives.
-pub(crate) fn given_values(alloc: Global, line: &Json) -> Result<Row, NoMemory> {
+pub(crate) fn given_values(alloc: Global, line: &Json) -> Result<Vec<Value>, NoMemory> {
     match line.get("of") {
-        None => Ok(Row::new(alloc)),
-        Some(item) => row_of(alloc, item),
+        None => Ok(Vec::new(alloc)),
+        Some(item) => values_of(alloc, item),
     }
 }
 
@@ -50,10 +50,10 @@ pub(crate) fn push_applied(alloc: Global, shown: &mut String, line: &Json) -> Re
 
 /// Adds what a function gives.
 pub(crate) fn push_called(alloc: Global, shown: &mut String, line: &Json) -> Result<(), NoMemory> {
-    let values = given_values(alloc, line)?;
+    let arguments = Row::from_vec(given_values(alloc, line)?);
     match function_of(member_text(line, "function")) {
         None => Ok(shown.push_str(" no function")?),
-        Some(function) => push_value(shown, &call(alloc, function, &values)?),
+        Some(function) => push_value(shown, &call(alloc, function, &arguments)?),
     }
 }
 
@@ -84,7 +84,7 @@ fn push_evaluated(
     line: &Json,
     expr: &Expr,
 ) -> Result<(), NoMemory> {
-    let row = given_values(alloc, line)?;
+    let row = Row::from_vec(given_values(alloc, line)?);
     push_value(shown, &evaluate(alloc, expr, &row)?)
 }
 

@@ -13,7 +13,7 @@ ghost use Rattle.sql_scalar.specs.Comparison.{in_of, between_of};
 use crate::folds::{count_rows, fold_values};
 use crate::joined::{Joined, value_in, value_in_first};
 use crate::worth::Worth;
-use osq_value::{Affinity, NoMemory, Row, Value, cast_int, cast_text};
+use osq_value::{Affinity, NoMemory, Row, Sequence, Value, cast_int, cast_text};
 use sql_query::tree::{Aggregate, Expr, ExprStep};
 use sql_scalar::{apply, call, minus, negation, truth};
 use sql_tree::tree::Operator;
@@ -305,10 +305,10 @@ fn folded(alloc: Global, over: Over, aggregate: &Aggregate) -> Result<Value, NoM
 
 /// The values of an expression over each row by itself.
 #[cycle(evaluate)]
-fn column_values(alloc: Global, rows: &[Joined], expr: &Expr) -> Result<Row, NoMemory>
+fn column_values(alloc: Global, rows: &[Joined], expr: &Expr) -> Result<Sequence<Value>, NoMemory>
     ensures { IfOk result (λ values. values ≡ map (λ row. value_of (alone row) (expr_of expr.now)) (map values_in rows.now)) }
 {
-    let mut values = Row::with_capacity(alloc, rows.len())?;
+    let mut values = Sequence::with_capacity(alloc, rows.len())?;
     for row in rows {
         let over = Over::Lent { row: *row };
         values.push(evaluate_over(alloc, over, expr)?.into_value(alloc)?)?;

@@ -6,7 +6,7 @@ ghost use Rattle.sql_meaning.specs.Looks.{extreme_of, nearer_of};
 ghost use Rattle.sql_scalar.specs.Arithmetic.{whole, within};
 
 use indexmap::IndexSet;
-use osq_value::{NoMemory, Row, Value, compare};
+use osq_value::{NoMemory, Sequence, Value, compare};
 use sql_scalar::whole;
 use sql_tree::functions::Fold;
 use std::alloc::Global;
@@ -18,7 +18,7 @@ pub fn fold_values(
     alloc: Global,
     fold: Fold,
     is_distinct: bool,
-    values: Row,
+    values: Sequence<Value>,
 ) -> Result<Value, NoMemory>
     ensures { IfOk result (λ value. value ≡ folded_over fold is_distinct values) }
 {
@@ -51,19 +51,23 @@ fn count_value(count: usize) -> Result<Value, NoMemory>
 }
 
 /// The values that an aggregate looks at: those that aren't Null, and with DISTINCT each of them once.
-fn looked_at(alloc: Global, values: Row, is_distinct: bool) -> Result<Row, NoMemory>
+fn looked_at(
+    alloc: Global,
+    values: Sequence<Value>,
+    is_distinct: bool,
+) -> Result<Sequence<Value>, NoMemory>
     ensures { IfOk result (λ looked. looked ≡ looked_at is_distinct values) }
 {
     let known = known_values(values);
     if is_distinct {
         different(alloc, known)
     } else {
-        Ok(Row::from_vec(known))
+        Ok(Sequence::from_vec(known))
     }
 }
 
 /// The values that aren't Null.
-fn known_values(values: Row) -> Vec<Value>
+fn known_values(values: Sequence<Value>) -> Vec<Value>
     ensures { result.items ≡ filter is_known values }
 {
     let mut known = values.into_vec();
@@ -72,10 +76,10 @@ fn known_values(values: Row) -> Vec<Value>
 }
 
 /// Each value once, where it first stands.
-fn different(alloc: Global, values: Vec<Value>) -> Result<Row, NoMemory>
+fn different(alloc: Global, values: Vec<Value>) -> Result<Sequence<Value>, NoMemory>
     ensures { IfOk result (λ kept. kept ≡ different values.items) }
 {
-    let mut kept = Row::new(alloc);
+    let mut kept = Sequence::new(alloc);
     for value in hashed(alloc, values)? {
         kept.push(value)?;
     }
@@ -118,7 +122,7 @@ fn within(number: i128) -> Value
 }
 
 /// The greatest of the values, or the least of them, Null of none.
-fn extreme(values: Row, is_greatest: bool) -> Value
+fn extreme(values: Sequence<Value>, is_greatest: bool) -> Value
     ensures { result ≡ unwrap_or (extreme_of is_greatest values) Null }
 {
     let mut best = None;

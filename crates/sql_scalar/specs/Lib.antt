@@ -1,4 +1,5 @@
 pub mod Arithmetic
+pub mod Bounds
 pub mod Choices
 pub mod Comparison
 pub mod Finds

@@ -1,11 +1,13 @@
 //! `instr` and `replace`.
-ghost use Rattle.std.specs.Prelude.{◌≡◌, ◌<◌, length, pos, IfOk};
+ghost use Rattle.std.specs.Prelude.{◌≡◌, ◌<◌, ◌≤◌, length, pos, IfOk};
 ghost use Rattle.std.specs.Str.{chars};
+ghost use Rattle.sql_scalar.specs.Bounds.{IsWithin};
+ghost use Rattle.sql_scalar.specs.declared.texts.TheConstants.{MOST_BYTES};
 ghost use Rattle.sql_scalar.specs.Texts.{text_of};
 ghost use Rattle.sql_scalar.specs.Finds.{first_position, instr_of, replace_in, replace_of, replaced};
 
 use crate::characters::split_first_char;
-use crate::texts::{decimal, text_of};
+use crate::texts::{both, decimal, push_within, text_of};
 use osq_value::{NoMemory, Str, Value};
 use std::alloc::Global;
 
@@ -43,14 +45,15 @@ fn first_position(text: &str, wanted: &str) -> i64
 }
 
 /// The first text with the third one in place of each second one, from the left. An empty second text changes nothing, whatever the
-/// third one is.
+/// third one is. A text of more than 10^9 bytes wants memory.
 pub(crate) fn replace(
     alloc: Global,
     value: &Value,
     wanted: &Value,
     other: &Value,
 ) -> Result<Value, NoMemory>
-    ensures { IfOk result (λ text. text ≡ replace_of value.now wanted.now other.now) }
+    ensures replaced { IfOk result (λ text. text ≡ replace_of value.now wanted.now other.now) }
+    ensures within { IfOk result IsWithin }
 {
     let value_decimal = decimal(alloc, value)?;
     let wanted_decimal = decimal(alloc, wanted)?;
@@ -64,10 +67,11 @@ pub(crate) fn replace(
 }
 
 fn replace_in(alloc: Global, text: &str, wanted: &str, other: &Value) -> Result<Value, NoMemory>
-    ensures { IfOk result (λ made. made ≡ replace_in text.now wanted.now (text_of other.now)) }
+    ensures made { IfOk result (λ made. made ≡ replace_in text.now wanted.now (text_of other.now)) }
+    ensures within { IfOk result IsWithin }
 {
     if wanted.is_empty() {
-        return Ok(Value::Text(Str::of(alloc, text)?));
+        return Ok(Value::Text(both(alloc, text, "")?));
     }
     let other_decimal = decimal(alloc, other)?;
     match text_of(other, other_decimal.as_str()) {
@@ -78,15 +82,16 @@ fn replace_in(alloc: Global, text: &str, wanted: &str, other: &Value) -> Result<
 
 fn replaced(alloc: Global, text: &str, wanted: &str, other: &str) -> Result<Str, NoMemory>
     requires { 0 < length wanted.now }
-    ensures { IfOk result (λ made. made ≡ replaced wanted.now other.now 0 text.now) }
+    ensures made { IfOk result (λ made. made ≡ replaced wanted.now other.now 0 text.now) }
+    ensures within { IfOk result (λ made. length made ≤ MOST_BYTES) }
 {
     let mut made = String::new(alloc);
     let mut rest = text;
     while let Some((front, behind)) = rest.split_once(wanted) {
-        made.push_str(front)?;
-        made.push_str(other)?;
+        push_within(&mut made, front)?;
+        push_within(&mut made, other)?;
         rest = behind;
     }
-    made.push_str(rest)?;
+    push_within(&mut made, rest)?;
     Ok(Str::from_string(made))
 }

@@ -1,5 +1,6 @@
 //! The functions.
 ghost use Rattle.std.specs.Prelude.{◌≡◌, ◌≢◌, ◌∷◌, [], IfOk};
+ghost use Rattle.sql_scalar.specs.Bounds.{IsWithin};
 ghost use Rattle.sql_scalar.specs.Functions.{call_of, ifnull_of};
 
 use crate::choices::{abs, first_known, null_if_equal, type_name};
@@ -12,9 +13,11 @@ use std::alloc::Global;
 
 /// What a function gives for its arguments: Null for a number of arguments that it doesn't take, and, but for `typeof`, `coalesce`,
 /// `ifnull` and `nullif`, where an argument is Null; yet `replace` of an empty text gives the first argument's text. Numbers among
-/// arguments that are wanted as texts count as their decimal texts, and texts that are wanted as numbers as `cast_int` of them.
+/// arguments that are wanted as texts count as their decimal texts, and texts that are wanted as numbers as `cast_int` of them. `replace`
+/// wants memory for a text of more than 10^9 bytes, which is SQLite's bound.
 pub fn call(alloc: Global, function: Function, arguments: &Row) -> Result<Value, NoMemory>
-    ensures { IfOk result (λ value. value ≡ call_of function arguments.now) }
+    ensures called { IfOk result (λ value. value ≡ call_of function arguments.now) }
+    ensures within { function ≡ Function.Replace → IfOk result IsWithin }
 {
     let values = arguments.as_slice();
     match function {
@@ -32,7 +35,8 @@ pub fn call(alloc: Global, function: Function, arguments: &Row) -> Result<Value,
 /// A function that takes at most three arguments.
 fn call_fixed(alloc: Global, function: Function, arguments: &[Value]) -> Result<Value, NoMemory>
     requires { function ≢ Function.Coalesce }
-    ensures { IfOk result (λ value. value ≡ call_of function arguments.now) }
+    ensures called { IfOk result (λ value. value ≡ call_of function arguments.now) }
+    ensures within { function ≡ Function.Replace → IfOk result IsWithin }
 {
     match arguments {
         [x] => call_one(alloc, function, x),
@@ -43,7 +47,8 @@ fn call_fixed(alloc: Global, function: Function, arguments: &[Value]) -> Result<
 }
 
 fn call_one(alloc: Global, function: Function, x: &Value) -> Result<Value, NoMemory>
-    ensures { IfOk result (λ value. value ≡ call_of function (x.now ∷ [])) }
+    ensures called { IfOk result (λ value. value ≡ call_of function (x.now ∷ [])) }
+    ensures within { function ≡ Function.Replace → IfOk result IsWithin }
 {
     match function {
         Function::Length => length(alloc, x),
@@ -63,7 +68,8 @@ fn call_one(alloc: Global, function: Function, x: &Value) -> Result<Value, NoMem
 
 fn call_two(alloc: Global, function: Function, x: &Value, y: &Value) -> Result<Value, NoMemory>
     requires { function ≢ Function.Coalesce }
-    ensures { IfOk result (λ value. value ≡ call_of function (x.now ∷ y.now ∷ [])) }
+    ensures called { IfOk result (λ value. value ≡ call_of function (x.now ∷ y.now ∷ [])) }
+    ensures within { function ≡ Function.Replace → IfOk result IsWithin }
 {
     match function {
         Function::Substr => substr_from(alloc, x, y),
@@ -89,7 +95,8 @@ fn call_three(
     z: &Value,
 ) -> Result<Value, NoMemory>
     requires { function ≢ Function.Coalesce }
-    ensures { IfOk result (λ value. value ≡ call_of function (x.now ∷ y.now ∷ z.now ∷ [])) }
+    ensures called { IfOk result (λ value. value ≡ call_of function (x.now ∷ y.now ∷ z.now ∷ [])) }
+    ensures within { function ≡ Function.Replace → IfOk result IsWithin }
 {
     match function {
         Function::Substr => substr_within(alloc, x, y, z),

@@ -1,5 +1,6 @@
 //! The operators.
 ghost use Rattle.std.specs.Prelude.{◌≡◌, IfOk};
+ghost use Rattle.sql_scalar.specs.Bounds.{IsWithin};
 ghost use Rattle.sql_scalar.specs.Operators.{apply_of};
 
 use crate::arithmetic::{difference, product, quotient, remainder, sum};
@@ -12,7 +13,8 @@ use sql_tree::tree::Operator;
 use std::alloc::Global;
 
 /// What an operator gives for two values. `affinities` are those of the left and of the right side, which comparisons alone look at.
-/// A comparison, `LIKE`, `||` and arithmetic give Null where a side is Null; so do a result outside 64 bits and a division by 0.
+/// A comparison, `LIKE`, `||` and arithmetic give Null where a side is Null; so do a result outside 64 bits and a division by 0. `||` wants
+/// memory for a text of more than 10^9 bytes, which is SQLite's bound.
 pub fn apply(
     alloc: Global,
     op: Operator,
@@ -20,7 +22,8 @@ pub fn apply(
     right: &Value,
     affinities: (Option<Affinity>, Option<Affinity>),
 ) -> Result<Value, NoMemory>
-    ensures { IfOk result (λ value. value ≡ apply_of op affinities.0 affinities.1 left.now right.now) }
+    ensures applied { IfOk result (λ value. value ≡ apply_of op affinities.0 affinities.1 left.now right.now) }
+    ensures within { op ≡ Operator.Concat → IfOk result IsWithin }
 {
     let sides = (left, right);
     match op {

@@ -1,9 +1,11 @@
 //! Functions on the texts of values.
-ghost use Rattle.std.specs.Prelude.{◌≡◌, map, reverse, IfOk};
+ghost use Rattle.std.specs.Prelude.{◌≡◌, ◌≤◌, ◌++◌, length, map, reverse, IfOk, OnOk};
 ghost use Rattle.std.specs.Char.{to_ascii_lowercase, to_ascii_uppercase};
 ghost use Rattle.std.specs.Fmt.{signed_decimal};
 ghost use Rattle.std.specs.Option.{option_map};
 ghost use Rattle.std.specs.String.{string_bytes};
+ghost use Rattle.sql_scalar.specs.Bounds.{IsWithin};
+ghost use Rattle.sql_scalar.specs.declared.texts.TheConstants.{MOST_BYTES};
 ghost use Rattle.sql_scalar.specs.Texts.{behind_spaces, concat_of, decimal_of, length_of, lower_of, text_of, text_with, trim_of, trimmed, upper_of};
 
 use crate::characters::count_chars;
@@ -31,9 +33,24 @@ pub(crate) fn text_of<'a>(value: &'a Value, decimal: &'a str) -> Option<&'a str>
     }
 }
 
-/// `||`: both texts, one behind the other; Null where a side is Null.
+/// The most bytes that a text has which is made of several, as SQLite bounds it (SQLITE_MAX_LENGTH).
+const MOST_BYTES: usize = 1_000_000_000;
+
+/// Adds the piece to a text that is made; want of memory at once where it would have more than 10^9 bytes.
+pub(crate) fn push_within(made: &mut String, piece: &str) -> Result<(), NoMemory>
+    ensures pushed { OnOk result (string_bytes made.new ≡ string_bytes made.old ++ piece.now) }
+    ensures within { OnOk result (length (string_bytes made.new) ≤ MOST_BYTES) }
+{
+    if made.len().saturating_add(piece.len()) > MOST_BYTES {
+        return Err(NoMemory);
+    }
+    Ok(made.push_str(piece)?)
+}
+
+/// `||`: both texts, one behind the other; Null where a side is Null. A text of more than 10^9 bytes wants memory.
 pub(crate) fn concat(alloc: Global, left: &Value, right: &Value) -> Result<Value, NoMemory>
-    ensures { IfOk result (λ joined. joined ≡ concat_of left.now right.now) }
+    ensures joined { IfOk result (λ joined. joined ≡ concat_of left.now right.now) }
+    ensures within { IfOk result IsWithin }
 {
     let first_decimal = decimal(alloc, left)?;
     let second_decimal = decimal(alloc, right)?;
@@ -43,10 +60,19 @@ pub(crate) fn concat(alloc: Global, left: &Value, right: &Value) -> Result<Value
     let Some(second) = text_of(right, second_decimal.as_str()) else {
         return Ok(Value::Null);
     };
-    let mut joined = String::with_capacity(alloc, first.len().saturating_add(second.len()))?;
-    joined.push_str(first)?;
-    joined.push_str(second)?;
-    Ok(Value::Text(Str::from_string(joined)))
+    Ok(Value::Text(both(alloc, first, second)?))
+}
+
+/// The first text and the second one behind it.
+pub(crate) fn both(alloc: Global, first: &str, second: &str) -> Result<Str, NoMemory>
+    ensures both { IfOk result (λ text. text ≡ first.now ++ second.now) }
+    ensures within { IfOk result (λ text. length text ≤ MOST_BYTES) }
+{
+    let bytes = first.len().saturating_add(second.len());
+    let mut made = String::with_capacity(alloc, bytes.min(MOST_BYTES))?;
+    push_within(&mut made, first)?;
+    push_within(&mut made, second)?;
+    Ok(Str::from_string(made))
 }
 
 /// The number of characters of the text.

@@ -1,6 +1,6 @@
 //! What is answered to a line.
 
-use crate::lists::{push_asked, push_list};
+use crate::lists::{push_asked, push_gained, push_list};
 use crate::tables::{push_column, push_number, push_table};
 use crate::values::{
     push_bytes, push_cast_int, push_cast_text, push_order, push_same, push_spelling,
@@ -10,7 +10,7 @@ use serde_json::Value as Json;
 use std::alloc::Global;
 
 /// The kinds of lines, each with the member that it has beside its own.
-const KINDS: [(&str, &str); 11] = [
+const KINDS: [(&str, &str); 12] = [
     ("order", ""),
     ("spells", ""),
     ("cast_int", ""),
@@ -22,6 +22,7 @@ const KINDS: [(&str, &str); 11] = [
     ("bytes", ""),
     ("list", "steps"),
     ("keys", "asked"),
+    ("row", "gains"),
 ];
 
 /// The kind of a line, and its other member.
@@ -60,7 +61,8 @@ fn push_by_kind(
         "same" => push_same(alloc, text, given),
         "bytes" => push_bytes(alloc, text, given),
         "list" => push_list(alloc, text, given, beside),
-        _ => push_asked(alloc, text, given, beside),
+        "keys" => push_asked(alloc, text, given, beside),
+        _ => push_gained(alloc, text, given, beside),
     }
 }
 

@@ -13,8 +13,8 @@ loop-front-preserved c =
     let once =
     replaced_once c.args.wanted.now c.args.other.now c.loop-front.rest.now c.in-Some.front.now c.in-Some.behind.now c.requires split
     (λ place before. found.2.0 place (subst (λ (n : ℕ). place < n) found.6 before)) in
-    let front = c.in_ok-push_str.ensures.bytes in
-    let both = c.in_ok-push_str-2.ensures.bytes in
+    let front = c.in_ok-push_within.ensures.pushed in
+    let both = c.in_ok-push_within-2.ensures.pushed in
     record {
       text = search rules;
       so_far =
@@ -22,14 +22,14 @@ loop-front-preserved c =
           ∙ ap (λ (s : List ℕ). string_bytes c.loop-front.made ++ s) once
           ∙ sym (append_assoc (string_bytes c.loop-front.made) c.in-Some.front.now (c.args.other.now ++ rest))
           ∙ ap (λ (s : List ℕ). s ++ (c.args.other.now ++ rest)) (sym front)
-          ∙ sym (append_assoc (string_bytes c.push_str.new.self) c.args.other.now rest)
+          ∙ sym (append_assoc (string_bytes c.push_within.new.made) c.args.other.now rest)
           ∙ ap (λ (s : List ℕ). s ++ rest) (sym both);
     }
 
-pub returns : goal.returns
-returns c =
+pub returns-clause-made : goal.returns-clause-made
+returns-clause-made c =
     c.from_string.ensures
-    ∙ c.in_ok-push_str-3.ensures.bytes
+    ∙ c.in_ok-push_within-3.ensures.pushed
     ∙ sym (c.loop-front.invariant.so_far
     ∙ ap (λ (s : List ℕ). string_bytes c.loop-front.made ++ s)
     (replaced_never c.args.wanted.now c.args.other.now c.loop-front.rest.now c.requires c.in_default.ensures.cases))
