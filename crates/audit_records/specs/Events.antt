@@ -2,6 +2,7 @@
 use Rattle.std.specs.Prelude.{ℕ, ◌+◌, ◌*◌, ◌^◌, ◌==◌, ◌&&◌, nat_le, nat_lt, if◌then◌else◌, ℤ, pos, negsuc, Bool, true, false, List, [], ◌∷◌, codes, decimal, find, length, Option, Some, None, option_map, option_and_then}
 use Rattle.std.specs.Option.{option_map_or}
 use Rattle.hex.specs.Hex.{hex_digit_value}
+use Rattle.osq_value.specs.declared.value.TheConstants.TableId.{PROCESS_EVENTS, SOCKET_EVENTS}
 use Rattle.osq_value.specs.declared.value.Event.{Event}
 use Rattle.osq_value.specs.declared.value.Value.{Value}
 use Rattle.osq_value.specs.declared.value.Value.TheVariants.{Null, Int, Text}
@@ -55,7 +56,7 @@ process_row line lines =
     ∷ number_value (codes "egid") line ∷ number_value (codes "ppid") line ∷ time_of line ∷ []
 
 abbrev pub process_event : AuditLine → List AuditLine → Event
-process_event line lines = record { table = record { 0 = 0 }; row = process_row line lines }
+process_event line lines = record { table = PROCESS_EVENTS; row = process_row line lines }
 
 abbrev pub execution_event : AuditLine → List AuditLine → Option Event
 execution_event line lines = if has_succeeded line then Some (process_event line lines) else None
@@ -98,7 +99,7 @@ socket_row action line found here there =
     ∷ Text found.socket ∷ time_of line ∷ []
 
 abbrev pub socket_event : List ℕ → AuditLine → Address → Side → Side → Event
-socket_event action line found here there = record { table = record { 0 = 1 }; row = socket_row action line found here there }
+socket_event action line found here there = record { table = SOCKET_EVENTS; row = socket_row action line found here there }
 
 -- the event of a call that tells of the local end, or of the remote one
 abbrev pub located_event : List ℕ → Bool → AuditLine → Address → Event

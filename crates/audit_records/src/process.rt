@@ -11,8 +11,6 @@ use crate::value::{
 use osq_value::{Copied, Event, NoMemory, Row, TableId, Value};
 use std::alloc::Global;
 
-const PROCESS_EVENTS: TableId = TableId(0);
-
 /// The event of a call that runs a program, where it succeeded.
 pub fn process_event(
     alloc: Global,
@@ -25,7 +23,7 @@ pub fn process_event(
         return Ok(None);
     }
     Ok(Some(Event {
-        table: PROCESS_EVENTS,
+        table: TableId::PROCESS_EVENTS,
         row: process_row(alloc, line, lines)?,
     }))
 }

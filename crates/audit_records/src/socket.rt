@@ -11,8 +11,6 @@ use crate::value::{field_of, has_succeeded, number_value, text_value, time_of};
 use osq_value::{Event, NoMemory, Row, Str, TableId, Value};
 use std::alloc::Global;
 
-const SOCKET_EVENTS: TableId = TableId(1);
-
 /// The event of a call on a socket, where the group tells an address: the local one where `is_local`, else the remote one. Nothing is
 /// known of the other end.
 pub fn socket_event(
@@ -27,7 +25,7 @@ pub fn socket_event(
     match address_in(alloc, lines)? {
         None => Ok(None),
         Some(address) => Ok(Some(Event {
-            table: SOCKET_EVENTS,
+            table: TableId::SOCKET_EVENTS,
             row: row(alloc, action, is_local, line, address)?,
         })),
     }

@@ -36,7 +36,7 @@ fn table_set(alloc: Global) -> Result<Entry, NoMemory> {
     rows.push(Row::new(alloc))?;
     Ok(Entry::TableSet {
         source: Str::of(alloc, "tables")?,
-        table: TableId(3),
+        table: TableId::USERS,
         rows,
         taken: 7,
     })
@@ -68,7 +68,7 @@ fn committed(alloc: Global, number: u64) -> Result<Entry, NoMemory> {
 /// Events of files expire up to a number.
 fn expired(floor: u64) -> Entry {
     Entry::Expired {
-        table: TableId(2),
+        table: TableId::FILE_EVENTS,
         floor,
         moment: 1000,
     }

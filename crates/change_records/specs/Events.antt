@@ -4,6 +4,7 @@ use Rattle.std.specs.List.{All, Any}
 use Rattle.std.specs.Cmp.Lexicographic.{slice_cmp}
 use Rattle.std.specs.Ordering.{is_lt, nat_cmp}
 use Rattle.osq_value.specs.declared.reading.Category.{Category}
+use Rattle.osq_value.specs.declared.value.TheConstants.TableId.{FILE_EVENTS}
 use Rattle.osq_value.specs.declared.value.Event.{Event}
 use Rattle.osq_value.specs.declared.value.Value.{Value}
 use Rattle.osq_value.specs.declared.value.Value.TheVariants.{Null, Text}
@@ -51,7 +52,7 @@ file_row change category =
 
 -- the row that the table file_events gains
 abbrev pub file_event : Change → List ℕ → Event
-file_event change category = record { table = record { 0 = 2 }; row = file_row change category }
+file_event change category = record { table = FILE_EVENTS; row = file_row change category }
 
 -- no event where no category takes the path
 abbrev pub IsEventOf : Change → List Category → Option Event → Type 0

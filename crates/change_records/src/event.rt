@@ -7,8 +7,6 @@ use crate::pattern::path_matches;
 use osq_value::{Category, CategoryList, Copied, Event, NoMemory, Row, Str, TableId, Value};
 use std::alloc::Global;
 
-const FILE_EVENTS: TableId = TableId(2);
-
 /// The event of the table `file_events` for a change of a file. Its category is the first, in byte order of names, of which some pattern
 /// matches the path and no excluded pattern does; of equal names the first in the list is meant. None exactly where no category takes the
 /// path. A place that the change's numbers lack is Null, and places behind the fifth are passed over.
@@ -22,7 +20,7 @@ pub fn change_event(
     match category_of(change.path.as_str(), paths.as_slice()) {
         None => Ok(None),
         Some(category) => Ok(Some(Event {
-            table: FILE_EVENTS,
+            table: TableId::FILE_EVENTS,
             row: row(alloc, change, &category.name)?,
         })),
     }

@@ -1,5 +1,6 @@
 -- Lists of entries, each with what is to be said of it, worked out by hand.
 use Rattle.std.specs.Prelude.{◌≡◌, ℕ, suc, true, List, [], ◌∷◌, ◌++◌, take, codes}
+use Rattle.osq_value.specs.declared.value.TheConstants.TableId.{SOCKET_EVENTS, FILE_EVENTS, GROUPS}
 use Rattle.osq_value.specs.declared.value.Event.{Event}
 use Rattle.osq_value.specs.declared.value.Value.{Value}
 use Rattle.osq_value.specs.declared.value.Value.TheVariants.{Null, Text}
@@ -33,10 +34,10 @@ abbrev pub change_row : List Value
 change_row = Text (codes "/a") ∷ Null ∷ Null ∷ Null ∷ Null ∷ Null ∷ Null ∷ Null ∷ Null ∷ Null ∷ []
 
 abbrev pub change : Event
-change = record { table = record { 0 = 2 }; row = change_row }
+change = record { table = FILE_EVENTS; row = change_row }
 
 abbrev pub live_change : ℕ → Live
-live_change number = record { number = number; table = record { 0 = 2 }; moment = 1000; row = change_row }
+live_change number = record { number = number; table = FILE_EVENTS; moment = 1000; row = change_row }
 
 abbrev pub log : List ℕ
 log = codes "log"
@@ -79,31 +80,31 @@ pub record PlainVerdicts : Type 0 where
   pub not_further : IsLegalTo 4 (one_change ++ Appended log 92 [] 0 1000 ∷ [])
   pub at_another_moment : IsLegalTo 3 (started ++ Appended log 92 [] 0 1001 ∷ [])
   pub too_narrow : IsLegalTo 3 (started ++ Appended log 92 (record change { row = Null ∷ [] } ∷ []) 0 1000 ∷ [])
-  pub of_a_recorded_table : IsLegalTo 3 (started ++ Appended log 92 (record change { table = record { 0 = 4 } } ∷ []) 0 1000 ∷ [])
-  pub a_table : IsLegal (started ++ TableSet log (record { 0 = 4 }) ((Null ∷ Null ∷ []) ∷ []) 92 ∷ []) (record no_values {
+  pub of_a_recorded_table : IsLegalTo 3 (started ++ Appended log 92 (record change { table = GROUPS } ∷ []) 0 1000 ∷ [])
+  pub a_table : IsLegal (started ++ TableSet log GROUPS ((Null ∷ Null ∷ []) ∷ []) 92 ∷ []) (record no_values {
     position = 4;
     sessions = 1;
     moment = 1000;
     taken = record { source = log; offset = 92 } ∷ [];
-    tables = record { table = record { 0 = 4 }; rows = (Null ∷ Null ∷ []) ∷ [] } ∷ [];
+    tables = record { table = GROUPS; rows = (Null ∷ Null ∷ []) ∷ [] } ∷ [];
   })
-  pub narrow_row : IsLegalTo 3 (started ++ TableSet log (record { 0 = 4 }) ((Null ∷ []) ∷ []) 92 ∷ [])
-  pub evented_table_set : IsLegalTo 3 (started ++ TableSet log (record { 0 = 2 }) [] 92 ∷ [])
-  pub gone_after_29 : IsLegalTo 5 (one_change ++ Ticked 1029 ∷ Expired (record { 0 = 2 }) 1 1029 ∷ [])
-  pub gone_after_30 : IsLegal (one_change ++ Ticked 1030 ∷ Expired (record { 0 = 2 }) 1 1030 ∷ []) (gone_at 1030)
-  pub gone_after_31 : IsLegal (one_change ++ Ticked 1031 ∷ Expired (record { 0 = 2 }) 1 1031 ∷ []) (gone_at 1031)
-  pub another_floor : IsLegalTo 5 (one_change ++ Ticked 1030 ∷ Expired (record { 0 = 2 }) 2 1030 ∷ [])
-  pub another_table : IsLegalTo 5 (one_change ++ Ticked 1030 ∷ Expired (record { 0 = 1 }) 1 1030 ∷ [])
+  pub narrow_row : IsLegalTo 3 (started ++ TableSet log GROUPS ((Null ∷ []) ∷ []) 92 ∷ [])
+  pub evented_table_set : IsLegalTo 3 (started ++ TableSet log FILE_EVENTS [] 92 ∷ [])
+  pub gone_after_29 : IsLegalTo 5 (one_change ++ Ticked 1029 ∷ Expired FILE_EVENTS 1 1029 ∷ [])
+  pub gone_after_30 : IsLegal (one_change ++ Ticked 1030 ∷ Expired FILE_EVENTS 1 1030 ∷ []) (gone_at 1030)
+  pub gone_after_31 : IsLegal (one_change ++ Ticked 1031 ∷ Expired FILE_EVENTS 1 1031 ∷ []) (gone_at 1031)
+  pub another_floor : IsLegalTo 5 (one_change ++ Ticked 1030 ∷ Expired FILE_EVENTS 2 1030 ∷ [])
+  pub another_table : IsLegalTo 5 (one_change ++ Ticked 1030 ∷ Expired SOCKET_EVENTS 1 1030 ∷ [])
   pub tick_after_29 : IsLegal (one_change ++ Ticked 1029 ∷ Ticked 1030 ∷ []) (record one_value { position = 6; moment = 1030 })
   pub tick_while_owed : IsLegalTo 5 (one_change ++ Ticked 1030 ∷ Ticked 1031 ∷ [])
-  pub crowded_out : IsLegal (five_changes ++ Expired (record { 0 = 2 }) 2 1000 ∷ []) (record one_value {
+  pub crowded_out : IsLegal (five_changes ++ Expired FILE_EVENTS 2 1000 ∷ []) (record one_value {
     position = 5;
     last = 5;
     floors = 0 ∷ 0 ∷ 2 ∷ [];
     live = live_change 3 ∷ live_change 4 ∷ live_change 5 ∷ [];
     taken = record { source = log; offset = 460 } ∷ [];
   })
-  pub one_too_many : IsLegalTo 4 (five_changes ++ Expired (record { 0 = 2 }) 3 1000 ∷ [])
+  pub one_too_many : IsLegalTo 4 (five_changes ++ Expired FILE_EVENTS 3 1000 ∷ [])
   pub acked_unknown : IsLegalTo 1 (Opened 1 ∷ Acked 1 ∷ [])
 
 abbrev pub asked : QueryKey

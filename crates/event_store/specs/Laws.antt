@@ -1,5 +1,6 @@
 -- For which lists an image stands, and what is then known.
 use Rattle.std.specs.Prelude.{◌≡◌, ℕ, true, List, [], ◌∷◌, ◌++◌, set, unwrap_or}
+use Rattle.osq_value.specs.declared.value.TheConstants.TableId.{TIME, OSQUERY_SCHEDULE, OSQUERY_EVENTS}
 use Rattle.entry_model.specs.declared.entry.Entry.{Entry}
 use Rattle.entry_model.specs.declared.entry.Entry.TheVariants.{Opened, Configured, Ticked, Appended, TableSet, Expired, Committed, Acked}
 use Rattle.entry_model.specs.Values.{last_number, floor_of, live_events, table_set, schedule_of, has_ticked, moment_of}
@@ -44,7 +45,8 @@ Values = (entries : List Entry) (image : Contents) → Legal entries → StandsF
 -- a view with the computed tables of a list
 abbrev pub with_computed : List Entry → ℕ → ℕ → Shown → Shown
 with_computed entries above moment shown =
-    set (set (set shown 12 (view_of entries above moment 12)) 13 (view_of entries above moment 13)) 14 (view_of entries above moment 14)
+    set (set (set shown TIME.0 (view_of entries above moment TIME.0)) OSQUERY_SCHEDULE.0 (view_of entries above moment OSQUERY_SCHEDULE.0))
+    OSQUERY_EVENTS.0 (view_of entries above moment OSQUERY_EVENTS.0)
 
 -- what is cut of an image, with the computed tables, shows what the list does
 abbrev pub Shows : Type 0

@@ -5,11 +5,11 @@ ghost use Rattle.entry_model.specs.Fits.{TableFits};
 ghost use Rattle.event_store.specs.Recorded.{with_sets};
 
 use entry_model::restored::SetTable;
-use osq_value::{Copied, NoMemory, RowList};
+use osq_value::{Copied, NoMemory, RowList, TableId};
 use std::alloc::Global;
 
 /// The number of the first recorded table.
-pub(crate) const FIRST: u8 = 3;
+pub(crate) const FIRST: u8 = TableId::USERS.0;
 
 /// No rows of each recorded table.
 pub(crate) fn no_rows(alloc: Global) -> [RowList; 9]

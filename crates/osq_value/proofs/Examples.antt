@@ -2,13 +2,24 @@
 use Rattle.std.proofs.Common.{◌≡◌, ℕ, Bool, true, false, List, [], ◌∷◌, map, refl, codes, pos, negsuc, Some, None}
 use Rattle.osq_value.specs.declared.catalogue.TableKind.{TableKind}
 use Rattle.osq_value.specs.declared.catalogue.TableKind.TheVariants.{Evented, Recorded, Computed}
+use Rattle.osq_value.specs.declared.value.TableId.{TableId}
+use Rattle.osq_value.specs.declared.value.TheConstants.TableId.{PROCESS_EVENTS, SOCKET_EVENTS, FILE_EVENTS, USERS, GROUPS, USER_GROUPS, PROCESSES, LISTENING_PORTS, SYSTEM_INFO, OS_VERSION, DEB_PACKAGES, LOGGED_IN_USERS, TIME, OSQUERY_SCHEDULE, OSQUERY_EVENTS, NONE}
 use Rattle.osq_value.specs.Casts.{number_of}
 use Rattle.osq_value.specs.Catalogue.{Table, tables, columns_of, table_name, width_of, id_of, is_evented_id, is_recorded_id, is_computed_id}
 use Rattle.osq_value.specs.Spelling.{int_of}
 
-file_events-name : table_name 2 ≡ codes "file_events"
-unfolding table_name tables
-file_events-name = refl
+-- the constants, in the order of the catalogue
+constants : List TableId
+constants =
+    PROCESS_EVENTS ∷ SOCKET_EVENTS ∷ FILE_EVENTS ∷ USERS ∷ GROUPS ∷ USER_GROUPS ∷ PROCESSES ∷ LISTENING_PORTS ∷ SYSTEM_INFO ∷ OS_VERSION ∷ DEB_PACKAGES ∷ LOGGED_IN_USERS ∷ TIME ∷ OSQUERY_SCHEDULE ∷ OSQUERY_EVENTS ∷ []
+
+named_by_constants : map (λ (table : TableId). table_name table.0) constants ≡ map (λ (table : Table). table.name) tables
+unfolding table_name tables constants
+named_by_constants = refl
+
+none-width : width_of NONE.0 ≡ 0
+unfolding width_of columns_of tables
+none-width = refl
 
 file_events-width : width_of 2 ≡ 10
 unfolding width_of columns_of tables

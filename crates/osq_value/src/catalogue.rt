@@ -51,7 +51,7 @@ pub struct TableDesc {
 /// The table of that name, without regard to ASCII case; none exactly where there is no such table.
 ///
 /// ```
-/// table_of("Users")         // Some of the table `users`: id TableId(3), six columns
+/// table_of("Users")         // Some of the table `users`: id TableId::USERS, six columns
 /// table_of("user")          // None
 /// ```
 pub fn table_of(name: &str) -> Option<TableDesc>

@@ -16,15 +16,16 @@ pub(crate) struct ThreeTables {
 impl Tables for ThreeTables {
     ghost use Rattle.std.specs.Prelude.{◌==◌, if◌then◌else◌, []};
     ghost use Rattle.std.proofs.Common.{arith};
+    ghost use Rattle.osq_value.specs.declared.value.TheConstants.TableId.{USERS, GROUPS, USER_GROUPS};
 
-    ghost rows_of = { λ s table. if table == 3 then s.users else (if table == 4 then s.groups else (if table == 5 then s.user_groups else [])) };
+    ghost rows_of = { λ s table. if table == USERS.0 then s.users else (if table == GROUPS.0 then s.groups else (if table == USER_GROUPS.0 then s.user_groups else [])) };
 
     fn count(&self, table: TableId) -> usize {
-        if table.0 == 3 {
+        if table.0 == TableId::USERS.0 {
             self.users.len()
-        } else if table.0 == 4 {
+        } else if table.0 == TableId::GROUPS.0 {
             self.groups.len()
-        } else if table.0 == 5 {
+        } else if table.0 == TableId::USER_GROUPS.0 {
             self.user_groups.len()
         } else {
             0
@@ -32,11 +33,11 @@ impl Tables for ThreeTables {
     }
 
     fn row(&self, table: TableId, at: usize) -> Option<&Row> {
-        if table.0 == 3 {
+        if table.0 == TableId::USERS.0 {
             self.users.get(at)
-        } else if table.0 == 4 {
+        } else if table.0 == TableId::GROUPS.0 {
             self.groups.get(at)
-        } else if table.0 == 5 {
+        } else if table.0 == TableId::USER_GROUPS.0 {
             self.user_groups.get(at)
         } else {
             None

@@ -1,6 +1,7 @@
 -- What a tick adds.
 use Rattle.std.specs.Prelude.{◌≡◌, ℕ, List, [], ◌∷◌, ◌++◌, length, filter_map, Option}
 use Rattle.std.specs.Option.{option_map}
+use Rattle.osq_value.specs.Catalogue.{evented_ids}
 use Rattle.pack_rules.specs.declared.schedule.QueryKey.{QueryKey}
 use Rattle.entry_model.specs.declared.entry.Batch.{Batch}
 use Rattle.entry_model.specs.declared.entry.Entry.{Entry}
@@ -23,7 +24,7 @@ expiry_of kept table = option_map (λ (floor : ℕ). Expired (record { 0 = table
 
 -- an expiry for each evented table that owes one, in the order of the catalogue
 abbrev pub expiries_of : List Entry → List Entry
-expiries_of kept = filter_map (expiry_of kept) (0 ∷ 1 ∷ 2 ∷ [])
+expiries_of kept = filter_map (expiry_of kept) evented_ids
 
 -- At this moment the tick begins; the session is configured again where that is due; each source is taken a step; each query that is then due
 -- is answered; and what is then owed expires.

@@ -1,8 +1,9 @@
 -- What a query sees of a state: the rows of the computed tables beside those of its image.
 use Rattle.std.specs.Prelude.{ℕ, List, [], ◌∷◌, length, map, set, Option, Some, None, pos}
+use Rattle.osq_value.specs.declared.value.TheConstants.TableId.{TIME, OSQUERY_SCHEDULE, OSQUERY_EVENTS}
 use Rattle.osq_value.specs.declared.value.Value.{Value}
 use Rattle.osq_value.specs.declared.value.Value.TheVariants.{Int, Text}
-use Rattle.osq_value.specs.Catalogue.{table_name}
+use Rattle.osq_value.specs.Catalogue.{evented_ids, table_name}
 use Rattle.pack_rules.specs.declared.schedule.Scheduled.{Scheduled}
 use Rattle.entry_model.specs.declared.restored.Run.{Run}
 use Rattle.query_cursors.specs.Due.{run_of}
@@ -29,9 +30,9 @@ live_shown image table = Text (table_name table) ∷ Int (pos (length (live_at i
 
 -- the table `osquery_events`
 abbrev pub events_shown : Contents → List (List Value)
-events_shown image = live_shown image 0 ∷ live_shown image 1 ∷ live_shown image 2 ∷ []
+events_shown image = map (live_shown image) evented_ids
 
 -- all tables, with the events above a number, at a moment
 abbrev pub shown_by : Kept → ℕ → ℕ → Shown
 shown_by s above moment =
-    set (set (set (cut_above above s.image) 12 (time_shown moment)) 13 (schedule_shown s.counts.runs s.schedule.queries)) 14 (events_shown s.image)
+    set (set (set (cut_above above s.image) TIME.0 (time_shown moment)) OSQUERY_SCHEDULE.0 (schedule_shown s.counts.runs s.schedule.queries)) OSQUERY_EVENTS.0 (events_shown s.image)

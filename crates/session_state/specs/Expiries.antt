@@ -1,5 +1,6 @@
 -- The expiries that a state owes, and what becomes of it when they are added.
 use Rattle.std.specs.Prelude.{◌≡◌, ℕ, List, [], ◌∷◌, filter_map, Option, Some, None, option_map}
+use Rattle.osq_value.specs.Catalogue.{evented_ids}
 use Rattle.entry_model.specs.declared.entry.Entry.{Entry}
 use Rattle.entry_model.specs.declared.entry.Entry.TheVariants.{Expired}
 use Rattle.session_state.specs.Kept.{Kept}
@@ -12,7 +13,7 @@ expiry_of s table = option_map (λ (floor : ℕ). Expired (record { 0 = table })
 
 -- those of the evented tables, in the order of the catalogue
 abbrev pub expiries : Kept → List Entry
-expiries s = filter_map (expiry_of s) (0 ∷ 1 ∷ 2 ∷ [])
+expiries s = filter_map (expiry_of s) evented_ids
 
 -- the state stands for the same list
 pub record Stays (old new : Kept) : Type 0 where

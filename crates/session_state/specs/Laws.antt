@@ -1,5 +1,6 @@
 -- What a state knows of the list for which it stands: what keeps a tick from beginning, and what a query sees.
-use Rattle.std.specs.Prelude.{◌≡◌, ℕ, true, if◌then◌else◌, List, [], ◌∷◌, position, find, is_some, Option, None}
+use Rattle.std.specs.Prelude.{◌≡◌, ℕ, true, if◌then◌else◌, List, position, find, is_some, Option, None}
+use Rattle.osq_value.specs.Catalogue.{evented_ids}
 use Rattle.entry_model.specs.declared.entry.Entry.{Entry}
 use Rattle.entry_model.specs.Values.{schedule_of, has_ticked}
 use Rattle.entry_model.specs.Views.{is_evented_table, is_due, owed_floor, view_of}
@@ -15,7 +16,7 @@ first_due entries = if has_ticked entries then position (is_due entries) (schedu
 
 -- the first table of which events are to expire
 abbrev pub first_owed : List Entry → Option ℕ
-first_owed entries = find (λ table. is_some (owed_floor entries table)) (0 ∷ 1 ∷ 2 ∷ [])
+first_owed entries = find (λ table. is_some (owed_floor entries table)) evented_ids
 
 -- the state knows what the list says
 pub record KnowsDues (entries : List Entry) (state : Kept) : Type 0 where

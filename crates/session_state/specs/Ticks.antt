@@ -1,5 +1,6 @@
 -- What keeps a tick from beginning.
-use Rattle.std.specs.Prelude.{ℕ, if◌then◌else◌, [], ◌∷◌, find, is_some, Option, Some, None}
+use Rattle.std.specs.Prelude.{ℕ, if◌then◌else◌, find, is_some, Option, Some, None}
+use Rattle.osq_value.specs.Catalogue.{evented_ids}
 use Rattle.query_cursors.specs.Due as cursors
 use Rattle.event_store.specs.Owed.{owed_of}
 use Rattle.event_store.specs.Contents.{live_at}
@@ -18,7 +19,7 @@ owed_at s table =
 
 -- the first table of which events are to expire
 abbrev pub first_owed : Kept → Option ℕ
-first_owed s = find (λ table. is_some (owed_at s table)) (0 ∷ 1 ∷ 2 ∷ [])
+first_owed s = find (λ table. is_some (owed_at s table)) evented_ids
 
 abbrev pub refusal_of : Option ℕ → Option ℕ → Option TickRefusal
 refusal_of (Some at) owed = Some (StillDue at)

@@ -87,8 +87,8 @@ pub(crate) fn event_rows(alloc: Global, image: &Image) -> Result<RowList, NoMemo
 {
     image.is_image();
     let mut rows = RowList::with_capacity(alloc, 3)?;
-    rows.push(live_row(alloc, "process_events", image, TableId(0))?)?;
-    rows.push(live_row(alloc, "socket_events", image, TableId(1))?)?;
-    rows.push(live_row(alloc, "file_events", image, TableId(2))?)?;
+    rows.push(live_row(alloc, "process_events", image, TableId::PROCESS_EVENTS)?)?;
+    rows.push(live_row(alloc, "socket_events", image, TableId::SOCKET_EVENTS)?)?;
+    rows.push(live_row(alloc, "file_events", image, TableId::FILE_EVENTS)?)?;
     Ok(rows)
 }

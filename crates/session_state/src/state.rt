@@ -338,12 +338,12 @@ impl State {
         if let Some(at) = self.due() {
             return Some(TickRefusal::StillDue { at });
         }
-        let table = if self.owed(TableId(0)).is_some() {
-            TableId(0)
-        } else if self.owed(TableId(1)).is_some() {
-            TableId(1)
-        } else if self.owed(TableId(2)).is_some() {
-            TableId(2)
+        let table = if self.owed(TableId::PROCESS_EVENTS).is_some() {
+            TableId::PROCESS_EVENTS
+        } else if self.owed(TableId::SOCKET_EVENTS).is_some() {
+            TableId::SOCKET_EVENTS
+        } else if self.owed(TableId::FILE_EVENTS).is_some() {
+            TableId::FILE_EVENTS
         } else {
             return None;
         };
@@ -606,9 +606,9 @@ impl State {
             return Err(NoMemory);
         }
         self.tail.reserve_more(3)?;
-        let first = self.expire_table(TableId(0));
-        let second = self.expire_table(TableId(1));
-        let third = self.expire_table(TableId(2));
+        let first = self.expire_table(TableId::PROCESS_EVENTS);
+        let second = self.expire_table(TableId::SOCKET_EVENTS);
+        let third = self.expire_table(TableId::FILE_EVENTS);
         let count = first + second + third;
         self.tail.give_back(u64::from(3 - count));
         Ok(count)
@@ -646,10 +646,13 @@ impl State {
         ensures { IfOk result (λ view. view ≡ shown_by self.now above moment) }
     {
         let mut view = self.image.slice(alloc, above)?;
-        view.set_computed(TableId(12), time_rows(alloc, moment)?)?;
+        view.set_computed(TableId::TIME, time_rows(alloc, moment)?)?;
         let queries = self.schedule.queries.as_slice();
-        view.set_computed(TableId(13), schedule_rows(alloc, queries, &self.cursors)?)?;
-        view.set_computed(TableId(14), event_rows(alloc, &self.image)?)?;
+        view.set_computed(
+            TableId::OSQUERY_SCHEDULE,
+            schedule_rows(alloc, queries, &self.cursors)?,
+        )?;
+        view.set_computed(TableId::OSQUERY_EVENTS, event_rows(alloc, &self.image)?)?;
         Ok(view)
     }
 

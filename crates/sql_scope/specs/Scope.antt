@@ -1,6 +1,7 @@
 -- The FROM tables as names see them, and which column a name is.
 use Rattle.std.specs.Prelude.{ℕ, ◌+◌, ◌^◌, ◌<◌, ◌&&◌, if◌then◌else◌, Bool, true, false, not, List, [], ◌∷◌, length, map, Option, Some, None}
 use Rattle.std.specs.Option.{option_map_or}
+use Rattle.osq_value.specs.declared.value.TheConstants.TableId.{NONE}
 use Rattle.osq_value.specs.Catalogue.{id_of, columns_of}
 use Rattle.sql_tree.specs.Select.{RefTree}
 use Rattle.sql_query.specs.declared.query.SourceColumn.{SourceColumn}
@@ -11,7 +12,7 @@ use Rattle.sql_scope.specs.Spelling.{name_text, same_name}
 
 -- The number of the table of that name. A name that the catalogue lacks, which is a fault, has a number that the catalogue lacks.
 unfoldable pub table_number : List ℕ → ℕ
-table_number name = option_map_or (λ (id : ℕ). id) (id_of name) 255
+table_number name = option_map_or (λ (id : ℕ). id) (id_of name) NONE.0
 
 -- A table is known by its alias, or else by its name.
 unfoldable pub known_as : List ℕ → RefTree → List ℕ

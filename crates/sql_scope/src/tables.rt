@@ -23,7 +23,7 @@ pub fn table_number(name: &str) -> TableId
 {
     match table_of(name) {
         Some(found) => found.id,
-        None => TableId(255),
+        None => TableId::NONE,
     }
 }
 

@@ -58,9 +58,6 @@ const OTHERS: [(&str, &str); 5] = [
 /// The members of values.
 const VALUES: &str = "position sessions moment last floors live taken tables runs batches acked";
 
-/// A number that no table has.
-const NO_TABLE: TableId = TableId(255);
-
 /// A line: the kind that it is, and its members.
 #[derive(Clone, Copy)]
 pub(crate) struct Call<'a> {
@@ -71,14 +68,14 @@ pub(crate) struct Call<'a> {
 /// The table of this name or number.
 pub(crate) fn table_of(item: Option<&Json>) -> TableId {
     let Some(item) = item else {
-        return NO_TABLE;
+        return TableId::NONE;
     };
     if let Some(found) = item.as_str().and_then(catalogue::table_of) {
         return found.id;
     }
     match item.as_u64().and_then(|number| u8::try_from(number).ok()) {
         Some(number) => TableId(number),
-        None => NO_TABLE,
+        None => TableId::NONE,
     }
 }
 

@@ -16,8 +16,6 @@ use sql_texts::text::query_of_text;
 use std::alloc::Global;
 use std::sync::Wait;
 
-pub(crate) const FILES: TableId = TableId(2);
-
 const PATHS: &str = "SELECT target_path FROM file_events";
 
 /// The query `fe`, which asks for the paths of new files each minute; want of memory stands for a text that is refused.
@@ -96,7 +94,7 @@ fn file(alloc: Global, path: &str) -> Result<Event, NoMemory>
         ],
     )?;
     Ok(Event {
-        table: FILES,
+        table: TableId::FILE_EVENTS,
         row: Row::from_vec(values),
     })
 }

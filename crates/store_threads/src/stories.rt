@@ -3,7 +3,7 @@
 ghost use Rattle.turn_lock.specs.Words.{IsAtRest, IsSame};
 ghost use Rattle.shared_store.specs.Words.{IsSeatOf};
 
-use crate::given::{FILES, opened};
+use crate::given::opened;
 use crate::turns::{Outcome, add_one, claimed, commit, last_cut};
 use osq_value::{NoMemory, Tables};
 use session_state::{AppendError, TickRefusal};
@@ -91,5 +91,5 @@ pub(crate) fn closed<R: Wait>(rt: &R, alloc: Global) -> Result<(u32, usize, usiz
     let view = store.tables_view(rt, alloc, &mut seat, 1000)?;
     let mut state = store.close(seat);
     let entries = state.take_tail(alloc)?;
-    Ok((expired, view.count(FILES), entries.len()))
+    Ok((expired, view.count(TableId::FILE_EVENTS), entries.len()))
 }

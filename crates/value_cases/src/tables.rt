@@ -53,7 +53,7 @@ fn push_found(text: &mut String, found: Option<TableDesc>) -> Result<(), NoMemor
 /// A table's number. No table has the greatest one.
 fn id_of(number: Option<&Json>) -> TableId {
     let number = number.and_then(Json::as_u64).unwrap_or(u64::MAX);
-    TableId(u8::try_from(number).unwrap_or(u8::MAX))
+    TableId(u8::try_from(number).unwrap_or(TableId::NONE.0))
 }
 
 /// Adds the table of a name.
