@@ -2,13 +2,14 @@
 use Rattle.std.proofs.Common.{◌≡◌, ◌≤◌, ◌*◌, ◌<◌, ◌^◌, ℕ, List, pos, ◌*ℤ◌, ap, ◌∙◌, arith, to_z, of_z, FitsSigned}
 use Rattle.std.specs.Prelude.{Result, Ok, Err, IfOk}
 use Rattle.std.proofs.lemmas.Int.{to_z_pos, to_z-of_z}
+use Rattle.osq_value.specs.declared.moment.TheConstants.{LAST_MOMENT}
 use Rattle.jiff.proofs.SpanFacts.{signed_arith}
 use Rattle.jiff_core.specs.declared.civil.datetime.DateTime.{DateTime}
 use Rattle.jiff_core.specs.DateTime.{civil_nanos}
 use Rattle.calendar_text.specs.Calendar.{clock_text, IsCalendarText}
 use mir.Syntax.{w128}
 
-pub nanos_of : (moment : ℕ) → moment ≤ 253402300799 → to_z w128 (of_z w128 (to_z w128 moment *ℤ pos 1_000_000_000)) ≡ pos moment *ℤ pos 1_000_000_000
+pub nanos_of : (moment : ℕ) → moment ≤ LAST_MOMENT → to_z w128 (of_z w128 (to_z w128 moment *ℤ pos 1_000_000_000)) ≡ pos moment *ℤ pos 1_000_000_000
 nanos_of moment bound =
     let small : moment < 2 ^ 127 = omega arith in
     let fits : FitsSigned w128 (pos (moment * 1_000_000_000)) = omega (arith, signed_arith) in

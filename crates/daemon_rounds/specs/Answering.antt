@@ -1,5 +1,6 @@
 -- The batches of a tick.
 use Rattle.std.specs.Prelude.{◌≡◌, ℕ, ◌+◌, ◌<◌, ◌≤◌, ◌^◌, true, List, [], ◌∷◌, map, Some, None, slice_get}
+use Rattle.osq_value.specs.declared.moment.TheConstants.{LAST_MOMENT}
 use Rattle.sql_texts.specs.Meaning.{is_accepted}
 use Rattle.entry_model.specs.declared.entry.Batch.{Batch}
 use Rattle.entry_model.specs.declared.entry.Entry.{Entry}
@@ -12,7 +13,7 @@ use Rattle.daemon_rounds.specs.Adding.{AreFree, Brings}
 -- a line can tell of the batch: its text is a query, and the calendar has its moment
 pub record IsTellable (batch : Batch) : Type 0 where
   pub accepted : is_accepted batch.query.text ≡ true
-  pub calendar : batch.moment ≤ 253402300799
+  pub calendar : batch.moment ≤ LAST_MOMENT
 
 -- each batch is made from all entries before its own place, the first of which is this one
 abbrev pub AreOwn : ℕ → List Batch → Type 0

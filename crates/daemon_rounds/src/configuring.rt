@@ -1,6 +1,7 @@
 //! What a session runs from now on.
 
 ghost use Rattle.std.specs.Prelude.{◌≡◌, ◌≤◌, OnOk, OnErr};
+ghost use Rattle.osq_value.specs.declared.moment.TheConstants.{LAST_MOMENT};
 ghost use Rattle.osq_config.specs.Bounds.{IsBounded};
 ghost use Rattle.daemon_rounds.specs.Configuring.{Configures};
 
@@ -23,7 +24,7 @@ pub fn configure(
 ) -> Result<(), NoMemory>
     requires bounded { IsBounded config.now }
     requires later { state.old.counts.moment ≤ moment }
-    requires calendar { moment ≤ 253402300799 }
+    requires calendar { moment ≤ LAST_MOMENT }
     ensures configured { OnOk result (Configures config.now documents.now host.now moment state.old state.new) }
     ensures err { OnErr result (state.new ≡ state.old) }
 {

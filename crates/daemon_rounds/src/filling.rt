@@ -1,6 +1,7 @@
 //! What a tick reads.
 
 ghost use Rattle.std.specs.Prelude.{◌≡◌, ◌≤◌, ℕ, true, false, length, None, Err, IfOk};
+ghost use Rattle.osq_value.specs.declared.moment.TheConstants.{LAST_MOMENT};
 ghost use Rattle.osq_config.specs.Bounds.{IsBounded};
 ghost use Rattle.entry_model.specs.Views.{is_evented_table};
 ghost use Rattle.session_state.specs.Ticks.{first_due, owed_at};
@@ -56,7 +57,7 @@ fn configure_again(
     requires bounded { IsBounded configured.now.config }
     requires before { configured_at ≤ moment }
     requires later { state.old.counts.moment ≤ moment }
-    requires calendar { moment ≤ 253402300799 }
+    requires calendar { moment ≤ LAST_MOMENT }
     ensures again { IfOk result (λ last. ConfiguresAgain (asks_again configured.now.config configured_at moment) configured.now.config configured.now.documents setup.now.host moment state.old state.new) }
     ensures last { IfOk result (λ last. last ≡ configured_last (asks_again configured.now.config configured_at moment) configured_at moment) }
 {
@@ -90,7 +91,7 @@ pub fn fill_tick<S: Source>(
     requires bounded { IsBounded configured.now.config }
     requires before { configured_at ≤ moment }
     requires later { state.old.counts.moment ≤ moment }
-    requires calendar { moment ≤ 253402300799 }
+    requires calendar { moment ≤ LAST_MOMENT }
     requires answered { first_due state.old ≡ None }
     requires settled { (table : ℕ) → is_evented_table table ≡ true → owed_at state.old table ≡ None }
     requires paired { length sources.old ≡ length feeds.old }

@@ -1,6 +1,7 @@
 //! A session opens.
 
 ghost use Rattle.std.specs.Prelude.{◌≡◌, ◌≤◌, ℕ, length, Err, IfOk};
+ghost use Rattle.osq_value.specs.declared.moment.TheConstants.{LAST_MOMENT};
 ghost use Rattle.osq_config.specs.Bounds.{IsBounded};
 ghost use Rattle.entry_model.specs.Fits.{Fits};
 ghost use Rattle.daemon_rounds.specs.Rounding.{AreGoing, FailsAt};
@@ -34,7 +35,7 @@ pub fn begin_session<S: Source>(
 ) -> Result<State, TakeError>
     requires fits { Fits restored }
     requires later { restored.moment ≤ moment }
-    requires calendar { moment ≤ 253402300799 }
+    requires calendar { moment ≤ LAST_MOMENT }
     requires bounded { IsBounded configured.now.config }
     requires paired { length sources.old ≡ length feeds.old }
     requires going { AreGoing restored.taken feeds.old }

@@ -1,6 +1,7 @@
 //! A session is open.
 
 ghost use Rattle.std.specs.Prelude.{◌≡◌, ◌<◌, ℕ, length, bytes_eq, Err, IfOk};
+ghost use Rattle.osq_value.specs.declared.moment.TheConstants.{LAST_MOMENT};
 ghost use Rattle.osq_config.specs.Bounds.{IsBounded};
 ghost use Rattle.entry_model.specs.Fits.{Fits, IsDistinct};
 ghost use Rattle.daemon_rounds.specs.Refusals.{unstarted_by, untaken_by};
@@ -76,7 +77,7 @@ pub fn open_session<S: Source, C: Clock>(
     ensures opened { IfOk result (λ session. IsOpen S.tells S.left S.faults C.reads setup.now configured.now.config configured.now.documents restored clock.old clock.new sources.old sources.new session.configured_at session.feeds.items session.state) }
     ensures going { IfOk result (λ session. AreGoing session.state.counts.taken session.feeds.items) }
     ensures read { (reading : ℕ) × C.reads clock.old reading clock.new }
-    ensures moment { (moment : ℕ) → result ≡ Err (OpenError.MomentTooLarge moment) → C.reads clock.old moment clock.new × (253402300799 < moment) }
+    ensures moment { (moment : ℕ) → result ≡ Err (OpenError.MomentTooLarge moment) → C.reads clock.old moment clock.new × (LAST_MOMENT < moment) }
     ensures fault { (place : ℕ) → result ≡ Err (OpenError.SourceFault place) → FailsAt S.faults place sources.old sources.new }
     ensures shrank { (place kept found : ℕ) → result ≡ Err (OpenError.SourceShrank place kept found) → HasShrunk S.tells S.left restored.taken setup.now.sources place kept found sources.old }
     ensures spent { result ≡ Err OpenError.NumbersSpent → IsOverfull S.tells S.left S.faults setup.now configured.now.config restored sources.old sources.new }

@@ -1,6 +1,7 @@
 //! A tick begins.
 
 ghost use Rattle.std.specs.Prelude.{◌≡◌, ◌≤◌, ℕ, true, None, max, [], ◌∷◌, OnOk, OnErr};
+ghost use Rattle.osq_value.specs.declared.moment.TheConstants.{LAST_MOMENT};
 ghost use Rattle.entry_model.specs.declared.entry.Entry.TheVariants.{Ticked};
 ghost use Rattle.entry_model.specs.Views.{is_evented_table};
 ghost use Rattle.session_state.specs.Ticks.{first_due, owed_at};
@@ -12,7 +13,7 @@ use session_state::{State, TickRefusal};
 /// Begins a tick at this moment, or at the last one, whichever is later. No query is due and no event is to expire, so nothing keeps it
 /// from beginning.
 pub fn begin_tick(state: &mut State, moment: u64) -> Result<(), NoMemory>
-    requires calendar { moment ≤ 253402300799 }
+    requires calendar { moment ≤ LAST_MOMENT }
     requires answered { first_due state.old ≡ None }
     requires settled { (table : ℕ) → is_evented_table table ≡ true → owed_at state.old table ≡ None }
     ensures ticked { OnOk result (Brings state.old (Ticked (max moment state.old.counts.moment) ∷ []) state.new) }

@@ -3,6 +3,7 @@ use Rattle.std.proofs.Common.{◌≡◌, ℕ, zero, suc, ◌+◌, ◌<◌, ◌�
 use Rattle.std.specs.Prelude.{All, Contains, codes, bytes_eq}
 use Rattle.std.proofs.lemmas.Bool.Decides.{nat_tests}
 use Rattle.std.proofs.lemmas.List.Elements.{All-nil, All-cons, All-head}
+use Rattle.osq_value.specs.declared.moment.TheConstants.{LAST_MOMENT}
 use Rattle.osq_value.specs.declared.value.Value.{Value}
 use Rattle.osq_value.specs.declared.value.Value.TheVariants.{Null}
 use Rattle.osq_value.specs.Catalogue.{columns_of, tables, width_of}
@@ -64,7 +65,7 @@ five_legal =
     Legal-push started (Appended log 460 (change ∷ change ∷ change ∷ change ∷ change ∷ []) 0 1000) started_legal (omega arith, refl, all, omega arith)
 
 -- at a tick behind the change of a file, at which none is to expire at the one before
-ticked_legal : (moment : ℕ) → 1000 ≤ moment → moment ≤ 253402300799 → Legal (one_change ++ Ticked moment ∷ [])
+ticked_legal : (moment : ℕ) → 1000 ≤ moment → moment ≤ LAST_MOMENT → Legal (one_change ++ Ticked moment ∷ [])
 ticked_legal moment later calendar =
     Legal-push one_change (Ticked moment) one_legal (record { later = later; calendar = calendar }, refl, each_evented (λ table. owed_floor one_change table ≡ None) refl refl refl)
 
@@ -76,7 +77,7 @@ plain = record {
   two_sessions = record { legal = (refl, (refl, tt)); has = refl };
   configured_back = record { legal = configured_legal; ends = λ h. (let k : 1000 ≤ 999 = h.1.1.0.1.later in omega (arith, k)) };
   ticked_back = record { legal = configured_legal; ends = λ h. (let k : 1000 ≤ 999 = h.1.1.0.0.later in omega (arith, k)) };
-  past_9999 = record { legal = opened_legal; ends = λ h. (let k : 253402300800 ≤ 253402300799 = h.1.0.1.calendar in omega (arith, k)) };
+  past_9999 = record { legal = opened_legal; ends = λ h. (let k : 253402300800 ≤ LAST_MOMENT = h.1.0.1.calendar in omega (arith, k)) };
   a_change = record { legal = one_legal; has = refl };
   not_further = record { legal = one_legal; ends = λ h. (let k : 92 < 92 = h.1.1.1.1.0.0 in omega (arith, k)) };
   at_another_moment = record { legal = started_legal; ends = λ h. (let k : 1001 ≡ 1000 = h.1.1.1.0.1 in omega (arith, k)) };
@@ -145,7 +146,7 @@ module _ (accepted : is_accepted asked.text ≡ true) (evented : names_evented a
       })
 
   -- at a tick behind the batch
-  again_legal : (moment : ℕ) → 1000 ≤ moment → moment ≤ 253402300799 → Legal (answered ++ Ticked moment ∷ [])
+  again_legal : (moment : ℕ) → 1000 ≤ moment → moment ≤ LAST_MOMENT → Legal (answered ++ Ticked moment ∷ [])
   again_legal moment later calendar =
       Legal-push answered (Ticked moment) answered_legal (record { later = later; calendar = calendar }, refl, each_evented (λ table. owed_floor answered table ≡ None) refl refl refl)
 

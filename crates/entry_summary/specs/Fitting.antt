@@ -1,5 +1,6 @@
 -- The parts of which values that fit are made.
 use Rattle.std.specs.Prelude.{◌≤◌, ◌^◌, List, All}
+use Rattle.osq_value.specs.declared.moment.TheConstants.{LAST_MOMENT}
 use Rattle.entry_model.specs.declared.restored.Restored.{Restored}
 use Rattle.entry_model.specs.declared.restored.SetTable.{SetTable}
 use Rattle.entry_model.specs.Fits.{IsRisingFrom, LiveFits, RunFits, TableFits}
@@ -21,6 +22,6 @@ pub record AreRuns (r : Restored) : Type 0 where
 
 pub record AreTotals (r : Restored) : Type 0 where
   pub acked : r.acked ≤ r.batches
-  pub moment : r.moment ≤ 253402300799
+  pub moment : r.moment ≤ LAST_MOMENT
   pub last : r.last ≤ 2 ^ 62
   pub batches : r.batches ≤ 2 ^ 62

@@ -8,11 +8,8 @@ ghost use Rattle.entry_summary.specs.Fitting.{AreEvents, AreRuns, AreTables, Are
 
 use crate::distinct::{have_own_keys, have_own_numbers, have_own_sources, have_own_tables};
 use entry_model::restored::{Live, Restored, Run, SetTable};
-use osq_value::TableId;
 use osq_value::catalogue::columns;
-
-/// The last second of the calendar's years of four digits.
-const LAST_MOMENT: u64 = 253402300799;
+use osq_value::{LAST_MOMENT, TableId};
 
 /// The greatest number that an event or a batch may have.
 const LAST_NUMBER: u64 = 1 << 62;

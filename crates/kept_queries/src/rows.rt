@@ -1,6 +1,7 @@
 //! The rows of a query over all that a state shows.
 
 ghost use Rattle.std.specs.Prelude.{◌≡◌, ◌≤◌, IfOk};
+ghost use Rattle.osq_value.specs.declared.moment.TheConstants.{LAST_MOMENT};
 ghost use Rattle.sql_meaning.specs.Meaning.{meaning_of};
 ghost use Rattle.sql_query.specs.Resolved.{query_of};
 ghost use Rattle.event_store.specs.Contents.{rows_in};
@@ -15,7 +16,7 @@ use std::alloc::Global;
 
 /// The rows of a query over what the state shows of all live events and of the tables, at this moment.
 fn rows_shown(alloc: Global, query: &Query, state: &State, moment: u64) -> Result<RowList, NoMemory>
-    requires calendar { moment ≤ 253402300799 }
+    requires calendar { moment ≤ LAST_MOMENT }
     ensures { IfOk result (λ rows. rows ≡ meaning_of (query_of query.now) (rows_in (shown_by state.now 0 moment))) }
 {
     let view = state.view_above(alloc, 0, moment)?;
@@ -31,7 +32,7 @@ pub fn rows_behind(
     state: &State,
     moment: u64,
 ) -> Result<RowList, NoMemory>
-    requires calendar { moment ≤ 253402300799 }
+    requires calendar { moment ≤ LAST_MOMENT }
     ensures means { IfOk result (λ rows. MeansBehind state.now (query_of query.now) moment rows) }
 {
     laws::shows();

@@ -1,5 +1,6 @@
 -- From what the parts of a query ensure to what `query` does.
 use Rattle.std.proofs.Common.{◌≡◌, inl, inr, ◌≤◌, ℕ, Bool, true, false, List, ◌++◌, map, take, refl, sym, ap, ◌∙◌, subst, Some, None}
+use Rattle.osq_value.specs.declared.moment.TheConstants.{LAST_MOMENT}
 use Rattle.osq_value.specs.declared.reading.Category.{Category}
 use Rattle.osq_value.specs.declared.value.Value.{Value}
 use Rattle.entry_model.specs.declared.entry.Entry.{Entry}
@@ -25,7 +26,6 @@ use Rattle.osq_program.specs.declared.status.Status.{Status}
 use Rattle.osq_program.specs.declared.status.Status.TheVariants.{Ok as Done, Usage, FilesFault, ConfigRefused, KeeperFault, KeeperRefused, MomentTooLarge, SourceFault, SourceShrank, NumbersSpent, SinkFault, TicksSpent, QueryRefused, OutOfMemory}
 use Rattle.osq_program.specs.Answers.{Causes, IsCaused, IsDoneStatus, IsRefusal, no_causes}
 use Rattle.osq_program.specs.Ending.{ended_by}
-use Rattle.osq_program.specs.Moments.{LAST_MOMENT}
 use Rattle.osq_program.specs.Querying.{HasAnswer, IsGiven, IsPosed, IsQuery, IsRefusedAt, Leaves, Writes, causes_of, lines_in, row_lines}
 use Rattle.osq_program.specs.Setups.{source_in, sources_named}
 use Rattle.osq_program.specs.Told.{Told}

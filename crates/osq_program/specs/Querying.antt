@@ -1,5 +1,6 @@
 -- What `query` does.
 use Rattle.std.specs.Prelude.{◌≡◌, ◌⊎◌, ◌<◌, ◌≤◌, ℕ, Bool, true, false, List, [], ◌∷◌, ◌++◌, map, take, flat_map, None, Some}
+use Rattle.osq_value.specs.declared.moment.TheConstants.{LAST_MOMENT}
 use Rattle.osq_value.specs.declared.value.Value.{Value}
 use Rattle.entry_model.specs.declared.restored.Taken.{Taken}
 use Rattle.entry_model.specs.Legal.{Legal}
@@ -17,7 +18,6 @@ use Rattle.query_rounds.specs.declared.asking.Asked.{Asked}
 use Rattle.osq_program.specs.declared.status.Status.{Status}
 use Rattle.osq_program.specs.declared.status.Status.TheVariants.{Ok as Done, SinkFault, TicksSpent, OutOfMemory}
 use Rattle.osq_program.specs.Answers.{Causes, IsCaused, IsRefusal, no_causes}
-use Rattle.osq_program.specs.Moments.{LAST_MOMENT}
 use Rattle.osq_program.specs.Reasons.{HasFailed, HasShrunk, IsUnfit}
 use Rattle.osq_program.specs.Setups.{source_in, sources_named}
 use Rattle.osq_program.specs.Told.{Told}

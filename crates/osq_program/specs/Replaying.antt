@@ -1,5 +1,6 @@
 -- What `replay` does.
 use Rattle.std.specs.Prelude.{◌≡◌, ◌⊎◌, ◌<◌, ℕ, Bool, true, false, List, [], ◌∷◌, ◌++◌}
+use Rattle.osq_value.specs.declared.moment.TheConstants.{LAST_MOMENT}
 use Rattle.config_files.specs.Configurations.{IsConfigured}
 use Rattle.program_words.specs.declared.command.ReplayWords.{ReplayWords}
 use Rattle.session_model.specs.Given.{Given}
@@ -11,7 +12,6 @@ use Rattle.replay_rounds.specs.Spent.{HasSpent}
 use Rattle.osq_program.specs.declared.status.Status.{Status}
 use Rattle.osq_program.specs.Answers.{Causes, IsCaused, IsDoneStatus, IsSpentStatus, IsRefusal, no_causes}
 use Rattle.osq_program.specs.Checking.{IsRefusedFor}
-use Rattle.osq_program.specs.Moments.{LAST_MOMENT}
 use Rattle.osq_program.specs.Reasons.{HasFailed, HasShrunk, IsUnfit}
 use Rattle.osq_program.specs.Report.{final_line, spent_line}
 use Rattle.osq_program.specs.Setups.{host_in, sources_named}

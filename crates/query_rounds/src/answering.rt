@@ -1,6 +1,7 @@
 //! The rows of a text behind a kept list.
 
 ghost use Rattle.std.specs.Prelude.{◌≡◌, ◌≤◌, IfOk, Some, true};
+ghost use Rattle.osq_value.specs.declared.moment.TheConstants.{LAST_MOMENT};
 ghost use Rattle.sql_texts.specs.Meaning.{is_accepted};
 ghost use Rattle.sql_query.specs.Resolved.{query_of};
 ghost use Rattle.sql_texts.specs.Texts.{query_in};
@@ -35,7 +36,7 @@ pub(crate) fn answer_behind(
     moment: u64,
 ) -> Result<RowList, NoMemory>
     requires accepted { is_accepted text.now ≡ true }
-    requires calendar { moment ≤ 253402300799 }
+    requires calendar { moment ≤ LAST_MOMENT }
     ensures { IfOk result (λ rows. AnswersBehind state.now text.now moment rows) }
 {
     let query = asked(alloc, text)?;

@@ -1,6 +1,7 @@
 //! A question over a kept list and what its sources have behind it.
 
 ghost use Rattle.std.specs.Prelude.{◌≡◌, ◌<◌, ◌≤◌, ℕ, true, List, length, map, bytes_eq, Err, IfOk};
+ghost use Rattle.osq_value.specs.declared.moment.TheConstants.{LAST_MOMENT};
 ghost use Rattle.osq_outside.specs.Causes.{Rose};
 ghost use Rattle.sql_texts.specs.Meaning.{is_accepted};
 ghost use Rattle.entry_model.specs.Fits.{Fits, IsDistinct};
@@ -59,13 +60,13 @@ pub fn ask_kept<S: Source, K: Keeper, C: Clock>(
     requires accepted { is_accepted text.now ≡ true }
     requires paired { length sources.old ≡ length names.now }
     requires distinct { IsDistinct bytes_eq (source_names names.now) }
-    ensures answer { IfOk result (λ asked. (moment : ℕ) × C.reads clock.old moment clock.new × (moment ≤ 253402300799) × IsMeant K.tells (K.kept keeper.old) names.now text.now moment asked.rows × (K.tells → S.tells → Legal (K.kept keeper.old) → (given : Given) → IsGiven S.left names.now sources.old paths.now records given → IsAnswer given (K.kept keeper.old) text.now rounds moment asked)) }
+    ensures answer { IfOk result (λ asked. (moment : ℕ) × C.reads clock.old moment clock.new × (moment ≤ LAST_MOMENT) × IsMeant K.tells (K.kept keeper.old) names.now text.now moment asked.rows × (K.tells → S.tells → Legal (K.kept keeper.old) → (given : Given) → IsGiven S.left names.now sources.old paths.now records given → IsAnswer given (K.kept keeper.old) text.now rounds moment asked)) }
     ensures skipped { IfOk result (λ asked. (taken : List Taken) × (K.tells → taken ≡ (summary (K.kept keeper.old)).taken) × TellsSkipped S.tells paths.now taken names.now (map S.left sources.old) asked.is_end asked.skipped) }
     ensures same { K.tells → K.kept keeper.new ≡ K.kept keeper.old }
     ensures keeper_cause { result ≡ Err AskError.KeeperFault → Rose (K.faults keeper.old) (K.faults keeper.new) }
     ensures refused { K.tells → result ≡ Err AskError.KeeperRefused → ¬ Fits (summary (K.kept keeper.old)) }
     ensures illegal { K.tells → result ≡ Err AskError.KeeperRefused → ¬ Legal (K.kept keeper.old) }
-    ensures moment { (moment : ℕ) → result ≡ Err (AskError.MomentTooLarge moment) → C.reads clock.old moment clock.new × (253402300799 < moment) }
+    ensures moment { (moment : ℕ) → result ≡ Err (AskError.MomentTooLarge moment) → C.reads clock.old moment clock.new × (LAST_MOMENT < moment) }
     ensures fault { (place : ℕ) → result ≡ Err (AskError.SourceFault place) → FailsAt S.faults place sources.old sources.new }
     ensures shrank { (place kept found : ℕ) → result ≡ Err (AskError.SourceShrank place kept found) → (taken : List Taken) × (K.tells → taken ≡ (summary (K.kept keeper.old)).taken) × HasShrunk S.tells S.left taken names.now place kept found sources.old }
     ensures over { result ≡ Err AskError.NumbersSpent → (restored : Restored) × (K.tells → restored ≡ summary (K.kept keeper.old)) × IsOverfull S.tells S.left S.faults names.now paths.now records rounds restored sources.old sources.new }

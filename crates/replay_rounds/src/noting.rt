@@ -1,6 +1,7 @@
 //! What a session tells on the status stream.
 
 ghost use Rattle.std.specs.Prelude.{◌≡◌, ◌≤◌, ◌++◌, IfOk, OnOk};
+ghost use Rattle.osq_value.specs.declared.moment.TheConstants.{LAST_MOMENT};
 ghost use Rattle.osq_outside.specs.Causes.{FaultHasCause};
 ghost use Rattle.replay_rounds.specs.Noting.{AreNotesOf, IsGrown, IsNoted, skipped_end, skipped_line, skipped_lines, skipped_of};
 ghost use Rattle.replay_rounds.specs.declared.noting.NoteError.{NoteError};
@@ -47,7 +48,7 @@ fn notes_at(
     state: &State,
     moment: u64,
 ) -> Result<Bytes, NoMemory>
-    requires { moment ≤ 253402300799 }
+    requires { moment ≤ LAST_MOMENT }
     ensures { IfOk result (AreNotesOf configured.now.config setup.now.host configured.now.notes) }
 {
     let config = &configured.config;
@@ -66,7 +67,7 @@ pub(crate) fn write_notes<O: Sink>(
     status: &mut O,
     moment: u64,
 ) -> Result<(), NoteError>
-    requires { moment ≤ 253402300799 }
+    requires { moment ≤ LAST_MOMENT }
     ensures noted { O.tells → OnOk result (IsNoted configured.now.config setup.now.host configured.now.notes (O.written status.old) (O.written status.new)) }
     ensures grown { O.tells → IsGrown (O.written status.old) (O.written status.new) }
     ensures cause { FaultHasCause NoteError.SinkFault (O.faults status.old) (O.faults status.new) result }

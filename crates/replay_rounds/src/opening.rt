@@ -1,6 +1,7 @@
 //! A session opens, and what is to be told of its configuration is written.
 
 ghost use Rattle.std.specs.Prelude.{◌≡◌, ◌≢◌, ◌<◌, ◌≤◌, ℕ, length, bytes_eq, Err, IfOk, IfErr};
+ghost use Rattle.osq_value.specs.declared.moment.TheConstants.{LAST_MOMENT};
 ghost use Rattle.osq_config.specs.Bounds.{IsBounded};
 ghost use Rattle.osq_outside.specs.Causes.{Rose};
 ghost use Rattle.entry_model.specs.Fits.{Fits, IsDistinct};
@@ -47,7 +48,7 @@ pub(crate) fn open_noted<S: Source, C: Clock, O: Sink>(
     ensures going { IfOk result (λ session. AreGoing session.state.counts.taken session.feeds.items) }
     ensures read { (reading : ℕ) × C.reads clock.old reading clock.new }
     ensures loaded { IfErr result (λ refused. (refused.error ≢ RunError.KeeperFault) × (refused.error ≢ RunError.KeeperRefused)) }
-    ensures moment { (refused : Refused) (moment : ℕ) → result ≡ Err refused → refused.error ≡ RunError.MomentTooLarge moment → C.reads clock.old moment clock.new × (253402300799 < moment) }
+    ensures moment { (refused : Refused) (moment : ℕ) → result ≡ Err refused → refused.error ≡ RunError.MomentTooLarge moment → C.reads clock.old moment clock.new × (LAST_MOMENT < moment) }
     ensures fault { (refused : Refused) (place : ℕ) → result ≡ Err refused → refused.error ≡ RunError.SourceFault place → FailsAt S.faults place sources.old sources.new }
     ensures shrank { (refused : Refused) (place kept found : ℕ) → result ≡ Err refused → refused.error ≡ RunError.SourceShrank place kept found → HasShrunk S.tells S.left restored.taken setup.now.sources place kept found sources.old }
     ensures spent { (refused : Refused) → result ≡ Err refused → refused.error ≡ RunError.NumbersSpent → IsOverfull S.tells S.left S.faults setup.now configured.now.config restored sources.old sources.new }

@@ -1,6 +1,7 @@
 //! A whole session.
 
 ghost use Rattle.std.specs.Prelude.{◌≡◌, ◌<◌, ◌≤◌, ◌⊎◌, ℕ, length, bytes_eq, [], ◌∷◌, ◌++◌, List, Err, IfOk, IfErr};
+ghost use Rattle.osq_value.specs.declared.moment.TheConstants.{LAST_MOMENT};
 ghost use Rattle.config_files.specs.Configurations.{IsConfigOf};
 ghost use Rattle.osq_config.specs.Bounds.{IsBounded};
 ghost use Rattle.osq_outside.specs.Causes.{Rose};
@@ -60,7 +61,7 @@ fn next_moment<C: Clock, O: Sink>(
     ensures read { IfOk result (λ moment. IsRead C.reads clock.old clock.new state.now.counts.moment moment) }
     ensures once { (reading : ℕ) × C.reads clock.old reading clock.new }
     ensures noted { O.tells → IfOk result (λ moment. IsNotedAgain (asks_again configured.now.config configured_at moment) configured.now.config setup.now.host configured.now.notes (O.written status.old) (O.written status.new)) }
-    ensures cause { IfErr result (λ refused. IsBetween (λ moment. C.reads clock.old moment clock.new × (253402300799 < moment)) (Rose (O.faults status.old) (O.faults status.new)) refused.error) }
+    ensures cause { IfErr result (λ refused. IsBetween (λ moment. C.reads clock.old moment clock.new × (LAST_MOMENT < moment)) (Rose (O.faults status.old) (O.faults status.new)) refused.error) }
     ensures grown { O.tells → IsGrown (O.written status.old) (O.written status.new) }
     ensures later { O.faults status.old ≤ O.faults status.new }
 {
@@ -139,7 +140,7 @@ pub fn run_session<S: Source, K: Keeper, O: Sink, C: Clock>(
     ensures keeper_cause { (refused : Refused) → result ≡ Err refused → refused.error ≡ RunError.KeeperFault → Rose (K.faults keeper.old) (K.faults keeper.new) }
     ensures refused { K.tells → (refused : Refused) → result ≡ Err refused → refused.error ≡ RunError.KeeperRefused → ¬ Fits (summary (K.kept keeper.old)) }
     ensures illegal { K.tells → (refused : Refused) → result ≡ Err refused → refused.error ≡ RunError.KeeperRefused → ¬ Legal (K.kept keeper.old) }
-    ensures moment { (refused : Refused) (moment : ℕ) → result ≡ Err refused → refused.error ≡ RunError.MomentTooLarge moment → (253402300799 < moment) × ((readings : List ℕ) × ReadsAll C.reads clock.old (readings ++ moment ∷ []) clock.new) }
+    ensures moment { (refused : Refused) (moment : ℕ) → result ≡ Err refused → refused.error ≡ RunError.MomentTooLarge moment → (LAST_MOMENT < moment) × ((readings : List ℕ) × ReadsAll C.reads clock.old (readings ++ moment ∷ []) clock.new) }
     ensures fault { (refused : Refused) (place : ℕ) → result ≡ Err refused → refused.error ≡ RunError.SourceFault place → FailsAt S.faults place sources.old sources.new }
     ensures shrank { (refused : Refused) (place kept found : ℕ) → result ≡ Err refused → refused.error ≡ RunError.SourceShrank place kept found → (taken : List Taken) × (K.tells → taken ≡ (summary (K.kept keeper.old)).taken) × HasShrunk S.tells S.left taken setup.now.sources place kept found sources.old }
     ensures spent { (refused : Refused) → result ≡ Err refused → refused.error ≡ RunError.NumbersSpent → HasSpent (fixed_of K.tells O.tells S.tells S.left setup.now configured.now.config configured.now.documents sources.old (K.kept keeper.old) (O.written results.old)) (λ readings. ReadsAll C.reads clock.old readings clock.new) (K.kept keeper.new) }

@@ -1,6 +1,7 @@
 //! A whole tick.
 
 ghost use Rattle.std.specs.Prelude.{◌≡◌, ◌≢◌, ◌≤◌, ℕ, length, Err, IfOk, IfErr, OnErr};
+ghost use Rattle.osq_value.specs.declared.moment.TheConstants.{LAST_MOMENT};
 ghost use Rattle.osq_config.specs.Bounds.{IsBounded};
 ghost use Rattle.osq_outside.specs.Causes.{Rose};
 ghost use Rattle.daemon_rounds.specs.Keeping.{GoesOn};
@@ -39,7 +40,7 @@ pub fn take_tick<S: Source, K: Keeper, O: Sink>(
 ) -> Result<u64, Refused>
     requires bounded { IsBounded configured.now.config }
     requires later { state.old.counts.moment ≤ moment }
-    requires calendar { moment ≤ 253402300799 }
+    requires calendar { moment ≤ LAST_MOMENT }
     requires paired { length sources.old ≡ length feeds.old }
     requires ready { IsReady feeds.old configured_at state.old }
     requires goes_on { GoesOn K.tells (K.kept keeper.old) state.old }

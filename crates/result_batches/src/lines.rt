@@ -2,6 +2,7 @@
 
 ghost use Rattle.std.specs.Prelude.{◌≡◌, ◌≤◌, ◌++◌, IfOk, OnOk};
 ghost use Rattle.std.specs.Fmt.{decimal};
+ghost use Rattle.osq_value.specs.declared.moment.TheConstants.{LAST_MOMENT};
 ghost use Rattle.result_batches.specs.Labels.{labelled, labelled_rows};
 ghost use Rattle.result_batches.specs.Lines.{AreLines, added_line, added_lines, difference_line, difference_text, head_text, lines_text, snapshot_line};
 
@@ -143,7 +144,7 @@ pub fn result_lines(
     host: &str,
     form: Form,
 ) -> Result<Bytes, NoMemory>
-    requires { batch.now.moment ≤ 253402300799 }
+    requires { batch.now.moment ≤ LAST_MOMENT }
     ensures { IfOk result (AreLines form host.now names.now batch.now) }
 {
     let calendar = calendar_of(alloc, batch.moment)?;

@@ -4,6 +4,7 @@ use Rattle.std.specs.Prelude.{All, Contains, filter, find, position, is_some, un
 use Rattle.std.specs.List.{position_or_len}
 use Rattle.std.proofs.lemmas.Bool.Decides.{nat_tests}
 use Rattle.std.proofs.lemmas.List.Elements.{All-contains, Contains-append_right}
+use Rattle.osq_value.specs.declared.moment.TheConstants.{LAST_MOMENT}
 use Rattle.pack_rules.specs.declared.schedule.Scheduled.{Scheduled}
 use Rattle.pack_rules.specs.Keys.{same_key}
 use Rattle.entry_model.specs.declared.entry.Entry.{Entry}
@@ -120,7 +121,7 @@ none_refused None (Some table) h = absurd (cc)
 none_refused None None h = (refl, refl)
 
 -- a tick that nothing holds back may follow
-pub may_tick : (K : List Entry) (s : Kept) (moment : ℕ) → HasValues K s → All (IsRun s.counts.batches) s.counts.runs → moment ≤ 253402300799 → s.counts.moment ≤ moment → held_back_by s ≡ None → LegalNext K (Ticked moment)
+pub may_tick : (K : List Entry) (s : Kept) (moment : ℕ) → HasValues K s → All (IsRun s.counts.batches) s.counts.runs → moment ≤ LAST_MOMENT → s.counts.moment ≤ moment → held_back_by s ≡ None → LegalNext K (Ticked moment)
 may_tick K s moment h runs low later free =
     let held = none_refused (first_due s) (first_owed s) free in
     let now = ap (λ (c : Counts). c.moment) h.counts in

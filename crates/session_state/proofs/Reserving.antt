@@ -1,6 +1,7 @@
 -- A state that made room for a commit of each query is a state again.
 use Rattle.std.proofs.Common.{◌≡◌, ℕ, ◌+◌, ◌<◌, ◌≤◌, ◌^◌, List, [], ◌∷◌, ◌++◌, length, max, sym, ap, ◌∙◌, subst, arith}
 use Rattle.std.specs.Prelude.{All}
+use Rattle.osq_value.specs.declared.moment.TheConstants.{LAST_MOMENT}
 use Rattle.entry_model.specs.declared.restored.Run.{Run}
 use Rattle.entry_model.specs.Schedules.{IsSound}
 use Rattle.event_store.specs.Contents.{IsImage}
@@ -17,7 +18,7 @@ pub record Reserves (s new : Kept) : Type 0 where
   pub position : new.counts.position ≡ s.counts.position + 1
   pub low : s.counts.position + 1 + max s.tail_room (length new.schedule.queries) < 2 ^ 63
   pub sessions : new.counts.sessions ≡ s.counts.sessions
-  pub moment : new.counts.moment ≤ 253402300799
+  pub moment : new.counts.moment ≤ LAST_MOMENT
   pub runs : new.counts.runs ≡ s.counts.runs
   pub batches : new.counts.batches ≡ s.counts.batches
   pub acked : new.counts.acked ≡ s.counts.acked

@@ -4,6 +4,7 @@ use Rattle.std.specs.Prelude.{All, filter, find, is_some, not, nat_le, if◌then
 use Rattle.std.specs.List.{list_any}
 use Rattle.std.proofs.lemmas.Bool.Decides.{nat_tests}
 use Rattle.std.proofs.lemmas.List.Elements.{All-nil, All-cons, All-head, All-tail}
+use Rattle.osq_value.specs.declared.moment.TheConstants.{LAST_MOMENT}
 use Rattle.pack_rules.specs.declared.schedule.QueryKey.{QueryKey}
 use Rattle.pack_rules.specs.declared.schedule.Scheduled.{Scheduled}
 use Rattle.pack_rules.specs.Keys.{same_key}
@@ -204,7 +205,7 @@ module _ (query : QueryKey) (number hi moment : ℕ) where
         fewer IsRunnable (is_new runs) (is_new (with_batch runs query number hi moment)) (λ (x : Scheduled) (r : IsRunnable x). was_new runs x) queries runnable
 
   -- what is known of the runs after a batch
-  pub known_after : (batches : ℕ) (runs : List Run) → number ≤ batches + 1 → moment ≤ 253402300799 → All (IsRun batches) runs → All (IsRun (batches + 1)) (with_batch runs query number hi moment)
+  pub known_after : (batches : ℕ) (runs : List Run) → number ≤ batches + 1 → moment ≤ LAST_MOMENT → All (IsRun batches) runs → All (IsRun (batches + 1)) (with_batch runs query number hi moment)
   known_after batches runs next past known = by_any (list_any of_query runs)
     where
       more : (run : Run) → IsRun batches run → IsRun (batches + 1) run

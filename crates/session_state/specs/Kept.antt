@@ -1,5 +1,6 @@
 -- What contracts see of a session's state.
 use Rattle.std.specs.Prelude.{◌≡◌, ℕ, ◌+◌, ◌<◌, ◌≤◌, ◌^◌, List, Bool, Option, length, All}
+use Rattle.osq_value.specs.declared.moment.TheConstants.{LAST_MOMENT}
 use Rattle.pack_rules.specs.declared.schedule.Schedule.{Schedule}
 use Rattle.entry_model.specs.declared.entry.Entry.{Entry}
 use Rattle.entry_model.specs.declared.entry.Entry.TheVariants.{Opened, Configured, Ticked, Appended, TableSet, Expired, Committed, Acked}
@@ -60,14 +61,14 @@ pub record IsRun (batches : ℕ) (run : Run) : Type 0 where
   pub some : 1 ≤ run.count
   pub most : run.count ≤ batches
   pub given : run.number ≤ batches
-  pub past : run.moment ≤ 253402300799
+  pub past : run.moment ≤ LAST_MOMENT
 
 -- what is known of every state
 pub record IsState (s : Kept) : Type 0 where
   pub image : IsImage s.image
   pub position : s.counts.position + s.tail_room < 2 ^ 63
   pub sessions : s.counts.sessions < 2 ^ 63
-  pub moment : s.counts.moment ≤ 253402300799
+  pub moment : s.counts.moment ≤ LAST_MOMENT
   pub runs : All (IsRun s.counts.batches) s.counts.runs
   pub batches : s.counts.batches ≤ 2 ^ 62
   pub acked : s.counts.acked ≤ s.counts.batches

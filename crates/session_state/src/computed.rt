@@ -1,6 +1,7 @@
 //! The rows of the tables that the program knows itself.
 
 ghost use Rattle.std.specs.Prelude.{◌≡◌, ◌≤◌, ◌<◌, ◌^◌, All, IfOk, IfSome, length, option_copied, true};
+ghost use Rattle.osq_value.specs.declared.moment.TheConstants.{LAST_MOMENT};
 ghost use Rattle.osq_value.specs.Catalogue.{width_of, table_name};
 ghost use Rattle.entry_model.specs.Schedules.{IsRunnable};
 ghost use Rattle.entry_model.specs.Views.{is_evented_table};
@@ -18,7 +19,7 @@ use std::alloc::Global;
 
 /// The one row of the table `time`.
 pub(crate) fn time_rows(alloc: Global, moment: u64) -> Result<RowList, NoMemory>
-    requires { moment ≤ 253402300799 }
+    requires { moment ≤ LAST_MOMENT }
     ensures { IfOk result (λ rows. rows ≡ time_shown moment) }
 {
     let mut row = Row::with_capacity(alloc, 1)?;

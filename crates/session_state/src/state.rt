@@ -15,6 +15,7 @@ ghost use Rattle.entry_model.specs.Views.{is_evented_table, is_recorded_table};
 ghost use Rattle.session_state.specs.Ticks.{held_back_by, first_due, owed_at};
 ghost use Rattle.std.specs.List.{cons_option};
 ghost use Rattle.std.specs.Option.{option_map_or};
+ghost use Rattle.osq_value.specs.declared.moment.TheConstants.{LAST_MOMENT};
 ghost use Rattle.session_state.specs.Computed.{shown_by};
 ghost use Rattle.session_state.specs.Cut.{CutValue};
 ghost use Rattle.session_state.specs.CutOf.{mark_from, IsCutOf};
@@ -354,7 +355,7 @@ impl State {
     /// while a query of the last tick is due, or events are to expire.
     /// The moment is in seconds since 1970 UTC. The refusal has the place of the due query, or the table whose events are to expire.
     pub fn tick(&mut self, moment: u64) -> Result<(), TickRefusal>
-        requires { moment ≤ 253402300799 }
+        requires { moment ≤ LAST_MOMENT }
         ensures ticked { OnOk result (Adds self.old (Ticked (max moment self.old.counts.moment)) self.new) }
         ensures claims { OnOk result (self.new.claims ≡ replicate (length self.old.claims) false) }
         ensures refused { (refusal : TickRefusal) → held_back_by self.old ≡ Some refusal → result ≡ Err refusal }
@@ -372,7 +373,7 @@ impl State {
 
     /// Adds a tick at this moment.
     fn begin_tick(&mut self, moment: u64) -> Result<(), NoMemory>
-        requires calendar { moment ≤ 253402300799 }
+        requires calendar { moment ≤ LAST_MOMENT }
         requires free { held_back_by self.old ≡ None }
         requires later { self.old.counts.moment ≤ moment }
         ensures ticked { OnOk result (Adds self.old (Ticked moment) self.new) }
@@ -406,7 +407,7 @@ impl State {
         moment: u64,
     ) -> Result<(), NoMemory>
         requires sound { IsSound schedule }
-        requires calendar { moment ≤ 253402300799 }
+        requires calendar { moment ≤ LAST_MOMENT }
         ensures configured { OnOk result (Adds self.old (Configured document schedule (max moment self.old.counts.moment)) self.new) }
         ensures claims { OnOk result (self.new.claims ≡ replicate (length schedule.queries) false) }
         ensures err { OnErr result (self.new ≡ self.old) }
@@ -642,7 +643,7 @@ impl State {
 
     /// What a query sees at this moment: of the events those above this number, and all other tables.
     pub fn view_above(&self, alloc: Global, above: u64, moment: u64) -> Result<CutView, NoMemory>
-        requires { moment ≤ 253402300799 }
+        requires { moment ≤ LAST_MOMENT }
         ensures { IfOk result (λ view. view ≡ shown_by self.now above moment) }
     {
         let mut view = self.image.slice(alloc, above)?;
@@ -658,7 +659,7 @@ impl State {
 
     /// What a query sees at this moment where no event is new to it.
     pub fn tables_view(&self, alloc: Global, moment: u64) -> Result<CutView, NoMemory>
-        requires { moment ≤ 253402300799 }
+        requires { moment ≤ LAST_MOMENT }
         ensures { IfOk result (λ view. view ≡ shown_by self.now self.now.image.last moment) }
     {
         self.view_above(alloc, self.image.last(), moment)

@@ -7,6 +7,7 @@
 
 ghost use Rattle.std.specs.Prelude.{◌≡◌, ◌≢◌, ◌+◌, ◌<◌, ◌≤◌, ◌++◌, ◌∷◌, ◌⊎◌, [], IfOk, IfSome, OnOk, OnErr};
 ghost use Rattle.std.specs.List.{All};
+ghost use Rattle.osq_value.specs.declared.moment.TheConstants.{LAST_MOMENT};
 ghost use Rattle.sql_texts.specs.Meaning.{meaning};
 ghost use Rattle.entry_model.specs.Fits.{Fits};
 ghost use Rattle.entry_model.specs.Schedules.{IsSound};
@@ -164,7 +165,7 @@ impl Store {
     ) -> Result<(), NoMemory>
         requires seat { IsSeatOf self.now seat.old × IsAtRest seat.old }
         requires sound { IsSound schedule }
-        requires calendar { moment ≤ 253402300799 }
+        requires calendar { moment ≤ LAST_MOMENT }
         ensures seat { IsSame seat.old seat.new × IsAtRest seat.new }
         ensures turn { InTurn (start_of self.now) seat.old seat.new (Configures document schedule moment result) }
     {
@@ -187,7 +188,7 @@ impl Store {
         moment: u64,
     ) -> Result<(), TickRefusal>
         requires seat { IsSeatOf self.now seat.old × IsAtRest seat.old }
-        requires calendar { moment ≤ 253402300799 }
+        requires calendar { moment ≤ LAST_MOMENT }
         ensures seat { IsSame seat.old seat.new × IsAtRest seat.new }
         ensures turn { InTurn (start_of self.now) seat.old seat.new (Ticks moment result) }
     {
@@ -336,7 +337,7 @@ impl Store {
         moment: u64,
     ) -> Result<CutView, NoMemory>
         requires seat { IsSeatOf self.now seat.old × IsAtRest seat.old }
-        requires calendar { moment ≤ 253402300799 }
+        requires calendar { moment ≤ LAST_MOMENT }
         ensures seat { IsSame seat.old seat.new × IsAtRest seat.new }
         ensures turn { InTurn (start_of self.now) seat.old seat.new (Views moment result) }
     {

@@ -3,6 +3,7 @@
 ghost use Rattle.std.specs.Prelude.{◌≡◌, ◌<◌, ◌≤◌, ◌^◌, ◌↔◌, All, IsTrue, IfOk, length, true};
 ghost use Rattle.std.specs.Ordering.{nat_cmp, is_lt};
 ghost use Rattle.std.specs.Cmp.Lexicographic.{slice_cmp};
+ghost use Rattle.osq_value.specs.declared.moment.TheConstants.{LAST_MOMENT};
 ghost use Rattle.osq_value.specs.Catalogue.{width_of};
 ghost use Rattle.sql_texts.specs.Meaning.{meaning};
 ghost use Rattle.pack_rules.specs.declared.schedule.Mode.TheVariants.{Evented};
@@ -14,16 +15,13 @@ ghost use Rattle.session_state.specs.Readings.{IsReading};
 
 use entry_model::restored::Restored;
 use osq_value::catalogue::columns;
-use osq_value::{Event, EventList, NoMemory, Reading, RowList, TableId};
+use osq_value::{Event, EventList, LAST_MOMENT, NoMemory, Reading, RowList, TableId};
 use pack_rules::schedule::{Mode, Schedule, Scheduled};
 use session_state::Cut;
 use sql_meaning::plain_rows;
 use sql_query::answers::is_evented;
 use sql_texts::text::{TextError, query_of_text};
 use std::alloc::Global;
-
-/// The last second of the calendar's years of four digits.
-const LAST_MOMENT: u64 = 253402300799;
 
 /// The values of an empty list, from which a session may go on.
 pub(crate) fn nothing(alloc: Global) -> Restored
@@ -34,7 +32,7 @@ pub(crate) fn nothing(alloc: Global) -> Restored
 
 /// The moment is one of the calendar.
 pub(crate) fn is_moment(moment: u64) -> bool
-    ensures { IsTrue result ↔ moment ≤ 253402300799 }
+    ensures { IsTrue result ↔ moment ≤ LAST_MOMENT }
 {
     moment <= LAST_MOMENT
 }

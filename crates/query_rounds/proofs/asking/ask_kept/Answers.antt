@@ -1,4 +1,5 @@
 use Rattle.std.proofs.Common.{◌≡◌, ◌≤◌, ℕ, Err, ap, max, sym, ◌∙◌, subst, arith}
+use Rattle.osq_value.specs.declared.moment.TheConstants.{LAST_MOMENT}
 use Rattle.entry_model.specs.declared.restored.Restored.{Restored}
 use Rattle.query_rounds.specs.Reading.{HasRead, IsOverfull}
 use Rattle.query_rounds.specs.declared.error.AskError.TheVariants.{NumbersSpent}
@@ -17,7 +18,7 @@ returns-clause-answer g c =
     let same : read.reading ≡ c.in-Ok-read_moment.moment = sym (read.is ∙ none_later read.reading) in (
       c.in-Ok-read_moment.moment,
       subst (λ (moment : ℕ). g.C.Clock.reads c.args.clock.now moment c.read_moment.new.clock) same read.reads_it,
-      subst (λ (moment : ℕ). moment ≤ 253402300799) same read.calendar,
+      subst (λ (moment : ℕ). moment ≤ LAST_MOMENT) same read.calendar,
       meant g.S.Source.tells g.S.Source.left g.S.Source.faults c.args.names.now c.args.paths.now c.args.records c.args.rounds c.in-Ok.restored c.args.sources.now c.read_behind.new.sources behind.state behind.is_end c.in-Ok-read_behind.ensures.read
           g.K.Keeper.tells (g.K.Keeper.kept c.args.keeper.now) c.in-Ok.ensures.value
           c.args.text.now c.in-Ok-read_moment.moment c.in-Ok-answer_behind.rows c.in-Ok-answer_behind.ensures,
