@@ -11,7 +11,7 @@ use Rattle.entry_model.specs.declared.restored.Taken.{Taken}
 use Rattle.entry_model.specs.Fits.{IsDistinct}
 use Rattle.entry_model.specs.Next.{offset_at}
 use Rattle.daemon_rounds.specs.declared.error.StartError.TheVariants as start
-use Rattle.daemon_rounds.specs.declared.setup.SourceName.{SourceName}
+use Rattle.osq_value.specs.declared.source.SourceName.{SourceName}
 use Rattle.daemon_rounds.specs.Turns.{IsGoing, Turn, turn_of}
 use Rattle.daemon_rounds.specs.Rounding.{AreGoing, FailsAt, Front, names_of}
 use Rattle.daemon_rounds.specs.Starting.{AreFeedsOf, HasShrunk, IsFeedOf, IsStart, ShrankAt, Starts, source_names}

@@ -4,7 +4,7 @@ use Rattle.osq_value.specs.declared.reading.Category.{Category}
 use Rattle.source_feeds.specs.Feeding.{Fed, Feeding, IsOpen}
 use Rattle.entry_model.specs.declared.restored.Taken.{Taken}
 use Rattle.entry_model.specs.Next.{offset_at}
-use Rattle.daemon_rounds.specs.declared.setup.SourceName.{SourceName}
+use Rattle.osq_value.specs.declared.source.SourceName.{SourceName}
 use Rattle.daemon_rounds.specs.Turns.{Turn}
 use Rattle.daemon_rounds.specs.Rounding.{Whole}
 

@@ -1,20 +1,7 @@
 //! What a session is given.
 
-use osq_value::{Sequence, Str};
+use osq_value::{SourceNameList, Str};
 use pack_rules::Host;
-use publisher_core::record::SourceKind;
-
-/// A source of a session.
-#[derive(Drop)]
-pub struct SourceName {
-    /// The name under which its offset is kept.
-    pub name: Str,
-    /// What its lines are.
-    pub kind: SourceKind,
-}
-
-/// Sources, in the order in which a round reads them.
-pub type SourceNameList = Sequence<SourceName>;
 
 /// What a session is given.
 #[derive(Drop)]

@@ -9,10 +9,9 @@ ghost use Rattle.daemon_rounds.specs.Starting.{AreFeedsOf, HasShrunk, IsFeedOf, 
 ghost use Rattle.daemon_rounds.specs.declared.error.StartError.{StartError};
 
 use crate::error::StartError;
-use crate::setup::SourceName;
 use entry_model::restored::Taken;
 use osq_outside::Source;
-use osq_value::{CategoryList, Copied, NoMemory, Str};
+use osq_value::{CategoryList, Copied, NoMemory, SourceName, Str};
 use publisher_core::error::StepError;
 use source_feeds::Feed;
 use std::alloc::Global;

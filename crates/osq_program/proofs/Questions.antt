@@ -14,7 +14,7 @@ use Rattle.sql_query.specs.Resolved.{QueryTree}
 use Rattle.sql_texts.specs.TextFaults.{text_fault}
 use Rattle.sql_texts.specs.Texts.{query_in}
 use Rattle.session_model.specs.Given.{Given}
-use Rattle.daemon_rounds.specs.declared.setup.SourceName.{SourceName as SessionSource}
+use Rattle.osq_value.specs.declared.source.SourceName.{SourceName}
 use Rattle.replay_rounds.specs.Sources.{sources_of}
 use Rattle.replay_rounds.specs.declared.refused.RunError.TheVariants as running
 use Rattle.query_rounds.specs.Asking as asking
@@ -27,7 +27,7 @@ use Rattle.osq_program.specs.declared.status.Status.TheVariants.{Ok as Done, Usa
 use Rattle.osq_program.specs.Answers.{Causes, IsCaused, IsDoneStatus, IsRefusal, no_causes}
 use Rattle.osq_program.specs.Ending.{ended_by}
 use Rattle.osq_program.specs.Querying.{HasAnswer, IsGiven, IsPosed, IsQuery, IsRefusedAt, Leaves, Writes, causes_of, lines_in, row_lines}
-use Rattle.osq_program.specs.Setups.{source_in, sources_named}
+use Rattle.osq_program.specs.Setups.{sources_named}
 use Rattle.osq_program.specs.Told.{Told}
 use Rattle.osq_program.specs.Watching.{AreWatched, IsRefusedIn}
 use Rattle.osq_program.proofs.Setups.{sources_are}
@@ -168,31 +168,31 @@ abbrev pub posed_by : (words : QueryWords) (told : Told) (text : List ℕ) (path
 posed_by words told text paths notes is accepted are = record { accepted = ap text_fault (sym is) ∙ accepted; watched = record { paths = paths; notes = notes; are = are } }
 
 -- what a session is given is what the question is over
-pub given_for : {S : Type 0} (left : S → List ℕ) (words : QueryWords) (told : Told) (posed : IsPosed words told) (names : List SessionSource) (objects : List S) (given : Given) → names ≡ map source_in words.sources
+pub given_for : {S : Type 0} (left : S → List ℕ) (words : QueryWords) (told : Told) (posed : IsPosed words told) (names : List SourceName) (objects : List S) (given : Given) → names ≡ words.sources
     → told.all_bytes ≡ map left objects → IsGiven words told posed given → asking.IsGiven left names objects posed.watched.paths words.records given
 given_for left words told posed names objects given is bytes g = record {
-  sources_are = g.sources ∙ sym (ap (λ (ns : List SessionSource). sources_of left ns objects) is ∙ sources_are left words.sources objects ∙ ap (sources_named words.sources) (sym bytes));
+  sources_are = g.sources ∙ sym (ap (λ (ns : List SourceName). sources_of left ns objects) is ∙ sources_are left words.sources objects ∙ ap (sources_named words.sources) (sym bytes));
   paths_are = g.paths;
   records_are = g.records;
 }
 
 -- the rows of a question mean what the words ask for
-pub meant_for : (words : QueryWords) (tells : Type 0) (kept : List Entry) (names : List SessionSource) (text : List ℕ) (moment : ℕ) (rows : List (List Value)) → names ≡ map source_in words.sources → text ≡ words.text → asking.IsMeant tells kept names text moment rows
-    → asking.IsMeant tells kept (map source_in words.sources) words.text moment rows
+pub meant_for : (words : QueryWords) (tells : Type 0) (kept : List Entry) (names : List SourceName) (text : List ℕ) (moment : ℕ) (rows : List (List Value)) → names ≡ words.sources → text ≡ words.text → asking.IsMeant tells kept names text moment rows
+    → asking.IsMeant tells kept words.sources words.text moment rows
 meant_for words tells kept names text moment rows named is meant =
-    subst (λ (text : List ℕ). asking.IsMeant tells kept (map source_in words.sources) text moment rows) is (subst (λ (names : List SessionSource). asking.IsMeant tells kept names text moment rows) named meant)
+    subst (λ (text : List ℕ). asking.IsMeant tells kept words.sources text moment rows) is (subst (λ (names : List SourceName). asking.IsMeant tells kept names text moment rows) named meant)
 
 -- what its sources skipped is told of the sources that the words name
-pub skips_for : (words : QueryWords) (tells : Type 0) (paths : List Category) (taken : List Taken) (names : List SessionSource) (given_bytes all_bytes : List (List ℕ)) (is_end : Bool) (lines : List ℕ) → names ≡ map source_in words.sources
-    → given_bytes ≡ all_bytes → TellsSkipped tells paths taken names all_bytes is_end lines → TellsSkipped tells paths taken (map source_in words.sources) given_bytes is_end lines
+pub skips_for : (words : QueryWords) (tells : Type 0) (paths : List Category) (taken : List Taken) (names : List SourceName) (given_bytes all_bytes : List (List ℕ)) (is_end : Bool) (lines : List ℕ) → names ≡ words.sources
+    → given_bytes ≡ all_bytes → TellsSkipped tells paths taken names all_bytes is_end lines → TellsSkipped tells paths taken words.sources given_bytes is_end lines
 skips_for words tells paths taken names given_bytes all_bytes is_end lines named bytes skips =
-    subst (λ (bytes : List (List ℕ)). TellsSkipped tells paths taken (map source_in words.sources) bytes is_end lines) (sym bytes)
-    (subst (λ (names : List SessionSource). TellsSkipped tells paths taken names all_bytes is_end lines) named skips)
+    subst (λ (bytes : List (List ℕ)). TellsSkipped tells paths taken words.sources bytes is_end lines) (sym bytes)
+    (subst (λ (names : List SourceName). TellsSkipped tells paths taken names all_bytes is_end lines) named skips)
 
 -- the question was answered, and what was then written
 module _ (words : QueryWords) (told : Told) (posed : IsPosed words told) (moment : ℕ) (read : told.reads moment) (early : moment ≤ LAST_MOMENT) (asked : Asked)
-    (meant : asking.IsMeant told.keeper_tells told.kept_before (map source_in words.sources) words.text moment asked.rows)
-    (taken : List Taken) (taken_is : told.keeper_tells → taken ≡ (summary told.kept_before).taken) (skips : TellsSkipped told.source_tells posed.watched.paths taken (map source_in words.sources) told.all_bytes asked.is_end asked.skipped)
+    (meant : asking.IsMeant told.keeper_tells told.kept_before words.sources words.text moment asked.rows)
+    (taken : List Taken) (taken_is : told.keeper_tells → taken ≡ (summary told.kept_before).taken) (skips : TellsSkipped told.source_tells posed.watched.paths taken words.sources told.all_bytes asked.is_end asked.skipped)
     (answer : told.keeper_tells → told.source_tells → Legal told.kept_before → (given : Given) → IsGiven words told posed given → asking.IsAnswer given told.kept_before words.text words.ticks moment asked)
     (lines : List ℕ) (same : lines ≡ lines_in words asked) (kept : told.keeper_tells → told.kept_after ≡ told.kept_before) where
   abbrev has : (is_end : Bool) → asked.is_end ≡ is_end → HasAnswer words told is_end

@@ -10,10 +10,9 @@ use Rattle.entry_model.specs.Summary.{summary}
 use Rattle.entry_model.specs.Values.{taken_from}
 use Rattle.entry_model.proofs.Summaries.{taken_is}
 use Rattle.program_words.specs.declared.command.ReplayWords.{ReplayWords}
-use Rattle.program_words.specs.declared.source.SourceName.{SourceName}
+use Rattle.osq_value.specs.declared.source.SourceName.{SourceName}
 use Rattle.session_model.specs.Given.{Given}
 use Rattle.daemon_rounds.specs.declared.setup.Setup.{Setup}
-use Rattle.daemon_rounds.specs.declared.setup.SourceName.{SourceName as SessionSource}
 use Rattle.daemon_rounds.specs.Rounding.{FailsAt}
 use Rattle.daemon_rounds.specs.Starting as starting
 use Rattle.replay_rounds.specs.declared.running.Ended.{Ended}
@@ -31,7 +30,7 @@ use Rattle.osq_program.specs.Ending.{IsAnswerTo, IsNamedAt}
 use Rattle.osq_program.specs.Reasons.{HasShrunk}
 use Rattle.osq_program.specs.Replaying.{IsAccepted, IsGiven, IsReplay, IsToldBy, Ran, causes_of, fixed}
 use Rattle.osq_program.specs.Report.{final_line, spent_line}
-use Rattle.osq_program.specs.Setups.{setup_in, source_in, sources_named}
+use Rattle.osq_program.specs.Setups.{setup_in, sources_named}
 use Rattle.osq_program.specs.Told.{Told}
 use Rattle.osq_program.proofs.Setups.{sources_are}
 
@@ -218,18 +217,17 @@ answered c sources running.NumbersSpent s is keeper unfit moment source shrank n
 answered c sources running.SinkFault s is keeper unfit moment source shrank numbers sink = subst (IsCaused c) (sym is) (sink refl)
 answered c sources running.NoMemory s is keeper unfit moment source shrank numbers sink = subst (IsCaused c) (sym is) tt
 
--- the name at a place of a session's sources is the path that the words name there
-same_name : (sources : List SourceName) (place : ℕ) (name : List ℕ) (source : SessionSource) → IsNamedAt sources place name → slice_get (map source_in sources) place ≡ Some source → source.name ≡ name
+-- the name at a place of the sources
+same_name : (sources : List SourceName) (place : ℕ) (name : List ℕ) (source : SourceName) → IsNamedAt sources place name → slice_get sources place ≡ Some source → source.name ≡ name
 same_name sources place name source named there =
-    let found = sym there ∙ slice_get-map source_in sources place ∙ ap (option_map source_in) named.there in
-    ap (λ (s : SessionSource). s.name) (same_Some source (source_in named.source) found) ∙ sym named.name_is
+    ap (λ (s : SourceName). s.name) (same_Some source named.source (sym there ∙ named.there)) ∙ sym named.name_is
 
 -- a source that shrank, by the words
-pub shrank_by : {S : Type 0} (left : S → List ℕ) (sources : List SourceName) (told : Told) (names : List SessionSource) (objects : List S) (taken : List Taken) (place kept found : ℕ) (name : List ℕ) → names ≡ map source_in sources
+pub shrank_by : {S : Type 0} (left : S → List ℕ) (sources : List SourceName) (told : Told) (names : List SourceName) (objects : List S) (taken : List Taken) (place kept found : ℕ) (name : List ℕ) → names ≡ map source_in sources
     → told.all_bytes ≡ map left objects → (told.keeper_tells → taken ≡ (summary told.kept_before).taken)
     → starting.HasShrunk told.source_tells left taken names place kept found objects → IsNamedAt sources place name → HasShrunk sources told name kept found
 shrank_by left sources told names objects taken place kept found name is bytes taken_there h named =
-    let there = sym (ap (λ (ns : List SessionSource). slice_get ns place) is) ∙ h.named in
+    let there = sym (ap (λ (ns : List SourceName). slice_get ns place) is) ∙ h.named in
     let same = same_name sources place name h.name named there in
     record {
       place = place;

@@ -1,36 +1,28 @@
 -- What a session is given by words.
-use Rattle.std.proofs.Common.{◌≡◌, ◌≢◌, ℕ, ◌+◌, Bool, true, false, List, [], ◌∷◌, ◌++◌, map, length, get_or, take, refl, sym, ap, ◌∙◌, subst, arith, suc, zero}
-use Rattle.std.specs.Prelude.{◌<◌, ◌≤◌, All, AllPairs, bytes_eq}
+use Rattle.std.proofs.Common.{◌≡◌, ◌≢◌, ℕ, Bool, true, false, List, [], ◌∷◌, map, length, refl, sym, ap, ◌∙◌, subst, arith, suc, zero}
+use Rattle.std.specs.Prelude.{◌≤◌, All, AllPairs, bytes_eq}
 use Rattle.std.specs.List.{list_any}
-use Rattle.std.proofs.lemmas.List.{length-map, take_more, map-append}
 use Rattle.std.proofs.lemmas.List.Elements.{All-head, All-tail}
 use Rattle.std.proofs.lemmas.Slice.Eq.{bytes_eq-Decides}
 use Rattle.entry_model.specs.declared.entry.Entry.{Entry}
 use Rattle.entry_model.specs.Fits.{IsDistinct}
 use Rattle.program_words.specs.declared.command.ReplayWords.{ReplayWords}
-use Rattle.program_words.specs.declared.source.SourceName.{SourceName}
+use Rattle.osq_value.specs.declared.source.SourceName.{SourceName}
 use Rattle.session_model.specs.Given.{Source}
 use Rattle.daemon_rounds.specs.declared.setup.Setup.{Setup}
-use Rattle.daemon_rounds.specs.declared.setup.SourceName.{SourceName as SessionSource}
 use Rattle.daemon_rounds.specs.Starting.{source_names}
 use Rattle.replay_rounds.specs.declared.running.Ended.{Ended}
 use Rattle.replay_rounds.specs.Fixed.{Fixed}
 use Rattle.replay_rounds.specs.Running.{HasRun}
 use Rattle.replay_rounds.specs.Sources.{sources_of}
-use Rattle.osq_program.specs.Setups.{kind_in, setup_in, source_in, sources_named}
-
--- one turn more of the loop over the sources
-pub sources_turn : (sources : List SourceName) (at : ℕ) (source : SourceName) → at < length sources → source ≡ get_or sources at source
-    → map source_in (take (at + 1) sources) ≡ map source_in (take at sources) ++ source_in source ∷ []
-sources_turn sources at source within is =
-    ap (map source_in) (take_more sources at source within ∙ ap (λ (s : SourceName). take at sources ++ s ∷ []) (sym is)) ∙ map-append source_in (take at sources) (source ∷ [])
+use Rattle.osq_program.specs.Setups.{setup_in, sources_named}
 
 -- the sources of a setup are those that the words name
-pub sources_are : {S : Type 0} (left : S → List ℕ) (names : List SourceName) (objects : List S) → sources_of left (map source_in names) objects ≡ sources_named names (map left objects)
+pub sources_are : {S : Type 0} (left : S → List ℕ) (names : List SourceName) (objects : List S) → sources_of left names objects ≡ sources_named names (map left objects)
 sources_are left [] objects = refl
 sources_are left (name ∷ names) [] = refl
 sources_are left (name ∷ names) (object ∷ objects) =
-    ap (λ (others : List Source). record { name = name.path; kind = kind_in name.kind; bytes = left object } ∷ others) (sources_are left names objects)
+    ap (λ (others : List Source). record { name = name.name; kind = name.kind; bytes = left object } ∷ others) (sources_are left names objects)
 
 differs : (a b : List ℕ) → a ≢ b → bytes_eq b a ≡ false
 differs a b apart = by_test (bytes_eq b a) refl where
@@ -38,26 +30,26 @@ differs a b apart = by_test (bytes_eq b a) refl where
   by_test true is = absurd (apart (sym ((bytes_eq-Decides b a).0 is)))
   by_test false is = is
 
-alone : (path : List ℕ) (sources : List SourceName) → All (λ (other : SourceName). path ≢ other.path) sources
-    → list_any (λ other. bytes_eq other path) (source_names (map source_in sources)) ≡ false
-alone path [] apart = refl
-alone path (source ∷ sources) apart =
-    let here = differs path source.path (All-head (λ (other : SourceName). path ≢ other.path) source sources apart) in
-    rw here (alone path sources (All-tail (λ (other : SourceName). path ≢ other.path) source sources apart))
+alone : (name : List ℕ) (sources : List SourceName) → All (λ (other : SourceName). name ≢ other.name) sources
+    → list_any (λ other. bytes_eq other name) (source_names sources) ≡ false
+alone name [] apart = refl
+alone name (source ∷ sources) apart =
+    let here = differs name source.name (All-head (λ (other : SourceName). name ≢ other.name) source sources apart) in
+    rw here (alone name sources (All-tail (λ (other : SourceName). name ≢ other.name) source sources apart))
 
--- no two sources of a session have one name, where no two have one path
-pub distinct_names : (sources : List SourceName) → AllPairs (λ (a b : SourceName). a.path ≢ b.path) sources → IsDistinct bytes_eq (source_names (map source_in sources))
+-- no two sources of a session have one name, as no two of the words do
+pub distinct_names : (sources : List SourceName) → AllPairs (λ (a b : SourceName). a.name ≢ b.name) sources → IsDistinct bytes_eq (source_names sources)
 distinct_names [] own = tt
 distinct_names (source ∷ sources) own = (
-  alone source.path sources (λ j d within. own zero (suc j) d (omega arith) (omega arith)),
+  alone source.name sources (λ j d within. own zero (suc j) d (omega arith) (omega arith)),
   distinct_names sources (λ i j d before within. own (suc i) (suc j) d (omega arith) (omega arith)),
 )
 
 -- a setup that is what words ask has as many sources, no two of one name, and as many ticks
 pub setup_paired : (setup : Setup) (words : ReplayWords) (count : ℕ) → setup ≡ setup_in words → count ≡ length words.sources → count ≡ length setup.sources
-setup_paired setup words count is same = same ∙ sym (length-map words.sources source_in) ∙ sym (ap (λ (s : Setup). length s.sources) is)
+setup_paired setup words count is same = same ∙ sym (ap (λ (s : Setup). length s.sources) is)
 
-pub setup_distinct : (setup : Setup) (words : ReplayWords) → setup ≡ setup_in words → AllPairs (λ (a b : SourceName). a.path ≢ b.path) words.sources → IsDistinct bytes_eq (source_names setup.sources)
+pub setup_distinct : (setup : Setup) (words : ReplayWords) → setup ≡ setup_in words → AllPairs (λ (a b : SourceName). a.name ≢ b.name) words.sources → IsDistinct bytes_eq (source_names setup.sources)
 setup_distinct setup words is own = subst (λ (s : Setup). IsDistinct bytes_eq (source_names s.sources)) (sym is) (distinct_names words.sources own)
 
 pub setup_ticks : (setup : Setup) (words : ReplayWords) → setup ≡ setup_in words → 1 ≤ words.ticks → 1 ≤ setup.ticks
@@ -68,8 +60,5 @@ pub for_ticks : (setup : Setup) (words : ReplayWords) (x : Fixed) (has_read : Li
 for_ticks setup words x has_read kept written ended is run = subst (λ (s : Setup). HasRun x has_read s.ticks kept written ended) is run
 
 -- the same of the names of these sources
-pub names_paired : (names : List SessionSource) (sources : List SourceName) (count : ℕ) → names ≡ map source_in sources → count ≡ length sources → count ≡ length names
-names_paired names sources count is same = same ∙ sym (length-map sources source_in) ∙ sym (ap (λ (ns : List SessionSource). length ns) is)
-
-pub names_distinct : (names : List SessionSource) (sources : List SourceName) → names ≡ map source_in sources → AllPairs (λ (a b : SourceName). a.path ≢ b.path) sources → IsDistinct bytes_eq (source_names names)
-names_distinct names sources is own = subst (λ (ns : List SessionSource). IsDistinct bytes_eq (source_names ns)) (sym is) (distinct_names sources own)
+pub names_distinct : (names sources : List SourceName) → names ≡ sources → AllPairs (λ (a b : SourceName). a.name ≢ b.name) sources → IsDistinct bytes_eq (source_names names)
+names_distinct names sources is own = subst (λ (ns : List SourceName). IsDistinct bytes_eq (source_names ns)) (sym is) (distinct_names sources own)

@@ -1,6 +1,6 @@
 -- How a session that ended before its last tick was done is answered.
 use Rattle.std.specs.Prelude.{◌≡◌, ◌⊎◌, ℕ, List, Some, slice_get}
-use Rattle.program_words.specs.declared.source.SourceName.{SourceName}
+use Rattle.osq_value.specs.declared.source.SourceName.{SourceName}
 use Rattle.replay_rounds.specs.declared.refused.RunError.{RunError}
 use Rattle.replay_rounds.specs.declared.refused.RunError.TheVariants as running
 use Rattle.query_rounds.specs.declared.error.AskError.{AskError}
@@ -8,11 +8,11 @@ use Rattle.query_rounds.specs.declared.error.AskError.TheVariants as asking
 use Rattle.osq_program.specs.declared.status.Status.{Status}
 use Rattle.osq_program.specs.declared.status.Status.TheVariants.{KeeperFault, KeeperRefused, MomentTooLarge, SourceFault, SourceShrank, NumbersSpent, SinkFault, OutOfMemory}
 
--- the source at this place has this path
+-- the source at this place has this name
 pub record IsNamedAt (sources : List SourceName) (place : ℕ) (name : List ℕ) : Type 0 where
   pub source : SourceName
   pub there : slice_get sources place ≡ Some source
-  pub name_is : name ≡ source.path
+  pub name_is : name ≡ source.name
 
 -- the answer names the source at this place, or memory was wanting for the name
 abbrev pub NamesSource : List SourceName → ℕ → (List ℕ → Status) → Status → Type 0

@@ -1,5 +1,5 @@
 -- What `query` does.
-use Rattle.std.specs.Prelude.{◌≡◌, ◌⊎◌, ◌<◌, ◌≤◌, ℕ, Bool, true, false, List, [], ◌∷◌, ◌++◌, map, take, flat_map, None, Some}
+use Rattle.std.specs.Prelude.{◌≡◌, ◌⊎◌, ◌<◌, ◌≤◌, ℕ, Bool, true, false, List, [], ◌∷◌, ◌++◌, take, flat_map, None, Some}
 use Rattle.osq_value.specs.declared.moment.TheConstants.{LAST_MOMENT}
 use Rattle.osq_value.specs.declared.value.Value.{Value}
 use Rattle.entry_model.specs.declared.restored.Taken.{Taken}
@@ -19,7 +19,7 @@ use Rattle.osq_program.specs.declared.status.Status.{Status}
 use Rattle.osq_program.specs.declared.status.Status.TheVariants.{Ok as Done, SinkFault, TicksSpent, OutOfMemory}
 use Rattle.osq_program.specs.Answers.{Causes, IsCaused, IsRefusal, no_causes}
 use Rattle.osq_program.specs.Reasons.{HasFailed, HasShrunk, IsUnfit}
-use Rattle.osq_program.specs.Setups.{source_in, sources_named}
+use Rattle.osq_program.specs.Setups.{sources_named}
 use Rattle.osq_program.specs.Told.{Told}
 use Rattle.osq_program.specs.Watching.{IsRefusedIn, Watches}
 
@@ -56,10 +56,10 @@ pub record HasAnswer (words : QueryWords) (told : Told) (is_end : Bool) : Type 0
   pub early : moment ≤ LAST_MOMENT
   pub asked : Asked
   pub end_is : asked.is_end ≡ is_end
-  pub meant : IsMeant told.keeper_tells told.kept_before (map source_in words.sources) words.text moment asked.rows
+  pub meant : IsMeant told.keeper_tells told.kept_before words.sources words.text moment asked.rows
   pub taken : List Taken
   pub taken_is : told.keeper_tells → taken ≡ (summary told.kept_before).taken
-  pub skips : TellsSkipped told.source_tells posed.watched.paths taken (map source_in words.sources) told.all_bytes asked.is_end asked.skipped
+  pub skips : TellsSkipped told.source_tells posed.watched.paths taken words.sources told.all_bytes asked.is_end asked.skipped
   pub answer : told.keeper_tells → told.source_tells → Legal told.kept_before → (given : Given) → IsGiven words told posed given → IsAnswer given told.kept_before words.text words.ticks moment asked
 
 -- the lines of these rows

@@ -4,7 +4,7 @@ use Rattle.entry_model.specs.Fits.{Fits}
 use Rattle.entry_model.specs.Legal.{Legal}
 use Rattle.entry_model.specs.Summary.{summary}
 use Rattle.entry_model.specs.Values.{taken_from}
-use Rattle.program_words.specs.declared.source.SourceName.{SourceName}
+use Rattle.osq_value.specs.declared.source.SourceName.{SourceName}
 use Rattle.osq_program.specs.Ending.{IsNamedAt}
 use Rattle.osq_program.specs.Told.{Told}
 

@@ -9,8 +9,7 @@ ghost use Rattle.osq_program.specs.Report.{final_line, spent_line};
 use crate::report::{SPENT, final_line};
 use crate::status::Status;
 use osq_outside::{Sink, write_all};
-use osq_value::{Bytes, Copied, NoMemory, Str};
-use program_words::SourceName;
+use osq_value::{Bytes, Copied, NoMemory, SourceName, Str};
 use query_rounds::AskError;
 use replay_rounds::{Ended, Numbers, RunError};
 use std::alloc::Global;
@@ -20,7 +19,7 @@ fn path_at(alloc: Global, sources: &[SourceName], place: usize) -> Result<Str, N
     requires { place < length sources.now }
     ensures { IfOk result (IsNamedAt sources.now place) }
 {
-    sources[place].path.copy(alloc)
+    sources[place].name.copy(alloc)
 }
 
 /// The answer to a session that ended before its last tick was done. A source is named by its path.

@@ -15,7 +15,6 @@ ghost use Rattle.sql_texts.specs.Texts.{query_in};
 use crate::ending::{answer_to, ended};
 use crate::link::Link;
 use crate::outside::Outside;
-use crate::setup::sources_of;
 use crate::status::Status;
 use crate::stop::{refuse, refuse_unconfigured};
 use crate::watching::watched_by;
@@ -144,16 +143,13 @@ pub(crate) fn run_query<S: Source, O: Sink, F: Files, C: Clock, K: Keeper, L: Li
         Ok(watched) => watched,
         Err(refused) => return refuse_unconfigured(alloc, &mut outside.status, refused),
     };
-    let Ok(names) = sources_of(alloc, words.sources.as_slice()) else {
-        return refuse(alloc, &mut outside.status, Status::OutOfMemory);
-    };
     let Ok(()) = write_all(&mut outside.status, watched.notes.as_slice()) else {
         return Status::SinkFault;
     };
     match ask_kept(
         alloc,
         text,
-        names.as_slice(),
+        words.sources.as_slice(),
         &watched.paths,
         words.records,
         words.ticks,

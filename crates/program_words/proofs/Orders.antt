@@ -9,8 +9,8 @@ use Rattle.program_words.specs.declared.name.Name.TheVariants.{Config, Host, Pla
 use Rattle.program_words.specs.declared.command.CommandName.{CommandName}
 use Rattle.program_words.specs.declared.command.CommandName.TheVariants.{Replay, Query, Check}
 use Rattle.program_words.specs.declared.command.CommandWords.TheVariants.{Replay as AsReplay, Query as AsQuery, Check as AsCheck}
-use Rattle.program_words.specs.declared.source.SourceKind.{SourceKind}
-use Rattle.program_words.specs.declared.source.SourceKind.TheVariants.{Audit as AuditLog, Changes as ChangeList, Tables as TableLines}
+use Rattle.osq_value.specs.declared.source.SourceKind.{SourceKind}
+use Rattle.osq_value.specs.declared.source.SourceKind.TheVariants.{Audit as AuditLog, Changes as ChangeList, Tables as TableLines}
 use Rattle.program_words.specs.Names.{is_source, place, same_name, takes}
 use Rattle.program_words.specs.Given.{Given, is_named, none_repeats, number_of, number_or, number_taken, repeats, same_value, stands, value_of, value_or}
 use Rattle.program_words.specs.Commands.{are_options, asked_by, check_of, command_with, default_agent, default_platform, has_few_sources, has_required, is_right, query_of, replay_of, required, sources_named, sources_of}

@@ -8,9 +8,9 @@ use Rattle.std.proofs.lemmas.Slice.Eq.{bytes_eq-Decides}
 use Rattle.program_words.specs.declared.name.Name.{Name}
 use Rattle.program_words.specs.declared.name.Name.TheVariants.{Audit, Changes, Tables}
 use Rattle.program_words.specs.declared.command.CommandName.{CommandName}
-use Rattle.program_words.specs.declared.source.SourceKind.{SourceKind}
-use Rattle.program_words.specs.declared.source.SourceKind.TheVariants.{Audit as AuditLog, Changes as ChangeList, Tables as TableLines}
-use Rattle.program_words.specs.declared.source.SourceName.{SourceName}
+use Rattle.osq_value.specs.declared.source.SourceKind.{SourceKind}
+use Rattle.osq_value.specs.declared.source.SourceKind.TheVariants.{Audit as AuditLog, Changes as ChangeList, Tables as TableLines}
+use Rattle.osq_value.specs.declared.source.SourceName.{SourceName}
 use Rattle.program_words.specs.Names.{is_source, place, same_name, takes}
 use Rattle.program_words.specs.Given.{Given, fits, is_named, none_repeats, repeats, same_value}
 use Rattle.program_words.specs.Commands.{has_option, is_right, sources_named, sources_of}
@@ -19,11 +19,11 @@ use Rattle.program_words.proofs.Orders.{same_bytes}
 
 -- ---- lists of sources
 abbrev has_path : List ℕ → SourceName → Bool
-has_path path source = bytes_eq path source.path
+has_path path source = bytes_eq path source.name
 
 abbrev own_paths : List SourceName → Bool
 own_paths [] = true
-own_paths (source ∷ sources) = not (list_any (has_path source.path) sources) && own_paths sources
+own_paths (source ∷ sources) = not (list_any (has_path source.name) sources) && own_paths sources
 
 not_true : (b : Bool) → not b ≡ true → b ≡ false
 not_true true holds = absurd cc
@@ -38,35 +38,35 @@ any-front : {X : Type 0} (p : X → Bool) (front behind : List X) (x : X) → li
 any-front p [] behind x none = none
 any-front p (y ∷ ys) behind x none = any-front p ys behind x (neither_second (p y) _ none)
 
-own_paths-insert : (front behind : List SourceName) (source : SourceName) → own_paths (front ++ behind) ≡ true → list_any (has_path source.path) (front ++ behind) ≡ false → own_paths (front ++ source ∷ behind) ≡ true
+own_paths-insert : (front behind : List SourceName) (source : SourceName) → own_paths (front ++ behind) ≡ true → list_any (has_path source.name) (front ++ behind) ≡ false → own_paths (front ++ source ∷ behind) ≡ true
 own_paths-insert [] behind source own none =
     ap (λ b. not b && own_paths behind) none ∙ own
 own_paths-insert (other ∷ others) behind source own none =
-    let apart = not_true _ (first (not (list_any (has_path other.path) (others ++ behind))) _ own) in
-    let rest = second (not (list_any (has_path other.path) (others ++ behind))) _ own in
-    let differs : has_path other.path source ≡ false = same_bytes other.path source.path ∙ neither_first (has_path source.path other) _ none in
-    let kept = any-insert (has_path other.path) others behind source apart differs in
-    ap (λ b. not b && own_paths (others ++ source ∷ behind)) kept ∙ own_paths-insert others behind source rest (neither_second (has_path source.path other) _ none)
+    let apart = not_true _ (first (not (list_any (has_path other.name) (others ++ behind))) _ own) in
+    let rest = second (not (list_any (has_path other.name) (others ++ behind))) _ own in
+    let differs : has_path other.name source ≡ false = same_bytes other.name source.name ∙ neither_first (has_path source.name other) _ none in
+    let kept = any-insert (has_path other.name) others behind source apart differs in
+    ap (λ b. not b && own_paths (others ++ source ∷ behind)) kept ∙ own_paths-insert others behind source rest (neither_second (has_path source.name other) _ none)
 
 none_at : (p : SourceName → Bool) (xs : List SourceName) → list_any p xs ≡ false → (k : ℕ) (d : SourceName) → k < length xs → p (slice_index_or xs k d) ≡ false
 none_at p [] none k d within = absurd (omega arith)
 none_at p (x ∷ xs) none zero d within = neither_first (p x) _ none
 none_at p (x ∷ xs) none (suc k) d within = none_at p xs (neither_second (p x) _ none) k d (omega arith)
 
-pub pairs_from : (sources : List SourceName) → own_paths sources ≡ true → AllPairs (λ a b. a.path ≢ b.path) sources
+pub pairs_from : (sources : List SourceName) → own_paths sources ≡ true → AllPairs (λ a b. a.name ≢ b.name) sources
 pairs_from [] own = λ i j d before within. absurd (omega arith)
 pairs_from (source ∷ sources) own =
-    let none = not_true _ (first (not (list_any (has_path source.path) sources)) _ own) in
-    let apart : All (λ other. source.path ≢ other.path) sources =
-    λ k d within e. let fails = none_at (has_path source.path) sources none k d within in
-    let holds = (bytes_eq-Decides source.path (slice_index_or sources k d).path).1 e in
+    let none = not_true _ (first (not (list_any (has_path source.name) sources)) _ own) in
+    let apart : All (λ other. source.name ≢ other.name) sources =
+    λ k d within e. let fails = none_at (has_path source.name) sources none k d within in
+    let holds = (bytes_eq-Decides source.name (slice_index_or sources k d).name).1 e in
     cc
     in
-    AllPairs-cons (λ a b. a.path ≢ b.path) source sources apart (pairs_from sources (second (not (list_any (has_path source.path) sources)) _ own))
+    AllPairs-cons (λ a b. a.name ≢ b.name) source sources apart (pairs_from sources (second (not (list_any (has_path source.name) sources)) _ own))
 
 -- ---- the sources that options name
 abbrev source_by : SourceKind → Given → SourceName
-source_by kind g = record { kind = kind; path = unwrap_or g.value [] }
+source_by kind g = record { kind = kind; name = unwrap_or g.value [] }
 
 audit_is_source : (name : Name) → same_name Audit name ≡ true → is_source name ≡ true
 unfolding place is_source
@@ -173,5 +173,5 @@ own_paths-sources_of command (g ∷ gs) right none =
     let fine = second (has_option command g.name) _ (first (is_right command g) _ right) in
     own_paths-more (is_named Audit g) (is_named Changes g) (is_named Tables g) g (filter (is_named Audit) gs) (filter (is_named Changes) gs) (filter (is_named Tables) gs) ac at ct (own_paths-sources_of command gs (second (is_right command g) _ right) (second (not (list_any (repeats g) gs)) _ none)) (λ any. sources_apart command g (source any) (has_value g.name g.value (source any) fine) gs (second (is_right command g) _ right) apart)
 
-pub sources_own : (command : CommandName) (gs : List Given) → list_all (is_right command) gs ≡ true → none_repeats gs ≡ true → AllPairs (λ a b. a.path ≢ b.path) (sources_of gs)
+pub sources_own : (command : CommandName) (gs : List Given) → list_all (is_right command) gs ≡ true → none_repeats gs ≡ true → AllPairs (λ a b. a.name ≢ b.name) (sources_of gs)
 sources_own command gs right none = pairs_from (sources_of gs) (own_paths-sources_of command gs right none)

@@ -14,8 +14,8 @@ use Rattle.program_words.specs.declared.command.CommandName.{CommandName}
 use Rattle.program_words.specs.declared.command.CommandName.TheVariants.{Replay, Query, Check}
 use Rattle.program_words.specs.declared.command.CommandWords.{CommandWords}
 use Rattle.program_words.specs.declared.command.CommandWords.TheVariants.{Replay as AsReplay, Query as AsQuery, Check as AsCheck}
-use Rattle.program_words.specs.declared.source.SourceKind.{SourceKind}
-use Rattle.program_words.specs.declared.source.SourceKind.TheVariants.{Audit as AuditLog, Changes as ChangeList, Tables as TableLines}
+use Rattle.osq_value.specs.declared.source.SourceKind.{SourceKind}
+use Rattle.osq_value.specs.declared.source.SourceKind.TheVariants.{Audit as AuditLog, Changes as ChangeList, Tables as TableLines}
 use Rattle.program_words.specs.Texts.{digits_value, is_number, is_text, number_in}
 use Rattle.program_words.specs.Names.{is_source, place, same_name, takes}
 use Rattle.program_words.specs.Given.{Given, fits, is_named, none_repeats, options_of, number_of, number_or, number_taken, stands, value_of, value_or}

@@ -3,17 +3,17 @@ use Rattle.std.specs.Prelude.{ℕ, ◌≤◌, ◌<◌, ◌^◌, ◌≢◌, AllPa
 use Rattle.program_words.specs.declared.command.CommandWords.{CommandWords}
 use Rattle.program_words.specs.declared.command.CommandWords.TheVariants.{Replay, Query, Check}
 use Rattle.program_words.specs.declared.command.Paths.{Paths}
-use Rattle.program_words.specs.declared.source.SourceName.{SourceName}
+use Rattle.osq_value.specs.declared.source.SourceName.{SourceName}
 
 -- a clock's first reading and step
 pub record ClockBounds (start : Option ℕ) (step : ℕ) : Type 0 where
   pub start_in : IfSome start (λ moment. moment < 2 ^ 63)
   pub step_in : step ≤ 604800
 
--- there are at most a thousand sources, and no two have one path
+-- there are at most a thousand sources, and no two have one name
 pub record SourceBounds (sources : List SourceName) : Type 0 where
   pub few : length sources ≤ 1000
-  pub own_paths : AllPairs (λ a b. a.path ≢ b.path) sources
+  pub own_paths : AllPairs (λ a b. a.name ≢ b.name) sources
 
 -- a run over sources
 pub record RunBounds (start : Option ℕ) (step ticks records : ℕ) (sources : List SourceName) : Type 0 where

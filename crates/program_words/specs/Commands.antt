@@ -12,9 +12,9 @@ use Rattle.program_words.specs.declared.command.ReplayWords.{ReplayWords}
 use Rattle.program_words.specs.declared.command.QueryWords.{QueryWords}
 use Rattle.program_words.specs.declared.command.CheckWords.{CheckWords}
 use Rattle.program_words.specs.declared.command.Paths.{Paths}
-use Rattle.program_words.specs.declared.source.SourceKind.{SourceKind}
-use Rattle.program_words.specs.declared.source.SourceKind.TheVariants.{Audit as AuditLog, Changes as ChangeList, Tables as TableLines}
-use Rattle.program_words.specs.declared.source.SourceName.{SourceName}
+use Rattle.osq_value.specs.declared.source.SourceKind.{SourceKind}
+use Rattle.osq_value.specs.declared.source.SourceKind.TheVariants.{Audit as AuditLog, Changes as ChangeList, Tables as TableLines}
+use Rattle.osq_value.specs.declared.source.SourceName.{SourceName}
 use Rattle.program_words.specs.Names.{is_source, same_name, takes}
 use Rattle.program_words.specs.Given.{Given, fits, is_named, none_repeats, number_of, number_or, options_of, stands, value_of, value_or}
 
@@ -65,7 +65,7 @@ are_options command gs =
 
 -- the sources of one kind, in the order of the words
 unfoldable pub sources_named : Name → SourceKind → List Given → List SourceName
-sources_named name kind gs = map (λ g. record { kind = kind; path = unwrap_or g.value [] }) (filter (is_named name) gs)
+sources_named name kind gs = map (λ g. record { kind = kind; name = unwrap_or g.value [] }) (filter (is_named name) gs)
 
 -- audit logs, then lists of changes, then table lines
 unfoldable pub sources_of : List Given → List SourceName

@@ -8,8 +8,7 @@ ghost use Rattle.program_words.specs.Left.{given, options_in};
 use crate::given::GivenOption;
 use crate::name::Name;
 use crate::options::OptionWords;
-use crate::source::SourceNameList;
-use osq_value::{Sequence, Str};
+use osq_value::{Sequence, SourceNameList, Str};
 use std::alloc::Global;
 
 /// The commands.

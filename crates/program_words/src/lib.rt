@@ -9,9 +9,7 @@ mod name;
 mod number;
 mod options;
 mod read;
-pub mod source;
 
 pub use command::{CheckWords, CommandWords, Paths, QueryWords, ReplayWords};
 pub use error::WordsError;
 pub use read::{count_sources, paths_of, read_words};
-pub use source::{SourceKind, SourceName, SourceNameList};

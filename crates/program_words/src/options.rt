@@ -9,8 +9,7 @@ ghost use Rattle.program_words.specs.Left.{given, left, options_in};
 
 use crate::given::{GivenOption, option_of};
 use crate::name::Name;
-use crate::source::{SourceKind, SourceName, SourceNameList};
-use osq_value::{NoMemory, Str};
+use osq_value::{NoMemory, SourceKind, SourceName, SourceNameList, Str};
 use std::alloc::Global;
 use std::slice::Iter;
 
@@ -193,8 +192,8 @@ impl<'w, 'a> OptionWords<'w, 'a> {
         let mut options = self.options();
         while let Some(option) = options.next() {
             if option.is_named(name) {
-                let path = Str::of(alloc, option.value.unwrap_or(""))?;
-                sources.push(SourceName { kind, path })?;
+                let name = Str::of(alloc, option.value.unwrap_or(""))?;
+                sources.push(SourceName { kind, name })?;
             }
         }
         Ok(())

@@ -10,8 +10,7 @@ use crate::command::{CheckWords, CommandName, CommandWords, Paths, QueryWords, R
 use crate::error::WordsError;
 use crate::name::Name;
 use crate::options::OptionWords;
-use crate::source::{SourceKind, SourceNameList};
-use osq_value::{NoMemory, Sequence};
+use osq_value::{NoMemory, Sequence, SourceKind, SourceNameList};
 use std::alloc::Global;
 
 /// The platform of a host for which none is given.

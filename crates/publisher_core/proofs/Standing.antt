@@ -9,8 +9,8 @@ use Rattle.record_lines.specs.Cutting as cutting
 use Rattle.record_lines.specs.Lines.{HasNoFeed}
 use Rattle.publisher_core.specs.declared.gathering.AuditRecord.{AuditRecord}
 use Rattle.publisher_core.specs.declared.gathering.Gathering.{Gathering}
-use Rattle.publisher_core.specs.declared.record.SourceKind.{SourceKind}
-use Rattle.publisher_core.specs.declared.record.SourceKind.TheVariants.{Audit, Changes, Tables}
+use Rattle.osq_value.specs.declared.source.SourceKind.{SourceKind}
+use Rattle.osq_value.specs.declared.source.SourceKind.TheVariants.{Audit, Changes, Tables}
 use Rattle.publisher_core.specs.declared.record.Gain.{Gain}
 use Rattle.publisher_core.specs.declared.record.Piece.{Piece}
 use Rattle.audit_records.specs.declared.line.AuditLine.{AuditLine}

@@ -5,8 +5,8 @@ use Rattle.record_lines.specs.Cutting.{TakesLine}
 use Rattle.record_lines.specs.declared.line.Cut.{Cut}
 use Rattle.audit_records.specs.Groups.{groups_of, whole}
 use Rattle.publisher_core.specs.declared.gathering.AuditRecord.{AuditRecord}
-use Rattle.publisher_core.specs.declared.record.SourceKind.{SourceKind}
-use Rattle.publisher_core.specs.declared.record.SourceKind.TheVariants.{Audit, Changes, Tables}
+use Rattle.osq_value.specs.declared.source.SourceKind.{SourceKind}
+use Rattle.osq_value.specs.declared.source.SourceKind.TheVariants.{Audit, Changes, Tables}
 use Rattle.publisher_core.specs.Audit.{items_of}
 use Rattle.publisher_core.specs.AuditParts.{AreRecordsOf, groups_in, lines_in}
 use Rattle.publisher_core.specs.Records.{ended}

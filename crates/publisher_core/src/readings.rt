@@ -4,8 +4,8 @@ ghost use Rattle.std.specs.Prelude.{◌≡◌, ◌∷◌, ◌++◌, ◌+◌, [],
 ghost use Rattle.osq_value.specs.declared.reading.Reading.TheVariants.{Events};
 ghost use Rattle.publisher_core.specs.Readings.{joined, readings_of, reading_of, events_of, skipped_of, events_in, skipped_in};
 
-use crate::record::{Gain, Piece, PieceList, SourceKind};
-use osq_value::{EventList, NoMemory, Reading, ReadingList};
+use crate::record::{Gain, Piece, PieceList};
+use osq_value::{EventList, NoMemory, Reading, ReadingList, SourceKind};
 use std::alloc::Global;
 
 /// The readings of the records that a step took: of a source of tables one for each line; of any other one that joins them all, where

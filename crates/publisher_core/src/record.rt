@@ -4,17 +4,6 @@ use audit_records::AuditGroup;
 use change_records::Change;
 use osq_value::{Event, RowList, Sequence, TableId};
 
-/// What the lines of a source are.
-#[derive(Clone, Copy)]
-pub enum SourceKind {
-    /// Lines of an audit log, as auditd writes them.
-    Audit,
-    /// Changes of files, one JSON object a line.
-    Changes,
-    /// Recorded tables, one JSON object a line.
-    Tables,
-}
-
 /// What a callback is given: a group of audit lines, or a change of a file.
 #[derive(Drop)]
 pub enum Record {

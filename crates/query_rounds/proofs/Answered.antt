@@ -16,7 +16,7 @@ use Rattle.entry_model.specs.Views.{view_of}
 use Rattle.session_model.specs.Given.{Given}
 use Rattle.session_state.specs.Kept.{Kept}
 use Rattle.kept_queries.specs.Asking.{MeansBehind}
-use Rattle.daemon_rounds.specs.declared.setup.SourceName.{SourceName}
+use Rattle.osq_value.specs.declared.source.SourceName.{SourceName}
 use Rattle.daemon_rounds.specs.Starting.{source_names}
 use Rattle.replay_rounds.specs.Sources.{sources_of}
 use Rattle.replay_rounds.proofs.Endings.{all_present, all_whole}

@@ -4,13 +4,13 @@ use Rattle.std.specs.Prelude.{All}
 use Rattle.std.proofs.lemmas.Bool.{true≢false}
 use Rattle.std.proofs.lemmas.List.Elements.{All-head, All-tail}
 use Rattle.osq_value.specs.declared.reading.Category.{Category}
-use Rattle.publisher_core.specs.declared.record.SourceKind.{SourceKind}
+use Rattle.osq_value.specs.declared.source.SourceKind.{SourceKind}
 use Rattle.source_feeds.specs.Feeding.{Fed, Feeding}
 use Rattle.source_feeds.specs.Taking.{TakesAll}
 use Rattle.entry_model.specs.declared.restored.Taken.{Taken}
 use Rattle.entry_model.specs.Next.{offset_at}
 use Rattle.session_state.specs.Kept.{Kept}
-use Rattle.daemon_rounds.specs.declared.setup.SourceName.{SourceName}
+use Rattle.osq_value.specs.declared.source.SourceName.{SourceName}
 use Rattle.daemon_rounds.specs.Rounding.{Rounds, Whole}
 use Rattle.daemon_rounds.specs.Starting.{AreFeedsOf, IsFeedOf, IsStart, IsStarted}
 use Rattle.daemon_rounds.specs.Turns.{IsTurn, Turn}

@@ -19,7 +19,7 @@ use Rattle.entry_model.specs.Views.{view_of}
 use Rattle.session_state.specs.Kept.{Kept}
 use Rattle.session_state.specs.Readings.{entry_of}
 use Rattle.session_state.specs.Stands.{Stands}
-use Rattle.daemon_rounds.specs.declared.setup.SourceName.{SourceName}
+use Rattle.osq_value.specs.declared.source.SourceName.{SourceName}
 use Rattle.daemon_rounds.specs.declared.turning.Which.TheVariants as which
 use Rattle.daemon_rounds.specs.Appending.{entries_of}
 use Rattle.daemon_rounds.specs.Rounding.{names_of, round_entries}

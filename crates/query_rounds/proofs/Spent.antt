@@ -7,7 +7,7 @@ use Rattle.entry_model.specs.Fits.{IsDistinct}
 use Rattle.entry_model.specs.Legal.{Legal}
 use Rattle.entry_model.specs.Summary.{summary}
 use Rattle.session_model.specs.Given.{Given}
-use Rattle.daemon_rounds.specs.declared.setup.SourceName.{SourceName}
+use Rattle.osq_value.specs.declared.source.SourceName.{SourceName}
 use Rattle.daemon_rounds.specs.Starting.{source_names}
 use Rattle.replay_rounds.specs.Sources.{sources_of}
 use Rattle.query_rounds.specs.Asking.{IsGiven, Spends}

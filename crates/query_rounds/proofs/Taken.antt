@@ -14,7 +14,7 @@ use Rattle.session_model.specs.Given.{Given, Source}
 use Rattle.session_model.specs.Taking.{TakesSteps}
 use Rattle.session_state.specs.Kept.{Counts}
 use Rattle.session_state.specs.Stands.{HasValues, Stands}
-use Rattle.daemon_rounds.specs.declared.setup.SourceName.{SourceName}
+use Rattle.osq_value.specs.declared.source.SourceName.{SourceName}
 use Rattle.daemon_rounds.specs.Rounding.{Overflows, names_of, round_entries}
 use Rattle.daemon_rounds.specs.Starting.{source_names}
 use Rattle.daemon_rounds.specs.declared.turning.Which.TheVariants as which

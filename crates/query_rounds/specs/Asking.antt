@@ -15,7 +15,7 @@ use Rattle.session_model.specs.Taking.{IsReadWhole}
 use Rattle.session_state.specs.Kept.{Kept}
 use Rattle.session_state.specs.Stands.{Stands}
 use Rattle.daemon_rounds.specs.Starting.{source_names}
-use Rattle.daemon_rounds.specs.declared.setup.SourceName.{SourceName}
+use Rattle.osq_value.specs.declared.source.SourceName.{SourceName}
 use Rattle.replay_rounds.specs.Sources.{sources_of}
 use Rattle.replay_rounds.specs.Spent.{StepsSpend}
 use Rattle.query_rounds.specs.Rounds.{HasMore, TakesRounds}

@@ -6,7 +6,7 @@ use Rattle.entry_model.specs.declared.restored.Restored.{Restored}
 use Rattle.session_state.specs.Kept.{Kept}
 use Rattle.session_state.specs.Stands.{Begins}
 use Rattle.daemon_rounds.specs.Starting.{IsStarted}
-use Rattle.daemon_rounds.specs.declared.setup.SourceName.{SourceName}
+use Rattle.osq_value.specs.declared.source.SourceName.{SourceName}
 use Rattle.query_rounds.specs.Running.{Place, RunsOut, RunsOver, place_of}
 
 -- Over these values a session began, whose sources were started where earlier sessions left them.

@@ -7,7 +7,7 @@ use Rattle.source_feeds.specs.Feeding.{Fed, Feeding}
 use Rattle.source_feeds.specs.Taking.{TakesAll}
 use Rattle.entry_model.specs.declared.restored.Taken.{Taken}
 use Rattle.entry_model.specs.Next.{offset_at}
-use Rattle.daemon_rounds.specs.declared.setup.SourceName.{SourceName}
+use Rattle.osq_value.specs.declared.source.SourceName.{SourceName}
 use Rattle.replay_rounds.specs.Noting.{skipped_lines}
 use Rattle.replay_rounds.specs.Sources.{all_over}
 

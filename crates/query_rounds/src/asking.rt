@@ -21,10 +21,9 @@ use crate::answering::answer_behind;
 use crate::error::{AskError, unloaded};
 use crate::reading::{Behind, read_behind};
 use batch_keeper::Keeper;
-use daemon_rounds::setup::SourceName;
 use daemon_rounds::{MomentTooLarge, read_moment};
 use osq_outside::{Clock, Source};
-use osq_value::{Bytes, CategoryList, RowList};
+use osq_value::{Bytes, CategoryList, RowList, SourceName};
 use replay_rounds::load_values;
 use std::alloc::Global;
 

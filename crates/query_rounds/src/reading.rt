@@ -10,11 +10,10 @@ ghost use Rattle.query_rounds.specs.declared.error.AskError.{AskError};
 
 use crate::error::{AskError, unstarted, untaken};
 use crate::rounds::take_rounds;
-use daemon_rounds::setup::SourceName;
 use daemon_rounds::start_sources;
 use entry_model::restored::Restored;
 use osq_outside::Source;
-use osq_value::{Bytes, CategoryList};
+use osq_value::{Bytes, CategoryList, SourceName};
 use replay_rounds::skipped_lines;
 use session_state::State;
 use std::alloc::Global;

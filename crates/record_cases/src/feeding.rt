@@ -6,8 +6,7 @@ ghost use Rattle.source_feeds.specs.Feeding.{IsOpen};
 use crate::given::Given;
 use crate::readings::{push_end, push_readings, push_refusal};
 use crate::sips::Sips;
-use osq_value::{NoMemory, ReadingList, Str};
-use publisher_core::record::SourceKind;
+use osq_value::{NoMemory, ReadingList, SourceKind, Str};
 use source_feeds::Feed;
 use std::alloc::Global;
 

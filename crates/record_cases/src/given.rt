@@ -4,8 +4,7 @@ use crate::sips::Sips;
 use crate::text::text_of;
 use case_text::{items_of, member_text};
 use osq_outside::{Fail, FailList, MemorySource};
-use osq_value::{Bytes, Category, CategoryList, Copied, NoMemory, Str, TextList};
-use publisher_core::record::SourceKind;
+use osq_value::{Bytes, Category, CategoryList, Copied, NoMemory, SourceKind, Str, TextList};
 use serde_json::Value as Json;
 use std::alloc::Global;
 

@@ -5,10 +5,9 @@ ghost use Rattle.std.specs.Prelude.{◌≡◌, true, false, IfOk};
 use crate::given::Given;
 use crate::readings::{push_end, push_readings, push_refusal};
 use crate::sips::Sips;
-use osq_value::{NoMemory, ReadingList, Str};
+use osq_value::{NoMemory, ReadingList, SourceKind, Str};
 use publisher_core::error::StepError;
 use publisher_core::publisher::Publisher;
-use publisher_core::record::SourceKind;
 use publisher_core::subscription::{Recorded, Subscription};
 use std::alloc::Global;
 

@@ -11,7 +11,7 @@ use Rattle.entry_model.specs.declared.restored.Taken.{Taken}
 use Rattle.entry_model.specs.Next.{offset_at}
 use Rattle.entry_model.specs.Values.{taken_from}
 use Rattle.session_model.specs.Given.{Source}
-use Rattle.daemon_rounds.specs.declared.setup.SourceName.{SourceName}
+use Rattle.osq_value.specs.declared.source.SourceName.{SourceName}
 use Rattle.daemon_rounds.specs.Turns.{Turn}
 use Rattle.daemon_rounds.specs.Rounding.{Whole}
 use Rattle.daemon_rounds.specs.Starting.{AreFeedsOf, IsFeedOf, IsStart, IsStarted}

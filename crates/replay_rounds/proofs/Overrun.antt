@@ -10,8 +10,8 @@ use Rattle.osq_value.specs.declared.value.Event.{Event}
 use Rattle.publisher_core.specs.declared.record.Gain.{Gain}
 use Rattle.publisher_core.specs.declared.record.Gain.TheVariants as gain
 use Rattle.publisher_core.specs.declared.record.Piece.{Piece}
-use Rattle.publisher_core.specs.declared.record.SourceKind.{SourceKind}
-use Rattle.publisher_core.specs.declared.record.SourceKind.TheVariants as kind
+use Rattle.osq_value.specs.declared.source.SourceKind.{SourceKind}
+use Rattle.osq_value.specs.declared.source.SourceKind.TheVariants as kind
 use Rattle.publisher_core.specs.Readings.{reading_of, readings_of}
 use Rattle.publisher_core.specs.Records.{LinesGive, TableGives}
 use Rattle.source_feeds.specs.Feeding.{Feeding}

@@ -6,8 +6,8 @@ use Rattle.std.proofs.lemmas.List.Elements.{All-head, All-tail, filter_agree}
 use Rattle.osq_value.specs.declared.reading.Category.{Category}
 use Rattle.osq_value.specs.declared.reading.Reading.{Reading}
 use Rattle.publisher_core.specs.declared.record.Piece.{Piece}
-use Rattle.publisher_core.specs.declared.record.SourceKind.{SourceKind}
-use Rattle.publisher_core.specs.declared.record.SourceKind.TheVariants as kind
+use Rattle.osq_value.specs.declared.source.SourceKind.{SourceKind}
+use Rattle.osq_value.specs.declared.source.SourceKind.TheVariants as kind
 use Rattle.publisher_core.specs.Readings.{readings_of}
 use Rattle.publisher_core.specs.Standing.{is_at_end}
 use Rattle.publisher_core.specs.Stepping.{STEP_BYTES}

@@ -11,7 +11,7 @@ use Rattle.entry_model.specs.declared.entry.Entry.{Entry}
 use Rattle.entry_model.specs.Values.{taken_from}
 use Rattle.session_model.specs.Given.{Given, Source}
 use Rattle.session_model.specs.Taking.{TakesStep}
-use Rattle.daemon_rounds.specs.declared.setup.SourceName.{SourceName}
+use Rattle.osq_value.specs.declared.source.SourceName.{SourceName}
 
 -- The feed of a source in a session behind the kept list `start`, where the list is now `now`: it goes on from the offset up to which the list
 -- has the source; the session read the source's bytes behind what `start` has of them; and where it is at their end, the list has the source up to

@@ -6,7 +6,7 @@ use Rattle.osq_value.specs.declared.reading.Category.{Category}
 use Rattle.osq_value.specs.declared.reading.Reading.{Reading}
 use Rattle.publisher_core.specs.declared.error.StepError.{StepError}
 use Rattle.publisher_core.specs.declared.record.Piece.{Piece}
-use Rattle.publisher_core.specs.declared.record.SourceKind.{SourceKind}
+use Rattle.osq_value.specs.declared.source.SourceKind.{SourceKind}
 use Rattle.publisher_core.specs.Readings.{readings_of, skipped_of}
 use Rattle.publisher_core.specs.Standing.{Reader, Stands}
 use Rattle.publisher_core.specs.Stepping.{GrowsBy, SameSource, Steps}

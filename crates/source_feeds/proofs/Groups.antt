@@ -10,7 +10,7 @@ use Rattle.audit_records.specs.Runs.{AreWholeRuns, BeginsAnew, IsRun}
 use Rattle.audit_records.proofs.Runs.{groups_of-runs}
 use Rattle.publisher_core.specs.declared.gathering.AuditRecord.{AuditRecord}
 use Rattle.publisher_core.specs.declared.record.Piece.{Piece}
-use Rattle.publisher_core.specs.declared.record.SourceKind.TheVariants.{Audit}
+use Rattle.osq_value.specs.declared.source.SourceKind.TheVariants.{Audit}
 use Rattle.publisher_core.specs.Audit.{items_of}
 use Rattle.publisher_core.specs.AuditParts.{Item, AreRecordsOf, BeginsWithLine, lines_in}
 use Rattle.publisher_core.specs.Gathered as gathered

@@ -9,8 +9,8 @@ use Rattle.osq_value.specs.declared.value.Event.{Event}
 use Rattle.publisher_core.specs.declared.record.Gain.{Gain}
 use Rattle.publisher_core.specs.declared.record.Gain.TheVariants as gain
 use Rattle.publisher_core.specs.declared.record.Piece.{Piece}
-use Rattle.publisher_core.specs.declared.record.SourceKind.{SourceKind}
-use Rattle.publisher_core.specs.declared.record.SourceKind.TheVariants.{Audit, Changes, Tables}
+use Rattle.osq_value.specs.declared.source.SourceKind.{SourceKind}
+use Rattle.osq_value.specs.declared.source.SourceKind.TheVariants.{Audit, Changes, Tables}
 use Rattle.publisher_core.specs.Records.{ended, LinesGive, TableGives}
 use Rattle.publisher_core.specs.Readings.{events_of, skipped_of, joined, reading_of, readings_of, skipped_in as skipped_by, events_in as events_by}
 use Rattle.publisher_core.specs.Standing.{Gives}

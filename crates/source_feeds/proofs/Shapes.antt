@@ -24,8 +24,8 @@ use Rattle.publisher_core.specs.declared.gathering.AuditRecord.{AuditRecord}
 use Rattle.publisher_core.specs.declared.record.Gain.{Gain}
 use Rattle.publisher_core.specs.declared.record.Gain.TheVariants as gain
 use Rattle.publisher_core.specs.declared.record.Piece.{Piece}
-use Rattle.publisher_core.specs.declared.record.SourceKind.{SourceKind}
-use Rattle.publisher_core.specs.declared.record.SourceKind.TheVariants.{Audit, Changes, Tables}
+use Rattle.osq_value.specs.declared.source.SourceKind.{SourceKind}
+use Rattle.osq_value.specs.declared.source.SourceKind.TheVariants.{Audit, Changes, Tables}
 use Rattle.publisher_core.specs.Audit.{IsPieceOf, event_in}
 use Rattle.publisher_core.specs.Records.{LinesGive, ChangeGives, TableGives}
 use Rattle.publisher_core.specs.Readings.{events_in, events_of, joined, reading_of, readings_of}

@@ -8,8 +8,8 @@ use Rattle.audit_records.specs.Groups.{groups_of}
 use Rattle.publisher_core.specs.declared.gathering.AuditRecord.{AuditRecord}
 use Rattle.publisher_core.specs.declared.record.Gain.{Gain}
 use Rattle.publisher_core.specs.declared.record.Piece.{Piece}
-use Rattle.publisher_core.specs.declared.record.SourceKind.{SourceKind}
-use Rattle.publisher_core.specs.declared.record.SourceKind.TheVariants.{Audit, Changes, Tables}
+use Rattle.osq_value.specs.declared.source.SourceKind.{SourceKind}
+use Rattle.osq_value.specs.declared.source.SourceKind.TheVariants.{Audit, Changes, Tables}
 use Rattle.publisher_core.specs.Audit.{items_of, AuditGives, IsPieceOf}
 use Rattle.publisher_core.specs.AuditParts.{Item, AreRecordsOf, IsPart, groups_in, lines_in}
 use Rattle.publisher_core.specs.Records.{ended, LinesGive, ChangeGives, TableGives}

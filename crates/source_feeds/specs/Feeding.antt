@@ -1,7 +1,7 @@
 -- What a session has taken of a source.
 use Rattle.std.specs.Prelude.{◌≡◌, ℕ, ◌-◌, ◌^◌, min, true, false, List, [], ◌++◌, length}
 use Rattle.publisher_core.specs.declared.record.Piece.{Piece}
-use Rattle.publisher_core.specs.declared.record.SourceKind.{SourceKind}
+use Rattle.osq_value.specs.declared.source.SourceKind.{SourceKind}
 use Rattle.publisher_core.specs.Readings.{skipped_of}
 use Rattle.publisher_core.specs.Standing.{Reader, Stands}
 

@@ -4,8 +4,8 @@ use Rattle.osq_value.specs.declared.reading.Reading.{Reading}
 use Rattle.osq_value.specs.declared.reading.Reading.TheVariants.{Events, Table}
 use Rattle.osq_value.specs.declared.value.Event.{Event}
 use Rattle.publisher_core.specs.declared.record.Piece.{Piece}
-use Rattle.publisher_core.specs.declared.record.SourceKind.{SourceKind}
-use Rattle.publisher_core.specs.declared.record.SourceKind.TheVariants.{Audit, Changes, Tables}
+use Rattle.osq_value.specs.declared.source.SourceKind.{SourceKind}
+use Rattle.osq_value.specs.declared.source.SourceKind.TheVariants.{Audit, Changes, Tables}
 use Rattle.publisher_core.specs.Readings.{events_of, skipped_of, reading_of}
 
 -- behind which byte a reading ends

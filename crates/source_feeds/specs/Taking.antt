@@ -4,8 +4,8 @@ use Rattle.osq_value.specs.declared.reading.Category.{Category}
 use Rattle.record_lines.specs.Lines.{HasNoFeed, lines_of}
 use Rattle.audit_records.specs.Groups.{groups_of}
 use Rattle.publisher_core.specs.declared.record.Piece.{Piece}
-use Rattle.publisher_core.specs.declared.record.SourceKind.{SourceKind}
-use Rattle.publisher_core.specs.declared.record.SourceKind.TheVariants.{Audit, Changes, Tables}
+use Rattle.osq_value.specs.declared.source.SourceKind.{SourceKind}
+use Rattle.osq_value.specs.declared.source.SourceKind.TheVariants.{Audit, Changes, Tables}
 use Rattle.publisher_core.specs.Audit.{items_of}
 use Rattle.publisher_core.specs.AuditParts.{BeginsWithLine, lines_in}
 use Rattle.publisher_core.specs.Records.{ended, HaveNoFeed}

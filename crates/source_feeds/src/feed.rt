@@ -13,10 +13,9 @@ ghost use Rattle.source_feeds.specs.Stepping.{IsStep};
 
 use crate::skips::skipped_with;
 use osq_outside::Source;
-use osq_value::{CategoryList, Copied, NoMemory, ReadingList, Str};
+use osq_value::{CategoryList, Copied, NoMemory, ReadingList, SourceKind, Str};
 use publisher_core::error::StepError;
 use publisher_core::publisher::Publisher;
-use publisher_core::record::SourceKind;
 use publisher_core::subscription::{Recorded, Subscription};
 use std::alloc::Global;
 use std::marker::Model;

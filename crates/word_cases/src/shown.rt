@@ -1,9 +1,7 @@
 //! Commands as text.
 
-use osq_value::NoMemory;
-use program_words::{
-    CheckWords, CommandWords, Paths, QueryWords, ReplayWords, SourceKind, SourceNameList,
-};
+use osq_value::{NoMemory, SourceKind, SourceNameList};
+use program_words::{CheckWords, CommandWords, Paths, QueryWords, ReplayWords};
 
 /// The most sources that are named.
 const MOST: usize = 8;
@@ -19,7 +17,7 @@ fn kind_word(kind: SourceKind) -> &'static str {
 /// Adds the first sources, and how many others there are.
 fn push_sources(text: &mut String, sources: &SourceNameList) -> Result<(), NoMemory> {
     for source in sources.as_slice().iter().take(MOST) {
-        write!(text, " {} {}", kind_word(source.kind), source.path.as_str())?;
+        write!(text, " {} {}", kind_word(source.kind), source.name.as_str())?;
     }
     if MOST < sources.len() {
         write!(text, " and {} more", sources.len() - MOST)?;

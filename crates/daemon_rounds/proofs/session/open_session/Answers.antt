@@ -4,7 +4,7 @@ use Rattle.entry_model.specs.declared.restored.Taken.{Taken}
 use Rattle.daemon_rounds.specs.Opening.{OpensTooMuch}
 use Rattle.daemon_rounds.specs.Starting.{IsStarted}
 use Rattle.daemon_rounds.specs.declared.error.OpenError.TheVariants.{NumbersSpent, SourceFault}
-use Rattle.daemon_rounds.specs.declared.setup.SourceName.{SourceName}
+use Rattle.osq_value.specs.declared.source.SourceName.{SourceName}
 use Rattle.daemon_rounds.proofs.Laters.{fails_since, start_later}
 use Rattle.daemon_rounds.proofs.Refused.{untaken_fault, untaken_spent}
 use Rattle.daemon_rounds.proofs.session.open_session.Goals as goal

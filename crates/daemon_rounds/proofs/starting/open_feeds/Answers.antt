@@ -2,7 +2,7 @@ use Rattle.std.proofs.Common.{List, ◌∷◌, [], ◌++◌, ◌+◌, take, sym,
 use Rattle.std.proofs.lemmas.List.{take_more}
 use Rattle.source_feeds.specs.Feeding.{Feeding}
 use Rattle.daemon_rounds.specs.Starting.{AreFeedsOf}
-use Rattle.daemon_rounds.specs.declared.setup.SourceName.{SourceName}
+use Rattle.osq_value.specs.declared.source.SourceName.{SourceName}
 use Rattle.daemon_rounds.proofs.Started.{feeds_push}
 use Rattle.daemon_rounds.proofs.starting.open_feeds.Goals as goal
 

@@ -1,12 +1,11 @@
 use Rattle.std.proofs.Common.{Err, refl, ℕ, List, ap, sym, subst, ◌∙◌, ◌++◌, append_assoc, map, length}
-use Rattle.program_words.specs.declared.source.SourceName.{SourceName}
+use Rattle.osq_value.specs.declared.source.SourceName.{SourceName}
 use Rattle.sql_query.specs.Resolved.{query_of}
 use Rattle.sql_texts.specs.TextFaults.{text_fault}
 use Rattle.sql_texts.specs.Texts.{query_in}
 use Rattle.query_rounds.specs.Asking.{IsAnswer}
 use Rattle.osq_program.specs.Ending.{IsAnswerTo}
-use Rattle.osq_program.specs.Setups.{source_in}
-use Rattle.osq_program.proofs.Questions.{accepted_by, answered, as_fault, as_keeper, as_late, as_refused, as_shrank, as_spent, given_for, meant_for, no_memory, no_sink, of_text, posed_by, refused_config, refused_text, same_lines, skips_for, unanswered, untold}
+use Rattle.osq_program.proofs.Questions.{accepted_by, answered, as_fault, as_keeper, as_late, as_refused, as_shrank, as_spent, given_for, meant_for, no_sink, of_text, posed_by, refused_config, refused_text, same_lines, skips_for, unanswered, untold}
 use Rattle.osq_program.proofs.Replays.{answered as caused, fails_there, is_within, shrank_by}
 use Rattle.osq_program.proofs.Setups.{names_distinct}
 use Rattle.osq_program.proofs.query.run_query.Goals as goal
@@ -20,26 +19,23 @@ returns-in-Err-watched_by-clause-does g c =
     refused_config _ _ c.in-Err-watched_by.refused.status _ c.refuse_unconfigured.ensures (ap text_fault (sym c.as_str-text.ensures) ∙ c.in-Ok.ensures.accepted) c.in-Err-watched_by.ensures.cause (λ tells. refl) (λ tells. refl)
 
 pub returns-in_default-clause-does : goal.returns-in_default-clause-does
-returns-in_default-clause-does g c = no_memory _ _ _ c.refuse-in_default.ensures (λ tells. refl) (λ tells. refl)
-
-pub returns-in_default-write_all-clause-does : goal.returns-in_default-write_all-clause-does
-returns-in_default-write_all-clause-does g c =
+returns-in_default-clause-does g c =
     let watched = c.in-Ok-watched_by.watched in
-    untold _ _ _ refl (posed_by _ _ _ watched.paths watched.notes c.as_str-text.ensures c.in-Ok.ensures.accepted c.in-Ok-watched_by.ensures.watched) c.in_default-write_all.ensures.cause.failed (λ tells. refl) (λ tells. refl)
+    untold _ _ _ refl (posed_by _ _ _ watched.paths watched.notes c.as_str-text.ensures c.in-Ok.ensures.accepted c.in-Ok-watched_by.ensures.watched) c.in_default.ensures.cause.failed (λ tells. refl) (λ tells. refl)
 
 pub ask_kept-requires-clause-accepted : goal.ask_kept-requires-clause-accepted
 ask_kept-requires-clause-accepted g c κs within = accepted_by _ _ c.in-Ok.ensures.query
 
 pub ask_kept-requires-clause-distinct : goal.ask_kept-requires-clause-distinct
 ask_kept-requires-clause-distinct g c κs within =
-    names_distinct _ c.args.words.now.sources (c.as_slice-3.ensures ∙ c.in-Ok-sources_of.ensures ∙ ap (map source_in) c.as_slice.ensures) c.requires.bounded.sources_in.own_paths
+    names_distinct _ c.args.words.now.sources c.as_slice-2.ensures c.requires.bounded.sources_in.own_paths
 
 pub returns-in-Ok-ask_kept-clause-does : goal.returns-in-Ok-ask_kept-clause-does
 returns-in-Ok-ask_kept-clause-does g c =
     let left = g.S.Source.left in
     let watched = c.in-Ok-watched_by.watched in
     let asked = c.in-Ok-ask_kept.asked in
-    let names = c.as_slice-3.ensures ∙ c.in-Ok-sources_of.ensures ∙ ap (map source_in) c.as_slice.ensures in
+    let names = c.as_slice-2.ensures in
     let bytes = sym (ap (map left) c.as_mut_slice.ensures.value) in
     let (moment, read, early, meant, answer) = c.in-Ok-ask_kept.ensures.answer in
     let (taken, taken_is, skips) = c.in-Ok-ask_kept.ensures.skipped in
@@ -51,7 +47,7 @@ returns-in-Ok-ask_kept-clause-does g c =
     _ (same_lines c.args.words.now.text (query_of c.in-Ok.query) asked.rows (ap query_in (sym c.as_str-text.ensures) ∙ c.in-Ok.ensures.query)) c.in-Ok-ask_kept.ensures.same _ c.write_answer.ensures.writes
     (λ done tells. ap g.O.Sink.written (c.write_answer.ensures.quiet done) ∙ c.in-Ok-write_all-2.ensures.bytes tells
     ∙ ap (λ (skipped : List ℕ). g.O.Sink.written c.write_all.new.sink ++ skipped) c.as_slice-in-Ok-ask_kept.ensures
-    ∙ ap (λ (text : List ℕ). text ++ asked.skipped) (c.in-Ok-write_all.ensures.bytes tells ∙ ap (λ (notes : List ℕ). g.O.Sink.written c.args.outside.now.status ++ notes) c.as_slice-2.ensures)
+    ∙ ap (λ (text : List ℕ). text ++ asked.skipped) (c.in-Ok-write_all.ensures.bytes tells ∙ ap (λ (notes : List ℕ). g.O.Sink.written c.args.outside.now.status ++ notes) c.as_slice.ensures)
     ∙ append_assoc (g.O.Sink.written c.args.outside.now.status) watched.notes asked.skipped)
 
 pub answer_to-status-requires-clause-fault : goal.answer_to-status-requires-clause-fault
@@ -75,7 +71,7 @@ returns-clause-does g c =
     let e = c.in-Err-ask_kept.error in
     let s = c.in-Err-ask_kept.ensures in
     let by = sym c.ended.ensures in
-    let names = c.as_slice-3.ensures ∙ c.in-Ok-sources_of.ensures ∙ ap (map source_in) c.as_slice.ensures in
+    let names = c.as_slice-2.ensures in
     let bytes = sym (ap (map left) c.as_mut_slice.ensures.value) in
     let posed = posed_by c.args.words.now _ _ watched.paths watched.notes c.as_str-text.ensures c.in-Ok.ensures.accepted c.in-Ok-watched_by.ensures.watched in
     let answer = subst (λ (sources : List SourceName). IsAnswerTo sources c.ended.result c.answer_to-status.result) c.as_slice-in-Err-ask_kept.ensures c.answer_to-status.ensures in

@@ -1,5 +1,5 @@
 use Rattle.std.proofs.Common.{refl, inr, List, ap, sym, subst, ◌∙◌, map, length}
-use Rattle.program_words.specs.declared.source.SourceName.{SourceName}
+use Rattle.osq_value.specs.declared.source.SourceName.{SourceName}
 use Rattle.daemon_rounds.specs.declared.setup.Setup.{Setup}
 use Rattle.osq_program.specs.Ending.{IsAnswerTo}
 use Rattle.osq_program.proofs.Ended.{failed_before, rose_behind}

@@ -1,5 +1,5 @@
 use Rattle.std.proofs.Common.{◌∙◌, sym, ap, subst, refl, inl}
-use Rattle.publisher_core.specs.declared.record.SourceKind.TheVariants.{Changes}
+use Rattle.osq_value.specs.declared.source.SourceKind.TheVariants.{Changes}
 use Rattle.publisher_core.specs.Standing.{Reader}
 use Rattle.publisher_core.specs.Stepping.{IsDry}
 use Rattle.publisher_core.proofs.Standing.{ended_by_lines, ended_audit}

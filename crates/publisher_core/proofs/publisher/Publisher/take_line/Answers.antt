@@ -4,7 +4,7 @@ use Rattle.publisher_core.specs.Records.{ended, LINE_LIMIT, TABLE_LIMIT, ChangeG
 use Rattle.publisher_core.specs.Standing.{Reader, limit_of}
 use Rattle.publisher_core.specs.Stepping.{Goes}
 use Rattle.publisher_core.specs.declared.record.Next.{Next}
-use Rattle.publisher_core.specs.declared.record.SourceKind.TheVariants.{Audit, Changes, Tables}
+use Rattle.osq_value.specs.declared.source.SourceKind.TheVariants.{Audit, Changes, Tables}
 use Rattle.publisher_core.proofs.Standing.{change_given, table_given, line_gathered}
 use Rattle.publisher_core.proofs.publisher.Publisher.take_line.Goals as goal
 

@@ -1,7 +1,7 @@
 use Rattle.std.proofs.Common.{◌∙◌, ap}
 use Rattle.publisher_core.specs.Readings.{readings_of}
 use Rattle.publisher_core.specs.Standing.{Reader}
-use Rattle.publisher_core.specs.declared.record.SourceKind.{SourceKind}
+use Rattle.osq_value.specs.declared.source.SourceKind.{SourceKind}
 use Rattle.publisher_core.proofs.Stepping.{grows_readings}
 use Rattle.publisher_core.proofs.publisher.Publisher.take_readings.Goals as goal
 
