@@ -6,8 +6,8 @@ use Rattle.std.specs.Str.{is_utf8, IsUtf8}
 use Rattle.std.proofs.lemmas.Bool.Decides.{Decides-eqb, nat_tests}
 use Rattle.std.proofs.lemmas.Str.{IsUtf8-from_is_utf8, is_utf8-from_IsUtf8}
 use Rattle.osq_value.specs.Spelling.{is_digit, value_of, number_below}
-use Rattle.audit_records.specs.declared.error.LineError.{LineError}
-use Rattle.audit_records.specs.declared.error.LineError.TheVariants as fault
+use Rattle.audit_records.specs.declared.error.AuditLineError.{AuditLineError}
+use Rattle.audit_records.specs.declared.error.AuditLineError.TheVariants as fault
 use Rattle.audit_records.specs.declared.line.AuditId.{AuditId}
 use Rattle.audit_records.specs.declared.line.AuditLine.{AuditLine}
 use Rattle.audit_records.specs.declared.line.Field.{Field}
@@ -309,11 +309,11 @@ line_read text line is =
 pub no_line : (text : List ℕ) → line_of text ≡ None → (line : AuditLine) → ¬ IsLine text line
 no_line text none line is = let some = line_read text line is in absurd (cc)
 
-pub ok_line : (text : List ℕ) (result : Result AuditLine LineError) → Reads (line_of text) result → IfOk result (IsLine text)
+pub ok_line : (text : List ℕ) (result : Result AuditLine AuditLineError) → Reads (line_of text) result → IfOk result (IsLine text)
 ok_line text (Ok line) read = line_sound text line read
 ok_line text (Err error) read = tt
 
-pub bad_line : (text : List ℕ) (result : Result AuditLine LineError) → Reads (line_of text) result → result ≡ Err fault.BadLine → (line : AuditLine) → ¬ IsLine text line
+pub bad_line : (text : List ℕ) (result : Result AuditLine AuditLineError) → Reads (line_of text) result → result ≡ Err fault.BadLine → (line : AuditLine) → ¬ IsLine text line
 bad_line text (Ok line) read bad = absurd (cc)
 bad_line text (Err fault.BadLine) read bad = no_line text read
 bad_line text (Err fault.NoMemory) read bad = absurd (cc)

@@ -3,8 +3,8 @@ use Rattle.std.proofs.Common.{◌≡◌, ℕ, zero, suc, ◌<◌, ◌≤◌, Boo
 use Rattle.std.specs.Prelude.{slice_index, option_map, option_and_then, ◌==◌, Option, IfSome}
 use Rattle.std.specs.Option.{option_to_list}
 use Rattle.std.proofs.lemmas.List.{append-nil}
-use Rattle.audit_records.specs.declared.error.LineError.{LineError}
-use Rattle.audit_records.specs.declared.error.LineError.TheVariants as fault
+use Rattle.audit_records.specs.declared.error.AuditLineError.{AuditLineError}
+use Rattle.audit_records.specs.declared.error.AuditLineError.TheVariants as fault
 use Rattle.audit_records.specs.declared.line.Field.{Field}
 use Rattle.audit_records.specs.Lines.{Word, ReadValue, around, before, onward, ends_key, is_blank, is_byte, is_quote, ends_word, quoted_value, bare_value, value_at, field_word, keyed_word, word_at, fields_within, fields_of}
 use Rattle.audit_records.specs.Reads.{Refuses}
@@ -127,7 +127,7 @@ no_word : (text : List ℕ) → 0 < length text → is_blank (slice_index text 0
 no_word text some is none = word_step text some is ∙ ap (with_word fields_of) none
 
 -- A word that can't be read refuses all of the text.
-pub refused : (read : List Field) (all text : List ℕ) (error : LineError) → 0 < length text → is_blank (slice_index text 0) ≡ false
+pub refused : (read : List Field) (all text : List ℕ) (error : AuditLineError) → 0 < length text → is_blank (slice_index text 0) ≡ false
     → option_map (λ more. read ++ more) (fields_of text) ≡ fields_of all → Refuses (word_at text) error → Refuses (fields_of all) error
 refused read all text fault.BadLine some is before none = sym before ∙ ap (option_map (λ more. read ++ more)) (no_word text some is none)
 refused read all text fault.NoMemory some is before none = tt

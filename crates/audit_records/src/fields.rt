@@ -6,7 +6,7 @@ ghost use Rattle.audit_records.specs.Lines.{value_at, word_at};
 ghost use Rattle.audit_records.specs.Reads.{Reads, ReadsAs};
 
 use crate::cuts::{around_byte, behind_first, is_blank, split_at_blank, split_key};
-use crate::error::LineError;
+use crate::error::AuditLineError;
 use crate::line::{Field, FieldList};
 use osq_value::{NoMemory, Str};
 use std::alloc::Global;
@@ -28,7 +28,7 @@ struct ReadValue<'a> {
 
 /// The fields of a text, in their order.
 /// BadLine where a word begins with `=`, or a quoted value has no closing quote with a blank or the end behind it.
-pub fn read_fields(alloc: Global, text: &str) -> Result<FieldList, LineError>
+pub fn read_fields(alloc: Global, text: &str) -> Result<FieldList, AuditLineError>
     ensures { Reads (fields_of text.now) result }
 {
     let mut fields = FieldList::new(alloc);
@@ -61,7 +61,7 @@ fn add(fields: &mut FieldList, field: Option<Field>) -> Result<(), NoMemory>
 
 /// The word at the front of a text.
 #[tactic(auto, unfolding(crate::specs::Lines::word_at))]
-fn read_word<'a>(alloc: Global, text: &'a str) -> Result<Word<'a>, LineError>
+fn read_word<'a>(alloc: Global, text: &'a str) -> Result<Word<'a>, AuditLineError>
     ensures { ReadsAs (λ word. record { field = word.field; rest = word.rest.now }) (word_at text.now) result }
 {
     let (key, rest) = split_key(text);
@@ -72,14 +72,14 @@ fn read_word<'a>(alloc: Global, text: &'a str) -> Result<Word<'a>, LineError>
 }
 
 /// The word with this key, whose value stands at the front of a text. BadLine where the key is empty or there is no value.
-fn read_field<'a>(alloc: Global, key: &str, text: &'a str) -> Result<Word<'a>, LineError>
+fn read_field<'a>(alloc: Global, key: &str, text: &'a str) -> Result<Word<'a>, AuditLineError>
     ensures { ReadsAs (λ word. record { field = word.field; rest = word.rest.now }) (field_word key.now (value_at text.now)) result }
 {
     if key.is_empty() {
-        return Err(LineError::BadLine);
+        return Err(AuditLineError::BadLine);
     }
     let Some(value) = value_at(text) else {
-        return Err(LineError::BadLine);
+        return Err(AuditLineError::BadLine);
     };
     let key = Str::of(alloc, key)?;
     let text = Str::of(alloc, value.text)?;

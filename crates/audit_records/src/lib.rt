@@ -17,7 +17,7 @@ pub mod read;
 pub mod socket;
 pub mod value;
 
-pub use error::LineError;
+pub use error::AuditLineError;
 pub use event::group_event;
 pub use group::{AuditGroup, GroupBuilder};
 pub use line::{AuditId, AuditLine, Field, FieldList};

@@ -5,7 +5,7 @@ ghost use Rattle.audit_records.specs.Grammar.{IsLine};
 ghost use Rattle.audit_records.specs.Lines.{head_of, line_of, with_fields};
 ghost use Rattle.audit_records.specs.Reads.{Reads};
 
-use crate::error::LineError;
+use crate::error::AuditLineError;
 use crate::fields::read_fields;
 use crate::head::head_of;
 use crate::line::AuditLine;
@@ -28,24 +28,24 @@ use std::str;
 /// line.kind.as_str()        // "CWD"
 /// line.id.millis            // 123
 /// line.fields.len()         // 1: the key `cwd`, the text `/home/ann`, quoted
-/// read_line(alloc, b"type=cwd msg=audit(1.000:2):")   // Err(LineError::BadLine): a type has capital letters
+/// read_line(alloc, b"type=cwd msg=audit(1.000:2):")   // Err(AuditLineError::BadLine): a type has capital letters
 /// ```
-pub fn read_line(alloc: Global, text: &[u8]) -> Result<AuditLine, LineError>
+pub fn read_line(alloc: Global, text: &[u8]) -> Result<AuditLine, AuditLineError>
     ensures read { Reads (line_of text.now) result }
     ensures line { IfOk result (λ line. IsLine text.now line) }
-    ensures bad { IsErrOf result LineError.BadLine → (line : AuditLine) → ¬ IsLine text.now line }
+    ensures bad { IsErrOf result AuditLineError.BadLine → (line : AuditLine) → ¬ IsLine text.now line }
 {
     match str::from_utf8(text) {
         Ok(text) => read_text(alloc, text),
-        Err(_) => Err(LineError::BadLine),
+        Err(_) => Err(AuditLineError::BadLine),
     }
 }
 
-fn read_text(alloc: Global, text: &str) -> Result<AuditLine, LineError>
+fn read_text(alloc: Global, text: &str) -> Result<AuditLine, AuditLineError>
     ensures { Reads (option_and_then with_fields (head_of text.now)) result }
 {
     let Some(head) = head_of(text) else {
-        return Err(LineError::BadLine);
+        return Err(AuditLineError::BadLine);
     };
     let fields = read_fields(alloc, head.fields)?;
     let kind = Str::of(alloc, head.kind)?;

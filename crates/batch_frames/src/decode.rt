@@ -8,7 +8,7 @@ use crate::error::{BadKind, FrameError};
 use crate::frame::Frame;
 use crate::read::read;
 use crate::shape::{Shown, shape};
-use change_records::LineError;
+use change_records::JsonLineError;
 use osq_value::NoMemory;
 use serde_json::Value as Json;
 use std::alloc::Global;
@@ -52,8 +52,8 @@ fn kind_of(alloc: Global, line: &[u8]) -> Result<BadKind, NoMemory>
     };
     match shape(alloc, &value) {
         Ok(shown) => bad_digest(alloc, &shown),
-        Err(LineError::BadLine) => Ok(BadKind::WrongShape),
-        Err(LineError::NoMemory) => Err(NoMemory),
+        Err(JsonLineError::BadLine) => Ok(BadKind::WrongShape),
+        Err(JsonLineError::NoMemory) => Err(NoMemory),
     }
 }
 

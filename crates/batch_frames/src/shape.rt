@@ -10,7 +10,7 @@ ghost use Rattle.batch_frames.specs.Shapes.{frame_of, has_form, has_keys, items_
 
 use crate::frame::Frame;
 use crate::parts::{Sender, Slice, Table, frame_of_parts};
-use change_records::LineError;
+use change_records::JsonLineError;
 use osq_value::{Row, RowList, Str, TextList, Value};
 use pack_rules::schedule::{Mode, QueryKey};
 use serde_json::Value as Json;
@@ -32,12 +32,12 @@ fn text_at<'a>(line: &'a Json, key: &str) -> Option<&'a str>
     line.get(key)?.as_str()
 }
 
-fn text(alloc: Global, line: &Json, key: &str) -> Result<Str, LineError>
+fn text(alloc: Global, line: &Json, key: &str) -> Result<Str, JsonLineError>
     ensures { Reads (data_text_at key.now (view line.now)) result }
 {
     match text_at(line, key) {
         Some(text) => Ok(Str::of(alloc, text)?),
-        None => Err(LineError::BadLine),
+        None => Err(JsonLineError::BadLine),
     }
 }
 
@@ -47,24 +47,24 @@ fn number_at(line: &Json, key: &str) -> Option<u64>
     line.get(key)?.as_u64()
 }
 
-fn number(line: &Json, key: &str) -> Result<u64, LineError>
+fn number(line: &Json, key: &str) -> Result<u64, JsonLineError>
     ensures { Reads (number_at key.now (view line.now)) result }
 {
-    number_at(line, key).ok_or(LineError::BadLine)
+    number_at(line, key).ok_or(JsonLineError::BadLine)
 }
 
-fn names(alloc: Global, line: &Json) -> Result<TextList, LineError>
+fn names(alloc: Global, line: &Json) -> Result<TextList, JsonLineError>
     ensures { Reads (items_at as_str (codes "names") (view line.now)) result }
 {
     let items = line
         .get("names")
-        .ok_or(LineError::BadLine)?
+        .ok_or(JsonLineError::BadLine)?
         .as_array()
-        .ok_or(LineError::BadLine)?;
+        .ok_or(JsonLineError::BadLine)?;
     all_names(alloc, items.as_slice())
 }
 
-fn all_names(alloc: Global, items: &[Json]) -> Result<TextList, LineError>
+fn all_names(alloc: Global, items: &[Json]) -> Result<TextList, JsonLineError>
     ensures { Reads (all_there (map (λ item. as_str (view item)) items.now)) result }
 {
     let mut names = TextList::new(alloc);
@@ -74,25 +74,25 @@ fn all_names(alloc: Global, items: &[Json]) -> Result<TextList, LineError>
     Ok(names)
 }
 
-fn name(alloc: Global, item: &Json) -> Result<Str, LineError>
+fn name(alloc: Global, item: &Json) -> Result<Str, JsonLineError>
     ensures { Reads (as_str (view item.now)) result }
 {
-    let text = item.as_str().ok_or(LineError::BadLine)?;
+    let text = item.as_str().ok_or(JsonLineError::BadLine)?;
     Ok(Str::of(alloc, text)?)
 }
 
-fn rows(alloc: Global, line: &Json) -> Result<RowList, LineError>
+fn rows(alloc: Global, line: &Json) -> Result<RowList, JsonLineError>
     ensures { Reads (items_at row_of (codes "rows") (view line.now)) result }
 {
     let items = line
         .get("rows")
-        .ok_or(LineError::BadLine)?
+        .ok_or(JsonLineError::BadLine)?
         .as_array()
-        .ok_or(LineError::BadLine)?;
+        .ok_or(JsonLineError::BadLine)?;
     all_rows(alloc, items.as_slice())
 }
 
-fn all_rows(alloc: Global, items: &[Json]) -> Result<RowList, LineError>
+fn all_rows(alloc: Global, items: &[Json]) -> Result<RowList, JsonLineError>
     ensures { Reads (all_there (map (λ item. row_of (view item)) items.now)) result }
 {
     let mut rows = RowList::new(alloc);
@@ -102,14 +102,14 @@ fn all_rows(alloc: Global, items: &[Json]) -> Result<RowList, LineError>
     Ok(rows)
 }
 
-fn row(alloc: Global, item: &Json) -> Result<Row, LineError>
+fn row(alloc: Global, item: &Json) -> Result<Row, JsonLineError>
     ensures { Reads (row_of (view item.now)) result }
 {
-    let items = item.as_array().ok_or(LineError::BadLine)?;
+    let items = item.as_array().ok_or(JsonLineError::BadLine)?;
     all_values(alloc, items.as_slice())
 }
 
-fn all_values(alloc: Global, items: &[Json]) -> Result<Row, LineError>
+fn all_values(alloc: Global, items: &[Json]) -> Result<Row, JsonLineError>
     ensures { Reads (all_there (map (λ item. value_of (view item)) items.now)) result }
 {
     let mut row = Row::new(alloc);
@@ -119,7 +119,7 @@ fn all_values(alloc: Global, items: &[Json]) -> Result<Row, LineError>
     Ok(row)
 }
 
-fn value(alloc: Global, item: &Json) -> Result<Value, LineError>
+fn value(alloc: Global, item: &Json) -> Result<Value, JsonLineError>
     ensures { Reads (value_of (view item.now)) result }
 {
     if item.is_null() {
@@ -127,7 +127,7 @@ fn value(alloc: Global, item: &Json) -> Result<Value, LineError>
     }
     match item.as_str() {
         Some(text) => Ok(Value::Text(Str::of(alloc, text)?)),
-        None => item.as_i64().map(Value::Int).ok_or(LineError::BadLine),
+        None => item.as_i64().map(Value::Int).ok_or(JsonLineError::BadLine),
     }
 }
 
@@ -143,16 +143,16 @@ fn mode_of(text: &str) -> Option<Mode>
     }
 }
 
-fn mode(line: &Json) -> Result<Mode, LineError>
+fn mode(line: &Json) -> Result<Mode, JsonLineError>
     ensures { Reads (option_and_then mode_of (data_text_at (codes "mode") (view line.now))) result }
 {
     text_at(line, "mode")
         .and_then(mode_of)
-        .ok_or(LineError::BadLine)
+        .ok_or(JsonLineError::BadLine)
 }
 
 #[tactic(auto, unfolding(crate::specs::Shapes::query_of))]
-fn query(alloc: Global, line: &Json) -> Result<QueryKey, LineError>
+fn query(alloc: Global, line: &Json) -> Result<QueryKey, JsonLineError>
     ensures { Reads (query_of (view line.now)) result }
 {
     let name = text(alloc, line, "name")?;
@@ -162,7 +162,7 @@ fn query(alloc: Global, line: &Json) -> Result<QueryKey, LineError>
 }
 
 #[tactic(auto, unfolding(crate::specs::Shapes::slice_of))]
-fn slice(line: &Json) -> Result<Slice, LineError>
+fn slice(line: &Json) -> Result<Slice, JsonLineError>
     ensures { Reads (slice_of (view line.now)) result }
 {
     let lo = number(line, "lo")?;
@@ -178,7 +178,7 @@ fn slice(line: &Json) -> Result<Slice, LineError>
 }
 
 #[tactic(auto, unfolding(crate::specs::Shapes::table_of))]
-fn table(alloc: Global, line: &Json) -> Result<Table, LineError>
+fn table(alloc: Global, line: &Json) -> Result<Table, JsonLineError>
     ensures { Reads (table_of (view line.now)) result }
 {
     let names = names(alloc, line)?;
@@ -187,7 +187,7 @@ fn table(alloc: Global, line: &Json) -> Result<Table, LineError>
 }
 
 #[tactic(auto, unfolding(crate::specs::Shapes::frame_of))]
-fn frame(alloc: Global, line: &Json) -> Result<Frame, LineError>
+fn frame(alloc: Global, line: &Json) -> Result<Frame, JsonLineError>
     ensures { Reads (frame_of (view line.now)) result }
 {
     let host = text(alloc, line, "host")?;
@@ -217,7 +217,7 @@ fn has_form(line: &Json) -> bool
 
 /// The frame and the digest of an object that has exactly the keys of a frame, with values of their kinds that make a valid frame.
 #[tactic(auto, unfolding(crate::specs::Shapes::shape_of))]
-pub(crate) fn shape(alloc: Global, line: &Json) -> Result<Shown, LineError>
+pub(crate) fn shape(alloc: Global, line: &Json) -> Result<Shown, JsonLineError>
     ensures { Reads (shape_of (view line.now)) result }
 {
     let frame = frame(alloc, line)?;
@@ -225,6 +225,6 @@ pub(crate) fn shape(alloc: Global, line: &Json) -> Result<Shown, LineError>
     if has_form(line) && frame.is_valid() {
         Ok(Shown { frame, digest })
     } else {
-        Err(LineError::BadLine)
+        Err(JsonLineError::BadLine)
     }
 }

@@ -7,8 +7,8 @@ use Rattle.serde_json.specs.Find.{get, as_array, as_object}
 use Rattle.osq_value.specs.declared.catalogue.ColumnDesc.{ColumnDesc}
 use Rattle.osq_value.specs.Catalogue.{Column}
 use Rattle.osq_value.specs.Described.{column}
-use Rattle.change_records.specs.declared.error.LineError.{LineError}
-use Rattle.change_records.specs.declared.error.LineError.TheVariants as fault
+use Rattle.change_records.specs.declared.error.JsonLineError.{JsonLineError}
+use Rattle.change_records.specs.declared.error.JsonLineError.TheVariants as fault
 use Rattle.change_records.specs.Reads.{Reads}
 use Rattle.serde_json.specs.View.{items_of, items_view, view}
 use Rattle.serde_json.specs.declared.value.Value.{Value}
@@ -68,14 +68,14 @@ cells_of-described descs columns d same is =
     ap all_there (sym (map-map (λ (c : Column). cell_of c.affinity (get c.name d)) column descs)) ∙ ap (λ cs. cells_of cs d) same ∙ sym (row_of-object columns d is)
 
 -- a fault of one value is a fault of all
-pub fault_of_all : {X Y : Type 0} → (found : Option X) (all : Option Y) (e : LineError) → Reads found (Err e) → (found ≡ None → all ≡ None) → Reads all (Err e)
+pub fault_of_all : {X Y : Type 0} → (found : Option X) (all : Option Y) (e : JsonLineError) → Reads found (Err e) → (found ≡ None → all ≡ None) → Reads all (Err e)
 fault_of_all found all fault.BadLine is none = none is
 fault_of_all found all fault.NoMemory is none = tt
 
 -- the fault that was passed on
-pub passed_on : {Y : Type 0} → (all : Option Y) (e : LineError) (r : Result Y LineError) → IsErrAnd r (λ passed. passed ≡ e) → Reads all (Err e) → Reads all r
+pub passed_on : {Y : Type 0} → (all : Option Y) (e : JsonLineError) (r : Result Y JsonLineError) → IsErrAnd r (λ passed. passed ≡ e) → Reads all (Err e) → Reads all r
 passed_on all e (Ok y) h reads = absurd h
-passed_on {Y = Y} all e (Err passed) h reads = subst (λ (f : LineError). Reads {X = Y} all (Err f)) (sym h) reads
+passed_on {Y = Y} all e (Err passed) h reads = subst (λ (f : JsonLineError). Reads {X = Y} all (Err f)) (sym h) reads
 
 -- the rows of an array of values
 pub rows_found : (columns : List Column) (line found_array : Data) (items : List Value) → get (codes "rows") line ≡ Some found_array → as_array found_array ≡ Some (items_view items) → all_there (map (λ (item : Value). row_of columns (view item)) items) ≡ rows_of columns line

@@ -3,47 +3,47 @@ use std::alloc::AllocError;
 
 /// Why a line wasn't read: it isn't in the form, or memory was wanting.
 #[derive(Clone, Copy)]
-pub enum LineError {
+pub enum JsonLineError {
     /// The bytes aren't a JSON object of the line's form.
     BadLine,
     /// Memory was wanting.
     NoMemory,
 }
 
-impl From<NoMemory> for LineError {
+impl From<NoMemory> for JsonLineError {
     ghost use Rattle.std.specs.Prelude.{◌≡◌};
-    ghost use Rattle.change_records.specs.declared.error.LineError.TheVariants as fault;
+    ghost use Rattle.change_records.specs.declared.error.JsonLineError.TheVariants as fault;
 
     ghost from_gives = { λ _ e. e ≡ fault.NoMemory };
 
     fn from(_error: NoMemory) -> Self {
-        LineError::NoMemory
+        JsonLineError::NoMemory
     }
 }
 
-impl From<serde_json::Error> for LineError {
+impl From<serde_json::Error> for JsonLineError {
     ghost use Rattle.std.specs.Prelude.{◌≡◌};
     ghost use Rattle.serde_json.specs.Errors.{IsMemory};
-    ghost use Rattle.change_records.specs.declared.error.LineError.TheVariants as fault;
+    ghost use Rattle.change_records.specs.declared.error.JsonLineError.TheVariants as fault;
 
     ghost from_gives = { λ error e. e ≡ fault.BadLine → ¬ (IsMemory error) };
 
     fn from(error: serde_json::Error) -> Self {
         if error.is_memory() {
-            LineError::NoMemory
+            JsonLineError::NoMemory
         } else {
-            LineError::BadLine
+            JsonLineError::BadLine
         }
     }
 }
 
-impl From<AllocError> for LineError {
+impl From<AllocError> for JsonLineError {
     ghost use Rattle.std.specs.Prelude.{◌≡◌};
-    ghost use Rattle.change_records.specs.declared.error.LineError.TheVariants as fault;
+    ghost use Rattle.change_records.specs.declared.error.JsonLineError.TheVariants as fault;
 
     ghost from_gives = { λ _ e. e ≡ fault.NoMemory };
 
     fn from(_error: AllocError) -> Self {
-        LineError::NoMemory
+        JsonLineError::NoMemory
     }
 }

@@ -5,7 +5,7 @@ ghost use Rattle.change_records.specs.Changes.{text_at};
 ghost use Rattle.change_records.specs.Fields.{number_of, text_of};
 ghost use Rattle.change_records.specs.Reads.{Reads};
 
-use crate::error::LineError;
+use crate::error::JsonLineError;
 use osq_value::{NoMemory, Str, Value, int_spelling};
 use serde_json::Value as Json;
 use std::alloc::Global;
@@ -19,12 +19,12 @@ pub fn text_at<'a>(line: &'a Json, key: &str) -> Option<&'a str>
 
 /// A member that holds a whole number or a text that spells one.
 /// BadLine where it holds anything else but null; Null where it is missing.
-pub fn number_at(line: &Json, key: &str) -> Result<Value, LineError>
+pub fn number_at(line: &Json, key: &str) -> Result<Value, JsonLineError>
     ensures { Reads (number_of (get key.now (view line.now))) result }
 {
     match line.get(key) {
         None => Ok(Value::Null),
-        Some(value) => number(value).ok_or(LineError::BadLine),
+        Some(value) => number(value).ok_or(JsonLineError::BadLine),
     }
 }
 
@@ -43,7 +43,7 @@ fn number(value: &Json) -> Option<Value>
 
 /// A member that holds a text.
 /// BadLine where it holds anything else but null; Null where it is missing.
-pub fn value_at(alloc: Global, line: &Json, key: &str) -> Result<Value, LineError>
+pub fn value_at(alloc: Global, line: &Json, key: &str) -> Result<Value, JsonLineError>
     ensures { Reads (text_of (get key.now (view line.now))) result }
 {
     match line.get(key) {
@@ -52,12 +52,12 @@ pub fn value_at(alloc: Global, line: &Json, key: &str) -> Result<Value, LineErro
     }
 }
 
-fn text(alloc: Global, value: &Json) -> Result<Value, LineError>
+fn text(alloc: Global, value: &Json) -> Result<Value, JsonLineError>
     ensures { Reads (text_of (Some (view value.now))) result }
 {
     if value.is_null() {
         return Ok(Value::Null);
     }
-    let text = value.as_str().ok_or(LineError::BadLine)?;
+    let text = value.as_str().ok_or(JsonLineError::BadLine)?;
     Ok(Value::Text(Str::of(alloc, text)?))
 }

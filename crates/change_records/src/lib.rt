@@ -10,7 +10,7 @@ pub mod read;
 pub mod table;
 
 pub use change::Change;
-pub use error::LineError;
+pub use error::JsonLineError;
 pub use event::change_event;
 pub use pattern::path_matches;
 pub use read::read_change;

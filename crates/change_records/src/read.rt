@@ -4,7 +4,7 @@ ghost use Rattle.change_records.specs.Changes.{action_of, change_of, is_path, nu
 ghost use Rattle.change_records.specs.Reads.{Reads, ReadsLine};
 
 use crate::change::Change;
-use crate::error::LineError;
+use crate::error::JsonLineError;
 use crate::field::{number_at, text_at, value_at};
 use osq_value::{Row, Str};
 use serde_json::Value as Json;
@@ -21,9 +21,9 @@ use std::alloc::Global;
 /// change.path.as_str()      // "/etc/a"
 /// change.time               // Value::Int(1)
 /// change.mode               // Value::Null: the line has no such key
-/// read_change(alloc, b"{\"path\":\"etc\",\"action\":\"CREATED\"}")   // Err(LineError::BadLine)
+/// read_change(alloc, b"{\"path\":\"etc\",\"action\":\"CREATED\"}")   // Err(JsonLineError::BadLine)
 /// ```
-pub fn read_change(alloc: Global, text: &[u8]) -> Result<Change, LineError>
+pub fn read_change(alloc: Global, text: &[u8]) -> Result<Change, JsonLineError>
     ensures { ReadsLine change_of text.now result }
 {
     let line = Json::from_slice(alloc, text)?;
@@ -31,7 +31,7 @@ pub fn read_change(alloc: Global, text: &[u8]) -> Result<Change, LineError>
 }
 
 #[tactic(auto, unfolding(crate::specs::Changes::change_of))]
-fn change(alloc: Global, line: &Json) -> Result<Change, LineError>
+fn change(alloc: Global, line: &Json) -> Result<Change, JsonLineError>
     ensures { Reads (change_of (view line.now)) result }
 {
     let path = path(alloc, line)?;
@@ -48,29 +48,29 @@ fn change(alloc: Global, line: &Json) -> Result<Change, LineError>
     })
 }
 
-fn path(alloc: Global, line: &Json) -> Result<Str, LineError>
+fn path(alloc: Global, line: &Json) -> Result<Str, JsonLineError>
     ensures { Reads (path_of (view line.now)) result }
 {
-    let path = text_at(line, "path").ok_or(LineError::BadLine)?;
+    let path = text_at(line, "path").ok_or(JsonLineError::BadLine)?;
     if path.as_bytes().first() == Some(&b'/') {
         Ok(Str::of(alloc, path)?)
     } else {
-        Err(LineError::BadLine)
+        Err(JsonLineError::BadLine)
     }
 }
 
-fn action(alloc: Global, line: &Json) -> Result<Str, LineError>
+fn action(alloc: Global, line: &Json) -> Result<Str, JsonLineError>
     ensures { Reads (action_of (view line.now)) result }
 {
-    let action = text_at(line, "action").ok_or(LineError::BadLine)?;
+    let action = text_at(line, "action").ok_or(JsonLineError::BadLine)?;
     if 1 <= action.len() && action.len() <= 64 {
         Ok(Str::of(alloc, action)?)
     } else {
-        Err(LineError::BadLine)
+        Err(JsonLineError::BadLine)
     }
 }
 
-fn numbers(alloc: Global, line: &Json) -> Result<Row, LineError>
+fn numbers(alloc: Global, line: &Json) -> Result<Row, JsonLineError>
     ensures { Reads (numbers_of (view line.now)) result }
 {
     let inode = number_at(line, "inode")?;

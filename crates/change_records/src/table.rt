@@ -7,7 +7,7 @@ ghost use Rattle.change_records.specs.Changes.{text_at};
 ghost use Rattle.change_records.specs.Reads.{Reads, ReadsLine};
 ghost use Rattle.change_records.specs.Rows.{all_there, cell_of, integer_cell, recorded_named, row_of, rows_of, spelled_cell, table_of, text_cell};
 
-use crate::error::LineError;
+use crate::error::JsonLineError;
 use crate::field::text_at;
 use osq_value::catalogue::columns;
 use osq_value::{
@@ -21,7 +21,7 @@ use std::alloc::Global;
 /// table's columns; a column that its object lacks is Null, and a key that is no column is ignored. In a column of whole numbers a text
 /// that spells one is that number, the empty text is Null, and any other text stays; in a column of texts a whole number is its decimal
 /// text. BadLine exactly where the text isn't in this form. `taken` is 0.
-pub fn read_table(alloc: Global, text: &[u8]) -> Result<Reading, LineError>
+pub fn read_table(alloc: Global, text: &[u8]) -> Result<Reading, JsonLineError>
     ensures { ReadsLine table_of text.now result }
 {
     let line = Json::from_slice(alloc, text)?;
@@ -29,10 +29,10 @@ pub fn read_table(alloc: Global, text: &[u8]) -> Result<Reading, LineError>
 }
 
 #[tactic(auto, unfolding(crate::specs::Rows::table_of))]
-fn reading(alloc: Global, line: &Json) -> Result<Reading, LineError>
+fn reading(alloc: Global, line: &Json) -> Result<Reading, JsonLineError>
     ensures { Reads (table_of (view line.now)) result }
 {
-    let table = named(line).ok_or(LineError::BadLine)?;
+    let table = named(line).ok_or(JsonLineError::BadLine)?;
     let rows = rows(alloc, table, line)?;
     Ok(Reading::Table {
         taken: 0,
@@ -59,18 +59,18 @@ fn recorded(name: &str) -> Option<TableId>
     }
 }
 
-fn rows(alloc: Global, table: TableId, line: &Json) -> Result<RowList, LineError>
+fn rows(alloc: Global, table: TableId, line: &Json) -> Result<RowList, JsonLineError>
     ensures { Reads (rows_of (columns_of table.0) (view line.now)) result }
 {
     let items = line
         .get("rows")
-        .ok_or(LineError::BadLine)?
+        .ok_or(JsonLineError::BadLine)?
         .as_array()
-        .ok_or(LineError::BadLine)?;
+        .ok_or(JsonLineError::BadLine)?;
     all_rows(alloc, table, items.as_slice())
 }
 
-fn all_rows(alloc: Global, table: TableId, items: &[Json]) -> Result<RowList, LineError>
+fn all_rows(alloc: Global, table: TableId, items: &[Json]) -> Result<RowList, JsonLineError>
     ensures { Reads (all_there (map (λ item. row_of (columns_of table.0) (view item)) items.now)) result }
 {
     let mut rows = RowList::new(alloc);
@@ -80,17 +80,17 @@ fn all_rows(alloc: Global, table: TableId, items: &[Json]) -> Result<RowList, Li
     Ok(rows)
 }
 
-fn row(alloc: Global, table: TableId, item: &Json) -> Result<Row, LineError>
+fn row(alloc: Global, table: TableId, item: &Json) -> Result<Row, JsonLineError>
     ensures { Reads (row_of (columns_of table.0) (view item.now)) result }
 {
     if item.is_object() {
         cells(alloc, columns(table), item)
     } else {
-        Err(LineError::BadLine)
+        Err(JsonLineError::BadLine)
     }
 }
 
-fn cells(alloc: Global, columns: &[ColumnDesc], item: &Json) -> Result<Row, LineError>
+fn cells(alloc: Global, columns: &[ColumnDesc], item: &Json) -> Result<Row, JsonLineError>
     ensures { Reads (all_there (map (λ desc. cell_of desc.affinity (get desc.name.now (view item.now))) columns.now)) result }
 {
     let mut cells = Row::new(alloc);
@@ -100,7 +100,7 @@ fn cells(alloc: Global, columns: &[ColumnDesc], item: &Json) -> Result<Row, Line
     Ok(cells.shared(alloc)?)
 }
 
-fn cell(alloc: Global, column: &ColumnDesc, item: &Json) -> Result<Value, LineError>
+fn cell(alloc: Global, column: &ColumnDesc, item: &Json) -> Result<Value, JsonLineError>
     ensures { Reads (cell_of column.now.affinity (get column.now.name.now (view item.now))) result }
 {
     match item.get(column.name) {
@@ -112,7 +112,7 @@ fn cell(alloc: Global, column: &ColumnDesc, item: &Json) -> Result<Value, LineEr
     }
 }
 
-fn integer_cell(alloc: Global, value: &Json) -> Result<Value, LineError>
+fn integer_cell(alloc: Global, value: &Json) -> Result<Value, JsonLineError>
     ensures { Reads (integer_cell (Some (view value.now))) result }
 {
     if value.is_null() {
@@ -120,7 +120,7 @@ fn integer_cell(alloc: Global, value: &Json) -> Result<Value, LineError>
     }
     match value.as_str() {
         Some(text) => Ok(spelled(alloc, text)?),
-        None => value.as_i64().map(Value::Int).ok_or(LineError::BadLine),
+        None => value.as_i64().map(Value::Int).ok_or(JsonLineError::BadLine),
     }
 }
 
@@ -137,7 +137,7 @@ fn spelled(alloc: Global, text: &str) -> Result<Value, NoMemory>
     }
 }
 
-fn text_cell(alloc: Global, value: &Json) -> Result<Value, LineError>
+fn text_cell(alloc: Global, value: &Json) -> Result<Value, JsonLineError>
     ensures { Reads (text_cell (Some (view value.now))) result }
 {
     if value.is_null() {
@@ -150,12 +150,12 @@ fn text_cell(alloc: Global, value: &Json) -> Result<Value, LineError>
 }
 
 /// The decimal text of a whole number.
-fn decimal(alloc: Global, value: &Json) -> Result<Str, LineError>
+fn decimal(alloc: Global, value: &Json) -> Result<Str, JsonLineError>
     ensures { Reads (option_map signed_decimal (option_and_then as_integer (as_number (view value.now)))) result }
 {
     if let Some(number) = value.as_u64() {
         return Ok(Str::from_string(number.to_string(alloc)?));
     }
-    let number = value.as_i64().ok_or(LineError::BadLine)?;
+    let number = value.as_i64().ok_or(JsonLineError::BadLine)?;
     Ok(Str::from_string(number.to_string(alloc)?))
 }

@@ -7,8 +7,8 @@ ghost use Rattle.publisher_core.specs.Records.{ChangeGives, TableGives, skipped_
 
 use crate::record::{Gain, Record};
 use crate::subscription::{Callback, Subscription};
-use audit_records::{AuditLine, read_line};
-use change_records::{LineError, read_change, read_table};
+use audit_records::{AuditLine, AuditLineError, read_line};
+use change_records::{JsonLineError, read_change, read_table};
 use osq_value::{NoMemory, Reading};
 use record_lines::Cut;
 use std::alloc::Global;
@@ -37,8 +37,8 @@ pub fn change_gain<C: Callback>(
         return Ok(SKIPPED);
     };
     match read_change(alloc, line.text.as_slice()) {
-        Err(LineError::NoMemory) => Err(NoMemory),
-        Err(LineError::BadLine) => Ok(SKIPPED),
+        Err(JsonLineError::NoMemory) => Err(NoMemory),
+        Err(JsonLineError::BadLine) => Ok(SKIPPED),
         Ok(change) => match subscription.event_of(alloc, &Record::Change(change)) {
             Err(NoMemory) => Err(NoMemory),
             Ok(event) => Ok(Gain::Event { event, skipped: 0 }),
@@ -54,8 +54,8 @@ pub fn table_gain(alloc: Global, cut: &Cut) -> Result<Gain, NoMemory>
         return Ok(SKIPPED);
     };
     match read_table(alloc, line.text.as_slice()) {
-        Err(LineError::NoMemory) => Err(NoMemory),
-        Err(LineError::BadLine) => Ok(SKIPPED),
+        Err(JsonLineError::NoMemory) => Err(NoMemory),
+        Err(JsonLineError::BadLine) => Ok(SKIPPED),
         Ok(
             Reading::Table {
                 taken: _,
@@ -76,7 +76,7 @@ pub fn audit_line(alloc: Global, cut: &Cut) -> Result<Option<AuditLine>, NoMemor
     };
     match read_line(alloc, line.text.as_slice()) {
         Ok(line) => Ok(Some(line)),
-        Err(audit_records::LineError::BadLine) => Ok(None),
-        Err(audit_records::LineError::NoMemory) => Err(NoMemory),
+        Err(AuditLineError::BadLine) => Ok(None),
+        Err(AuditLineError::NoMemory) => Err(NoMemory),
     }
 }

@@ -2,7 +2,7 @@
 
 use crate::given::Given;
 use crate::readings::push_maybe_event;
-use audit_records::{AuditGroup, AuditLine, LineError, group_event, read_line};
+use audit_records::{AuditGroup, AuditLine, AuditLineError, group_event, read_line};
 use osq_value::{Copied, NoMemory};
 use std::alloc::Global;
 
@@ -10,8 +10,8 @@ use std::alloc::Global;
 fn line_of(alloc: Global, text: &[u8]) -> Result<Option<AuditLine>, NoMemory> {
     match read_line(alloc, text) {
         Ok(line) => Ok(Some(line)),
-        Err(LineError::BadLine) => Ok(None),
-        Err(LineError::NoMemory) => Err(NoMemory),
+        Err(AuditLineError::BadLine) => Ok(None),
+        Err(AuditLineError::NoMemory) => Err(NoMemory),
     }
 }
 

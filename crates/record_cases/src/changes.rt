@@ -3,16 +3,16 @@
 use crate::given::Given;
 use crate::readings::push_maybe_event;
 use case_text::{member_text, push_row, push_rows, push_value};
-use change_records::{Change, LineError, change_event, path_matches, read_change, read_table};
+use change_records::{Change, JsonLineError, change_event, path_matches, read_change, read_table};
 use osq_value::{NoMemory, Reading};
 use serde_json::Value as Json;
 use std::alloc::Global;
 
 /// Says that a line is refused, or that memory is wanting.
-fn push_refused(text: &mut String, error: LineError) -> Result<(), NoMemory> {
+fn push_refused(text: &mut String, error: JsonLineError) -> Result<(), NoMemory> {
     match error {
-        LineError::BadLine => Ok(text.push_str("  refused\n")?),
-        LineError::NoMemory => Err(NoMemory),
+        JsonLineError::BadLine => Ok(text.push_str("  refused\n")?),
+        JsonLineError::NoMemory => Err(NoMemory),
     }
 }
 
