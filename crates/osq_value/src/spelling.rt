@@ -27,17 +27,24 @@ pub fn int_spelling(text: &[u8]) -> Option<i64>
 fn positive(digits: &[u8]) -> Option<i64>
     ensures { result ≡ positive_of digits.now }
 {
-    i64::try_from(magnitude(digits)?).ok()
+    i64::try_from(digits_number(digits)?).ok()
 }
 
 fn negative(digits: &[u8]) -> Option<i64>
     ensures { result ≡ negative_of digits.now }
 {
-    0i64.checked_sub_unsigned(magnitude(digits)?)
+    0i64.checked_sub_unsigned(digits_number(digits)?)
 }
 
-/// The number of a numeral below 2^64.
-fn magnitude(digits: &[u8]) -> Option<u64>
+/// The number that decimal digits spell, which may begin with zeros. None exactly where there is no byte, a byte is no digit, or the
+/// number is 2^64 or more.
+///
+/// ```
+/// digits_number(b"007")                   // Some(7)
+/// digits_number(b"+7")                    // None
+/// digits_number(b"18446744073709551616")  // None
+/// ```
+pub fn digits_number(digits: &[u8]) -> Option<u64>
     ensures { result ≡ number_below (2 ^ 64) digits.now }
 {
     if digits.is_empty() || !are_digits(digits) {

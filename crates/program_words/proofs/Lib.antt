@@ -1,5 +1,4 @@
 pub mod Conditions
-pub mod Digits
 pub mod Mapped
 pub mod Orders
 pub mod Sources

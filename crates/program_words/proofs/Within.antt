@@ -16,7 +16,8 @@ use Rattle.program_words.specs.declared.command.CommandWords.{CommandWords}
 use Rattle.program_words.specs.declared.command.CommandWords.TheVariants.{Replay as AsReplay, Query as AsQuery, Check as AsCheck}
 use Rattle.osq_value.specs.declared.source.SourceKind.{SourceKind}
 use Rattle.osq_value.specs.declared.source.SourceKind.TheVariants.{Audit as AuditLog, Changes as ChangeList, Tables as TableLines}
-use Rattle.program_words.specs.Texts.{digits_value, is_number, is_text, number_in}
+use Rattle.osq_value.specs.Spelling.{value_of as digits_value}
+use Rattle.program_words.specs.Texts.{is_number, is_text, number_in}
 use Rattle.program_words.specs.Names.{is_source, place, same_name, takes}
 use Rattle.program_words.specs.Given.{Given, fits, is_named, none_repeats, options_of, number_of, number_or, number_taken, stands, value_of, value_or}
 use Rattle.program_words.specs.Commands.{are_options, asked_by, check_of, command_named, command_with, has_few_sources, has_option, has_refused, has_required, is_right, paths_in, query_of, replay_of, required, sources_named, sources_of, words_of}
