@@ -1,7 +1,8 @@
 -- The catalogue, the spellings and the casts on known values.
-use Rattle.std.proofs.Common.{◌≡◌, ℕ, Bool, true, false, List, [], ◌∷◌, map, refl, codes, pos, negsuc, Some, None}
+use Rattle.std.proofs.Common.{◌≡◌, ℕ, ◌+◌, ◌-◌, ◌*◌, ◌/◌, Bool, true, false, List, [], ◌∷◌, map, refl, codes, pos, negsuc, Some, None}
 use Rattle.osq_value.specs.declared.catalogue.TableKind.{TableKind}
 use Rattle.osq_value.specs.declared.catalogue.TableKind.TheVariants.{Evented, Recorded, Computed}
+use Rattle.osq_value.specs.declared.moment.TheConstants.{LAST_MOMENT}
 use Rattle.osq_value.specs.declared.value.TableId.{TableId}
 use Rattle.osq_value.specs.declared.value.TheConstants.TableId.{PROCESS_EVENTS, SOCKET_EVENTS, FILE_EVENTS, USERS, GROUPS, USER_GROUPS, PROCESSES, LISTENING_PORTS, SYSTEM_INFO, OS_VERSION, DEB_PACKAGES, LOGGED_IN_USERS, TIME, OSQUERY_SCHEDULE, OSQUERY_EVENTS, NONE}
 use Rattle.osq_value.specs.Casts.{number_of}
@@ -86,3 +87,11 @@ no_digit = refl
 far_below : number_of (codes "-99999999999999999999") ≡ negsuc 9223372036854775807
 unfolding number_of
 far_below = refl
+
+leap_years_to : ℕ → ℕ
+leap_years_to year = year / 4 - year / 100 + year / 400
+
+-- the year 9999 ends with it: 8030 years from 1970 on, with a day more in each leap year
+last_moment : LAST_MOMENT + 1 ≡ (365 * 8030 + (leap_years_to 9999 - leap_years_to 1969)) * 86400
+unfolding leap_years_to
+last_moment = refl
