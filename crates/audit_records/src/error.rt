@@ -1,6 +1,6 @@
 use osq_value::NoMemory;
 
-/// Why a line wasn't read: it isn't in the grammar, or memory was wanting.
+/// Why a line of an audit log wasn't read: it isn't in the grammar, or memory was wanting.
 #[derive(Clone, Copy)]
 pub enum AuditLineError {
     /// The bytes aren't a line of the grammar.

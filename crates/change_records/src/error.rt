@@ -1,7 +1,7 @@
 use osq_value::NoMemory;
 use std::alloc::AllocError;
 
-/// Why a line wasn't read: it isn't in the form, or memory was wanting.
+/// Why a line of JSON wasn't read: it isn't in the form, or memory was wanting.
 #[derive(Clone, Copy)]
 pub enum JsonLineError {
     /// The bytes aren't a JSON object of the line's form.
