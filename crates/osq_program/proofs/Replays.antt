@@ -223,7 +223,7 @@ same_name sources place name source named there =
     ap (λ (s : SourceName). s.name) (same_Some source named.source (sym there ∙ named.there)) ∙ sym named.name_is
 
 -- a source that shrank, by the words
-pub shrank_by : {S : Type 0} (left : S → List ℕ) (sources : List SourceName) (told : Told) (names : List SourceName) (objects : List S) (taken : List Taken) (place kept found : ℕ) (name : List ℕ) → names ≡ map source_in sources
+pub shrank_by : {S : Type 0} (left : S → List ℕ) (sources : List SourceName) (told : Told) (names : List SourceName) (objects : List S) (taken : List Taken) (place kept found : ℕ) (name : List ℕ) → names ≡ sources
     → told.all_bytes ≡ map left objects → (told.keeper_tells → taken ≡ (summary told.kept_before).taken)
     → starting.HasShrunk told.source_tells left taken names place kept found objects → IsNamedAt sources place name → HasShrunk sources told name kept found
 shrank_by left sources told names objects taken place kept found name is bytes taken_there h named =
