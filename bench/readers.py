@@ -38,10 +38,9 @@ PROGRAM = """\
 #![tactic(auto)]
 
 use osq_outside::{FileSource, Source};
-use osq_value::{Category, CategoryList, NoMemory, Reading, ReadingList, Str, TextList};
+use osq_value::{Category, CategoryList, NoMemory, Reading, ReadingList, SourceKind, Str, TextList};
 use publisher_core::error::StepError;
 use publisher_core::publisher::Publisher;
-use publisher_core::record::SourceKind;
 use publisher_core::subscription::{Recorded, Subscription};
 use std::alloc::Global;
 use std::fs::File;

@@ -50,8 +50,6 @@ const LIVE: u64 = @LIVE@;
 
 const CUTS: u64 = @CUTS@;
 
-const FILES: TableId = TableId(2);
-
 const PATHS: &str = "SELECT target_path FROM file_events";
 
 #[tactic(auto, unfolding(sql_texts::specs::Meaning::is_accepted, sql_texts::specs::Meaning::names_evented))]
@@ -116,7 +114,7 @@ fn file(alloc: Global, path: &str) -> Result<Event, NoMemory>
     row.push(Value::Null)?;
     row.push(Value::Null)?;
     row.push(Value::Null)?;
-    Ok(Event { table: FILES, row })
+    Ok(Event { table: TableId::FILE_EVENTS, row })
 }
 
 fn reading(alloc: Global, taken: u64, count: u64) -> Result<Reading, NoMemory>

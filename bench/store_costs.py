@@ -36,8 +36,6 @@ use std::alloc::Global;
 use std::io;
 use std::time::{Clock, Instant};
 
-const FILES: TableId = TableId(2);
-
 /// One change of a file.
 #[tactic(auto, unfolding(osq_value::specs::Catalogue::width_of, osq_value::specs::Catalogue::columns_of, osq_value::specs::Catalogue::tables))]
 fn change(alloc: Global) -> Result<Event, NoMemory>
@@ -54,7 +52,7 @@ fn change(alloc: Global) -> Result<Event, NoMemory>
     row.push(Value::Null)?;
     row.push(Value::Null)?;
     row.push(Value::Null)?;
-    Ok(Event { table: FILES, row })
+    Ok(Event { table: TableId::FILE_EVENTS, row })
 }
 
 /// So many changes.
@@ -116,8 +114,8 @@ fn time_expiry<R: Clock>(rt: &R, alloc: Global, old: u64, live: u64) -> Result<u
     let Ok(start) = Instant::now(rt) else {
         return Err(NoMemory);
     };
-    let floor = image.floor_owed(FILES, 500, 1_000_000_000, 2000);
-    image.expire(FILES, floor.unwrap_or(0));
+    let floor = image.floor_owed(TableId::FILE_EVENTS, 500, 1_000_000_000, 2000);
+    image.expire(TableId::FILE_EVENTS, floor.unwrap_or(0));
     let Ok(taken) = start.elapsed(rt) else {
         return Err(NoMemory);
     };
