@@ -38,5 +38,5 @@ own_group lines = if is_ended lines then Some lines else None
 
 -- These groups were given for these lines: whatever lines come, the groups given and those of the lines that are held and come are the
 -- groups of all lines.
-abbrev pub Stands : List (List AuditLine) → List AuditLine → List AuditLine → Type 0
-Stands given pushed held = (coming : List AuditLine) → given ++ groups_behind held coming ≡ groups_of (pushed ++ coming)
+abbrev pub HasGrouped : List (List AuditLine) → List AuditLine → List AuditLine → Type 0
+HasGrouped given pushed held = (coming : List AuditLine) → given ++ groups_behind held coming ≡ groups_of (pushed ++ coming)

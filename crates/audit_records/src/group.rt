@@ -2,7 +2,7 @@
 ghost use Rattle.std.specs.Prelude.{◌≡◌, if◌then◌else◌, ◌∷◌, ◌++◌, [], List, OnOk, OnErr, IfOk, Some, None};
 ghost use Rattle.std.specs.Option.{option_to_list};
 ghost use Rattle.audit_records.specs.declared.line.AuditLine.{AuditLine};
-ghost use Rattle.audit_records.specs.Groups.{Stands, ends_by_kind, goes_on, groups_behind, groups_of, is_ended, own_group, whole};
+ghost use Rattle.audit_records.specs.Groups.{HasGrouped, ends_by_kind, goes_on, groups_behind, groups_of, is_ended, own_group, whole};
 ghost use Rattle.audit_records.specs.Runs.{AreRunsOf};
 
 use crate::line::AuditLine;
@@ -39,7 +39,7 @@ impl GroupBuilder {
     /// A builder that holds no line. It takes no memory until a line is pushed.
     pub fn new(alloc: Global) -> Self
         ensures empty { result ≡ [] }
-        ensures stands { Stands [] [] result }
+        ensures stands { HasGrouped [] [] result }
     {
         GroupBuilder {
             alloc,
@@ -52,7 +52,7 @@ impl GroupBuilder {
     /// it was.
     pub fn push(&mut self, line: AuditLine) -> Result<Option<AuditGroup>, NoMemory>
         ensures step { (coming : List AuditLine) → IfOk result (λ group. option_to_list group ++ groups_behind self.new coming ≡ groups_behind self.old (line ∷ coming)) }
-        ensures stands { (given : List (List AuditLine)) → (pushed : List AuditLine) → Stands given pushed self.old → IfOk result (λ group. Stands (given ++ option_to_list group) (pushed ++ line ∷ []) self.new) }
+        ensures stands { (given : List (List AuditLine)) → (pushed : List AuditLine) → HasGrouped given pushed self.old → IfOk result (λ group. HasGrouped (given ++ option_to_list group) (pushed ++ line ∷ []) self.new) }
         ensures before { IfOk result (λ group. group ≡ (if goes_on self.old line then None else Some self.old)) }
         ensures held { OnOk result (self.new ≡ (if goes_on self.old line then self.old ++ line ∷ [] else line ∷ [])) }
         ensures err { OnErr result (self.new ≡ self.old) }
@@ -70,7 +70,7 @@ impl GroupBuilder {
     pub fn finish_own(&mut self) -> Option<AuditGroup>
         ensures own { result ≡ own_group self.old }
         ensures held { self.new ≡ (if is_ended self.old then [] else self.old) }
-        ensures stands { (given : List (List AuditLine)) → (pushed : List AuditLine) → Stands given pushed self.old → Stands (given ++ option_to_list result) pushed self.new }
+        ensures stands { (given : List (List AuditLine)) → (pushed : List AuditLine) → HasGrouped given pushed self.old → HasGrouped (given ++ option_to_list result) pushed self.new }
     {
         if is_ended(self.held.as_slice()) {
             Some(self.take_held())
@@ -84,8 +84,8 @@ impl GroupBuilder {
     pub fn finish(&mut self) -> Option<AuditGroup>
         ensures group { option_to_list result ≡ whole self.old }
         ensures empty { self.new ≡ [] }
-        ensures all { (given : List (List AuditLine)) → (pushed : List AuditLine) → Stands given pushed self.old → given ++ option_to_list result ≡ groups_of pushed }
-        ensures runs { (given : List (List AuditLine)) → (pushed : List AuditLine) → Stands given pushed self.old → AreRunsOf pushed (given ++ option_to_list result) }
+        ensures all { (given : List (List AuditLine)) → (pushed : List AuditLine) → HasGrouped given pushed self.old → given ++ option_to_list result ≡ groups_of pushed }
+        ensures runs { (given : List (List AuditLine)) → (pushed : List AuditLine) → HasGrouped given pushed self.old → AreRunsOf pushed (given ++ option_to_list result) }
     {
         if self.held.as_slice().is_empty() {
             None

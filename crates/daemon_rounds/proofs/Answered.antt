@@ -21,7 +21,7 @@ use Rattle.session_state.specs.declared.state.CommitRefusal.TheVariants.{Superse
 use Rattle.session_state.specs.Kept.{Counts, Kept, IsState, counts_next, due_count}
 use Rattle.session_state.specs.Marks.{IsRising, behind_marks}
 use Rattle.session_state.specs.Rooms.{all_due}
-use Rattle.session_state.specs.Stands.{Stands}
+use Rattle.session_state.specs.StateOf.{IsStateOf}
 use Rattle.session_state.specs.Ticks.{first_due}
 use Rattle.session_state.specs.Cut.{CutValue, batch_of}
 use Rattle.session_state.specs.CutOf.{mark_from}
@@ -29,7 +29,7 @@ use Rattle.session_state.specs.Cutting.{next_place, next_cut, cut_at, cut_of, cl
 use Rattle.session_state.specs.Commits.{Commits, commit_refusal, refusal_by}
 use Rattle.session_state.proofs.Cutting.{contains_at, is_next}
 use Rattle.session_state.proofs.Rooms.{fewer_due}
-use Rattle.daemon_rounds.specs.Adding.{AreFree, Brings}
+use Rattle.daemon_rounds.specs.Adding.{AreFree, AddsEntries}
 use Rattle.daemon_rounds.specs.Answering.{AnswersFirst, IsTellable}
 use Rattle.daemon_rounds.proofs.Adding.{IsLike, brings_none, stands_like}
 use Rattle.daemon_rounds.proofs.Freed.{freed, next_is}
@@ -55,8 +55,8 @@ given s cut h = by_place (next_place s) refl h
     by_place (Some place) e h = by_query place e (slice_get s.schedule.queries place) refl h
 
 -- the cut that was given stands for what the state does
-pub stands_cut : (s : Kept) (found : Option CutValue) (cut : CutValue) → found ≡ Some cut → IfSome found (λ (cut : CutValue). (base : Restored) (added : List Entry) → Stands base added s → CutStands base added cut) → (base : Restored) (added : List Entry) → Stands base added s → CutStands base added cut
-stands_cut s found cut is stands = subst (λ (o : Option CutValue). IfSome o (λ (cut : CutValue). (base : Restored) (added : List Entry) → Stands base added s → CutStands base added cut)) is stands
+pub stands_cut : (s : Kept) (found : Option CutValue) (cut : CutValue) → found ≡ Some cut → IfSome found (λ (cut : CutValue). (base : Restored) (added : List Entry) → IsStateOf base added s → CutStands base added cut) → (base : Restored) (added : List Entry) → IsStateOf base added s → CutStands base added cut
+stands_cut s found cut is stands = subst (λ (o : Option CutValue). IfSome o (λ (cut : CutValue). (base : Restored) (added : List Entry) → IsStateOf base added s → CutStands base added cut)) is stands
 
 behind_least : (from : ℕ) (marks : List ℕ) → IsRising from marks → from ≤ behind_marks from marks
 behind_least from [] rising = omega arith
@@ -119,7 +119,7 @@ module _ (s : Kept) (is : IsState s) (cut : CutValue) (g : IsGiven s cut) (t : K
   pub spent : (refusal : CommitRefusal) → commit_refusal t cut ≡ Some refusal → 2 ^ 62 < s.counts.batches + 1
   spent refusal h = subst (λ (c : Counts). 2 ^ 62 < c.batches + 1) like.counts (only_spent refusal h).1
 
-  module _ (rows : List (List Value)) (new : Kept) (c : Commits t cut rows new) (cuts : (base : Restored) (added : List Entry) → Stands base added s → CutStands base added cut) where
+  module _ (rows : List (List Value)) (new : Kept) (c : Commits t cut rows new) (cuts : (base : Restored) (added : List Entry) → IsStateOf base added s → CutStands base added cut) where
     abbrev batch : Batch
     batch = batch_of cut (t.counts.batches + 1) rows
 
@@ -129,11 +129,11 @@ module _ (s : Kept) (is : IsState s) (cut : CutValue) (g : IsGiven s cut) (t : K
         let are : new.claims ≡ set (set s.claims g.place true) g.place false = claims ∙ (λ i. set (claimed_is i).claims (g.is i).place false) in
         subst AreFree (sym are) (freed s.claims g.place free)
 
-    pub brings_batch : new.claims ≡ set t.claims cut.place false → Brings s (Committed batch ∷ []) new
+    pub brings_batch : new.claims ≡ set t.claims cut.place false → AddsEntries s (Committed batch ∷ []) new
     brings_batch claims = record {
       stands = λ base added stands.
-          let at = c.stands base added [] (cuts base added stands) (subst (λ (es : List Entry). Stands base es t) (sym (append-nil added)) (stands_like s t like base added stands)) in
-          subst (λ (es : List Entry). Stands base (es ++ Committed batch ∷ []) new) (append-nil added) at;
+          let at = c.stands base added [] (cuts base added stands) (subst (λ (es : List Entry). IsStateOf base es t) (sym (append-nil added)) (stands_like s t like base added stands)) in
+          subst (λ (es : List Entry). IsStateOf base (es ++ Committed batch ∷ []) new) (append-nil added) at;
       counts = c.moves.counts ∙ ap (λ (k : Counts). counts_next k (Committed batch)) like.counts;
       schedule = c.moves.schedule ∙ like.schedule;
       ticked = c.moves.ticked ∙ like.ticked;
@@ -185,7 +185,7 @@ due_claimed s None = refl
 due_claimed s (Some place) = refl
 
 -- where no query is due, none is cut, and nothing is added
-pub none_due : (s t : Kept) → IsState s → t ≡ claimed_at s (next_place s) → first_due s ≡ None → (first_due t ≡ None) × Brings s [] t
+pub none_due : (s t : Kept) → IsState s → t ≡ claimed_at s (next_place s) → first_due s ≡ None → (first_due t ≡ None) × AddsEntries s [] t
 none_due s t is claimed none =
     (ap first_due claimed ∙ due_claimed s (next_place s) ∙ none, brings_none s t (subst (IsLike s) (sym claimed) (claimed_like s (next_place s))) free_after)
   where

@@ -10,7 +10,7 @@ use Rattle.entry_model.specs.declared.restored.Taken.{Taken}
 use Rattle.entry_model.specs.Next.{offset_at, with_offset}
 use Rattle.session_state.specs.Kept.{Counts, Kept, counts_next}
 use Rattle.session_state.specs.Readings.{IsReading, entry_of, event_count, taken_of}
-use Rattle.daemon_rounds.specs.Adding.{Brings}
+use Rattle.daemon_rounds.specs.Adding.{AddsEntries}
 use Rattle.daemon_rounds.specs.Appending.{AreRising, Exceeds, end_behind, entries_of}
 use Rattle.daemon_rounds.proofs.Adding.{brings_same, brings_then}
 use Rattle.daemon_rounds.proofs.Offsets.{offset_here, offset_other}
@@ -19,7 +19,7 @@ use Rattle.daemon_rounds.proofs.Offsets.{offset_here, offset_other}
 pub record AreAppended (s : Kept) (source : List ℕ) (all rest : List Reading) (t : Kept) : Type 0 where
   pub done : List Reading
   pub whole : all ≡ done ++ rest
-  pub brings : Brings s (entries_of source s.counts.moment done) t
+  pub brings : AddsEntries s (entries_of source s.counts.moment done) t
   pub moment : t.counts.moment ≡ s.counts.moment
   pub offset : offset_at t.counts.taken source ≡ end_behind (offset_at s.counts.taken source) done
   pub others : (other : List ℕ) → bytes_eq source other ≡ false → offset_at t.counts.taken other ≡ offset_at s.counts.taken other
@@ -51,11 +51,11 @@ end-push : (offset : ℕ) (done : List Reading) (reading : Reading) → end_behi
 end-push offset [] reading = refl
 end-push offset (first ∷ done) reading = end-push (taken_of first) done reading
 
-pub one_appended : (s : Kept) (source : List ℕ) (all rest : List Reading) (reading : Reading) (t u : Kept) → AreAppended s source all (reading ∷ rest) t → Brings t (entries_of source t.counts.moment (reading ∷ [])) u → AreAppended s source all rest u
+pub one_appended : (s : Kept) (source : List ℕ) (all rest : List Reading) (reading : Reading) (t u : Kept) → AreAppended s source all (reading ∷ rest) t → AddsEntries t (entries_of source t.counts.moment (reading ∷ [])) u → AreAppended s source all rest u
 one_appended s source all rest reading t u so more = record {
   done = so.done ++ reading ∷ [];
   whole = so.whole ∙ sym (append_assoc so.done (reading ∷ []) rest);
-  brings = subst (λ (es : List Entry). Brings s es u) (sym (map-append (entry_of source s.counts.moment) so.done (reading ∷ []))) (brings_then s t u (entries_of source s.counts.moment so.done) (entries_of source s.counts.moment (reading ∷ [])) so.brings (subst (λ (m : ℕ). Brings t (entries_of source m (reading ∷ [])) u) so.moment more));
+  brings = subst (λ (es : List Entry). AddsEntries s es u) (sym (map-append (entry_of source s.counts.moment) so.done (reading ∷ []))) (brings_then s t u (entries_of source s.counts.moment so.done) (entries_of source s.counts.moment (reading ∷ [])) so.brings (subst (λ (m : ℕ). AddsEntries t (entries_of source m (reading ∷ [])) u) so.moment more));
   moment = ap (λ (c : Counts). c.moment) more.counts ∙ moment_kept t.counts source t.counts.moment reading ∙ so.moment;
   offset = ends ∙ sym (end-push (offset_at s.counts.taken source) so.done reading);
   others = λ other differs. ap (λ (taken : List Taken). offset_at taken other) taken_now ∙ offset_other source (taken_of reading) other differs t.counts.taken ∙ so.others other differs;
@@ -71,7 +71,7 @@ one_appended s source all rest reading t u so more = record {
 
 -- all of them are appended
 pub record AreAllAppended (s : Kept) (source : List ℕ) (all : List Reading) (t : Kept) : Type 0 where
-  pub brings : Brings s (entries_of source s.counts.moment all) t
+  pub brings : AddsEntries s (entries_of source s.counts.moment all) t
   pub offset : offset_at t.counts.taken source ≡ end_behind (offset_at s.counts.taken source) all
   pub others : (other : List ℕ) → bytes_eq source other ≡ false → offset_at t.counts.taken other ≡ offset_at s.counts.taken other
 
@@ -79,7 +79,7 @@ pub all_appended : (s : Kept) (source : List ℕ) (all rest : List Reading) (t :
 all_appended s source all rest t none so =
     let same : so.done ≡ all = sym (append-nil so.done) ∙ ap (λ (rs : List Reading). so.done ++ rs) (sym none) ∙ sym so.whole in
     record {
-      brings = subst (λ (rs : List Reading). Brings s (entries_of source s.counts.moment rs) t) same so.brings;
+      brings = subst (λ (rs : List Reading). AddsEntries s (entries_of source s.counts.moment rs) t) same so.brings;
       offset = so.offset ∙ ap (end_behind (offset_at s.counts.taken source)) same;
       others = so.others;
     }
@@ -91,6 +91,6 @@ exceeds s source all readings rest reading t u same so still beyond = record {
   next = reading;
   rest = rest;
   are = sym same ∙ so.whole;
-  brings = subst (Brings s (entries_of source s.counts.moment so.done)) (sym still) so.brings;
+  brings = subst (AddsEntries s (entries_of source s.counts.moment so.done)) (sym still) so.brings;
   beyond = beyond;
 }

@@ -12,10 +12,10 @@ use Rattle.entry_model.specs.Summary.{summary}
 use Rattle.entry_model.specs.Views.{view_of}
 use Rattle.event_store.specs.Contents.{Shown, rows_in}
 use Rattle.session_state.specs.Kept.{IsState, Kept}
-use Rattle.session_state.specs.Stands.{Adds, HasValues, Stands}
+use Rattle.session_state.specs.StateOf.{Adds, HasValues, IsStateOf}
 use Rattle.session_state.specs.Computed.{shown_by}
 use Rattle.session_state.proofs.Shown.{shows}
-use Rattle.daemon_rounds.specs.Adding.{Brings}
+use Rattle.daemon_rounds.specs.Adding.{AddsEntries}
 use Rattle.daemon_rounds.specs.Configuring.{Configures, IsScheduleOver, tables_of}
 use Rattle.daemon_rounds.proofs.Adding.{all_free, brings_one}
 

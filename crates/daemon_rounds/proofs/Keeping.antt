@@ -15,10 +15,10 @@ use Rattle.entry_model.specs.Views.{is_evented_table}
 use Rattle.entry_model.proofs.Follows.{Legal-front}
 use Rattle.session_state.specs.Kept.{IsState, Kept}
 use Rattle.session_state.specs.Readings.{entry_of}
-use Rattle.session_state.specs.Stands.{Adds, Stands}
+use Rattle.session_state.specs.StateOf.{Adds, IsStateOf}
 use Rattle.session_state.specs.Ticks.{first_due, owed_at}
 use Rattle.session_state.specs.Expiries.{expiry_of, expiries}
-use Rattle.daemon_rounds.specs.Adding.{Brings}
+use Rattle.daemon_rounds.specs.Adding.{AddsEntries}
 use Rattle.daemon_rounds.specs.Answering.{AnswersDue, AreOwn, committed_all}
 use Rattle.daemon_rounds.specs.Appending.{entries_of}
 use Rattle.daemon_rounds.specs.Keeping.{GoesOn, Settles}
@@ -34,11 +34,11 @@ may_seal tells kept s g told legal =
     subst Legal (sym (ap (λ (es : List Entry). es ++ s.tail) list.is ∙ append_assoc list.before g.sealed s.tail)) whole
 
 -- it goes on with what it gains
-pub still_on : (tells : Type 0) (kept : List Entry) (s t : Kept) (es : List Entry) → GoesOn tells kept s → Brings s es t → GoesOn tells kept t
+pub still_on : (tells : Type 0) (kept : List Entry) (s t : Kept) (es : List Entry) → GoesOn tells kept s → AddsEntries s es t → GoesOn tells kept t
 still_on tells kept s t es g more = record {
   base = g.base;
   sealed = g.sealed;
-  stands = subst (λ (added : List Entry). Stands g.base added t) (append_assoc g.sealed s.tail es ∙ ap (λ (tail : List Entry). g.sealed ++ tail) (sym more.tail)) (more.stands g.base (g.sealed ++ s.tail) g.stands);
+  stands = subst (λ (added : List Entry). IsStateOf g.base added t) (append_assoc g.sealed s.tail es ∙ ap (λ (tail : List Entry). g.sealed ++ tail) (sym more.tail)) (more.stands g.base (g.sealed ++ s.tail) g.stands);
   list = g.list;
 }
 
@@ -47,7 +47,7 @@ pub sealed_on : (tells : Type 0) (kept : List Entry) (s : Kept) → GoesOn tells
 sealed_on tells kept s g = record {
   base = g.base;
   sealed = g.sealed ++ s.tail;
-  stands = subst (λ (added : List Entry). Stands g.base added (record s { tail = [] })) (sym (append-nil (g.sealed ++ s.tail))) (record {
+  stands = subst (λ (added : List Entry). IsStateOf g.base added (record s { tail = [] })) (sym (append-nil (g.sealed ++ s.tail))) (record {
     values = λ before legal same. let h = g.stands.values before legal same in record { legal = h.legal; counts = h.counts; image = h.image; schedule = h.schedule; ticked = h.ticked };
     marks = g.stands.marks;
     position = g.stands.position;
@@ -74,7 +74,7 @@ expiry_tellable s table rest tellable = by_owed (owed_at s table)
 expiries_tellable : (s : Kept) → AreTellable (expiries s)
 expiries_tellable s = expiry_tellable s 0 _ (expiry_tellable s 1 _ (expiry_tellable s 2 [] tt))
 
-pub settles : (s t u : Kept) → IsState t → AnswersDue s t → Brings t (expiries t) u → first_due u ≡ first_due t → ((table : ℕ) → is_evented_table table ≡ true → owed_at u table ≡ None) → Settles s u
+pub settles : (s t u : Kept) → IsState t → AnswersDue s t → AddsEntries t (expiries t) u → first_due u ≡ first_due t → ((table : ℕ) → is_evented_table table ≡ true → owed_at u table ≡ None) → Settles s u
 settles s t u is answers expired same owed = record {
   batches = answers.batches;
   between = t;

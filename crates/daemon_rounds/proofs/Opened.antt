@@ -16,9 +16,9 @@ use Rattle.entry_model.specs.Values.{last_of, tick_in}
 use Rattle.entry_model.specs.Views.{is_evented_table}
 use Rattle.entry_model.proofs.Lasts.{last_of-append}
 use Rattle.session_state.specs.Kept.{Counts, Kept}
-use Rattle.session_state.specs.Stands.{Begins, Stands}
+use Rattle.session_state.specs.StateOf.{Begins, IsStateOf}
 use Rattle.session_state.specs.Ticks.{first_due, owed_at}
-use Rattle.daemon_rounds.specs.Adding.{Brings, counts_after}
+use Rattle.daemon_rounds.specs.Adding.{AddsEntries, counts_after}
 use Rattle.daemon_rounds.specs.Appending.{entries_of}
 use Rattle.daemon_rounds.specs.Keeping.{GoesOn}
 use Rattle.daemon_rounds.specs.Telling.{AreTellable}
@@ -85,7 +85,7 @@ module _ {S : Type 0} (tells : Type 0) (left : S → List ℕ) (faults : S → �
       round_is : round_entries begun.counts.moment tables.turns ≡ round_entries restored.moment tables.turns
       round_is = ap (λ (at : ℕ). round_entries at tables.turns) begun_moment
 
-      stands : Stands restored (opened ∷ round_entries begun.counts.moment tables.turns ++ configured ∷ []) state
+      stands : IsStateOf restored (opened ∷ round_entries begun.counts.moment tables.turns ++ configured ∷ []) state
       stands =
           configures.brings.stands restored (opened ∷ round_entries begun.counts.moment tables.turns) (tables.brings.stands restored (opened ∷ []) begins.stands)
 
@@ -95,7 +95,7 @@ module _ {S : Type 0} (tells : Type 0) (left : S → List ℕ) (faults : S → �
 
       is_opened : IsOpened restored (opening_entries restored tables.turns documents configures.schedule moment) state
       is_opened = record {
-        stands = subst (λ (es : List Entry). Stands restored (opened ∷ es ++ configured ∷ []) state) round_is stands;
+        stands = subst (λ (es : List Entry). IsStateOf restored (opened ∷ es ++ configured ∷ []) state) round_is stands;
         tail = tail_is ∙ ap (λ (es : List Entry). opened ∷ es ++ configured ∷ []) round_is;
         tellable = tellable-append (opened ∷ round_entries restored.moment tables.turns) (configured ∷ []) (tt, round_tellable restored.moment tables.turns) (tt, tt);
         unticked = configures.brings.ticked ∙ tables.brings.ticked ∙ round_ticked begun.ticked begun.counts.moment tables.turns ∙ begins.ticked;
@@ -114,7 +114,7 @@ pub opened_goes_on : (tells : Type 0) (kept : List Entry) (restored : Restored) 
 opened_goes_on tells kept restored entries state is same = record {
   base = restored;
   sealed = [];
-  stands = subst (λ (es : List Entry). Stands restored es state) (sym is.tail) is.stands;
+  stands = subst (λ (es : List Entry). IsStateOf restored es state) (sym is.tail) is.stands;
   list = λ told. record { before = kept; is = sym (append-nil kept); same = sym (same told) };
 }
 

@@ -14,7 +14,7 @@ use Rattle.entry_model.specs.declared.restored.Taken.{Taken}
 use Rattle.entry_model.specs.Fits.{IsDistinct}
 use Rattle.entry_model.specs.Next.{offset_at}
 use Rattle.session_state.specs.Kept.{Counts, Kept}
-use Rattle.daemon_rounds.specs.Adding.{Brings}
+use Rattle.daemon_rounds.specs.Adding.{AddsEntries}
 use Rattle.daemon_rounds.specs.Appending.{entries_of}
 use Rattle.daemon_rounds.specs.Turns.{HasTooMuch, HasTurn, IsGoing, IsTurn, Turn, turn_entries, turn_of}
 use Rattle.daemon_rounds.specs.Rounding.{AreGoing, FailsAt, Front, Overflows, Rounds, names_of, round_entries}
@@ -75,7 +75,7 @@ pub record AreUnderWay {S : Type 0} (tells : Type 0) (left : S → List ℕ) (fa
   pub gone : length turns ≡ at
   pub front : Front feeds nexts sources rests turns
   pub each : All (IsTurn tells left faults which most) turns
-  pub brings : Brings s (round_entries s.counts.moment turns) t
+  pub brings : AddsEntries s (round_entries s.counts.moment turns) t
   pub moment : t.counts.moment ≡ s.counts.moment
   pub going : AreGoing t.counts.taken nexts
 
@@ -155,7 +155,7 @@ module _ {S : Type 0} (tells : Type 0) (left : S → List ℕ) (faults : S → �
         gone = gone_now;
         front = gone_by turn refl refl refl refl;
         each = All-push (IsTurn tells left faults which most) u.turns turn u.each had.is;
-        brings = subst (λ (entries : List Entry). Brings s entries v) entries_are (brings_then s t v (round_entries s.counts.moment u.turns) (entries_of feed.name t.counts.moment had.readings) u.brings had.brings);
+        brings = subst (λ (entries : List Entry). AddsEntries s entries v) entries_are (brings_then s t v (round_entries s.counts.moment u.turns) (entries_of feed.name t.counts.moment had.readings) u.brings had.brings);
         moment = ap (λ (counts : Counts). counts.moment) had.brings.counts ∙ moment_same t.counts feed.name t.counts.moment had.readings ∙ u.moment;
         going = subst (AreGoing v.counts.taken) (sym nexts_now) (all_still t.counts.taken v.counts.taken feed next going named others before waiting.0 (subst (AreGoing t.counts.taken) nexts_were u.going));
       }

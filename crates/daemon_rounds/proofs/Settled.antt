@@ -17,7 +17,7 @@ use Rattle.event_store.proofs.Expiring.{owed_from, owed_is}
 use Rattle.event_store.proofs.Queues.{all_above}
 use Rattle.event_store.proofs.Images.{live_above}
 use Rattle.session_state.specs.Kept.{Counts, Kept, IsState}
-use Rattle.session_state.specs.Stands.{Adds}
+use Rattle.session_state.specs.StateOf.{Adds}
 use Rattle.session_state.specs.Ticks.{first_due, owed_at}
 use Rattle.session_state.specs.Expiries.{expiry_of, expiries, Stays, AddsAll}
 use Rattle.query_cursors.specs.Due as cursors

@@ -12,7 +12,7 @@ use Rattle.entry_model.specs.declared.restored.Taken.{Taken}
 use Rattle.entry_model.specs.Next.{offset_at}
 use Rattle.session_state.specs.Kept.{Counts, Kept, counts_next}
 use Rattle.session_state.specs.Readings.{IsReading}
-use Rattle.daemon_rounds.specs.Adding.{Brings, counts_after}
+use Rattle.daemon_rounds.specs.Adding.{AddsEntries, counts_after}
 use Rattle.daemon_rounds.specs.Appending.{AreRising, Exceeds, end_behind, entries_of}
 use Rattle.daemon_rounds.specs.Turns.{Gave, HasTooMuch, HasTurn, IsGoing, IsTurn, Plays, takes_part, turn_of}
 use Rattle.daemon_rounds.specs.declared.turning.Which.{Which}
@@ -66,7 +66,7 @@ module _ {S : Type 0} (tells : Type 0) (left : S → List ℕ) (faults : S → �
     later = later;
   }
 
-  pub had_step : (s t : Kept) (readings : List Reading) → takes_part which feed.kind ≡ true → Gave tells (left source) (left rest) feed next most readings → faults source ≤ faults rest → Brings s (entries_of feed.name s.counts.moment readings) t → HasTurn tells left faults which most feed next source rest s t
+  pub had_step : (s t : Kept) (readings : List Reading) → takes_part which feed.kind ≡ true → Gave tells (left source) (left rest) feed next most readings → faults source ≤ faults rest → AddsEntries s (entries_of feed.name s.counts.moment readings) t → HasTurn tells left faults which most feed next source rest s t
   had_step s t readings part gave later brings =
       record { readings = readings; is = is_turn readings part gave later; brings = brings }
 

@@ -8,7 +8,7 @@ use Rattle.entry_model.specs.declared.entry.Entry.TheVariants.{Committed}
 use Rattle.pack_rules.specs.declared.schedule.Scheduled.{Scheduled}
 use Rattle.session_state.specs.Kept.{IsState, Kept}
 use Rattle.session_state.specs.Ticks.{first_due}
-use Rattle.daemon_rounds.specs.Adding.{AreFree, Brings}
+use Rattle.daemon_rounds.specs.Adding.{AreFree, AddsEntries}
 
 -- a line can tell of the batch: its text is a query, and the calendar has its moment
 pub record IsTellable (batch : Batch) : Type 0 where
@@ -31,13 +31,13 @@ pub record AnswersFirst (old : Kept) (batch : Batch) : Type 0 where
 
 -- each batch answers the query that is due first behind the batches before it
 abbrev pub AnswersEach : Kept → List Batch → Kept → Type 0
-AnswersEach old [] new = Brings old [] new
-AnswersEach old (batch ∷ rest) new = AnswersFirst old batch × ((next : Kept) × Brings old (Committed batch ∷ []) next × AnswersEach next rest new)
+AnswersEach old [] new = AddsEntries old [] new
+AnswersEach old (batch ∷ rest) new = AnswersFirst old batch × ((next : Kept) × AddsEntries old (Committed batch ∷ []) next × AnswersEach next rest new)
 
 -- each query that was due has its batch, in order, and no entry else was added
 pub record AnswersDue (old new : Kept) : Type 0 where
   pub batches : List Batch
-  pub brings : Brings old (committed_all batches) new
+  pub brings : AddsEntries old (committed_all batches) new
   pub each : AnswersEach old batches new
   pub own : AreOwn old.counts.position batches
   pub none : first_due new ≡ None
@@ -46,7 +46,7 @@ pub record AnswersDue (old new : Kept) : Type 0 where
 pub record SpendsBatches (old : Kept) : Type 0 where
   pub batches : List Batch
   pub between : Kept
-  pub brings : Brings old (committed_all batches) between
+  pub brings : AddsEntries old (committed_all batches) between
   pub each : AnswersEach old batches between
   pub own : AreOwn old.counts.position batches
   pub is : IsState between

@@ -4,7 +4,7 @@ use Rattle.osq_value.specs.declared.reading.Reading.{Reading}
 use Rattle.entry_model.specs.declared.entry.Entry.{Entry}
 use Rattle.session_state.specs.Kept.{Kept}
 use Rattle.session_state.specs.Readings.{entry_of, event_count, taken_of}
-use Rattle.daemon_rounds.specs.Adding.{Brings}
+use Rattle.daemon_rounds.specs.Adding.{AddsEntries}
 
 -- each reading ends behind the one before it, and the first behind this offset
 abbrev pub AreRising : ℕ → List Reading → Type 0
@@ -26,5 +26,5 @@ pub record Exceeds (source : List ℕ) (readings : List Reading) (old new : Kept
   pub next : Reading
   pub rest : List Reading
   pub are : readings ≡ done ++ next ∷ rest
-  pub brings : Brings old (entries_of source old.counts.moment done) new
+  pub brings : AddsEntries old (entries_of source old.counts.moment done) new
   pub beyond : 2 ^ 62 < new.image.last + event_count next

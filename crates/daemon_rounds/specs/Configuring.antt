@@ -15,9 +15,9 @@ use Rattle.entry_model.specs.Values.{last_number}
 use Rattle.entry_model.specs.Views.{view_of}
 use Rattle.event_store.specs.Contents.{rows_in}
 use Rattle.session_state.specs.Kept.{Kept}
-use Rattle.session_state.specs.Stands.{Stands}
+use Rattle.session_state.specs.StateOf.{IsStateOf}
 use Rattle.session_state.specs.Computed.{shown_by}
-use Rattle.daemon_rounds.specs.Adding.{Brings}
+use Rattle.daemon_rounds.specs.Adding.{AddsEntries}
 
 -- the schedule that the configuration gives the host, a pack being found by what its discovery means over this view
 abbrev pub IsScheduleOver : Config → Host → View → Schedule → Type 0
@@ -32,5 +32,5 @@ tables_of entries moment = view_of entries (last_number entries) moment
 pub record Configures (config : Config) (documents : List (List ℕ)) (host : Host) (moment : ℕ) (old new : Kept) : Type 0 where
   pub schedule : Schedule
   pub of_state : IsScheduleOver config host (rows_in (shown_by old old.image.last moment)) schedule
-  pub of_list : (base : Restored) (added : List Entry) → Stands base added old → (before : List Entry) → Legal before → summary before ≡ base → IsScheduleOver config host (tables_of (before ++ added) moment) schedule
-  pub brings : Brings old (Configured documents schedule moment ∷ []) new
+  pub of_list : (base : Restored) (added : List Entry) → IsStateOf base added old → (before : List Entry) → Legal before → summary before ≡ base → IsScheduleOver config host (tables_of (before ++ added) moment) schedule
+  pub brings : AddsEntries old (Configured documents schedule moment ∷ []) new

@@ -7,11 +7,11 @@ use Rattle.entry_model.specs.Summary.{summary}
 use Rattle.entry_model.specs.Views.{is_evented_table}
 use Rattle.session_state.specs.Kept.{IsState, Kept}
 use Rattle.session_state.specs.Expiries.{expiries}
-use Rattle.session_state.specs.Stands.{Stands}
+use Rattle.session_state.specs.StateOf.{IsStateOf}
 use Rattle.session_state.specs.Ticks.{first_due, owed_at}
-use Rattle.daemon_rounds.specs.Adding.{Brings}
+use Rattle.daemon_rounds.specs.Adding.{AddsEntries}
 use Rattle.daemon_rounds.specs.Answering.{AnswersEach, AreOwn, committed_all}
-use Rattle.daemon_rounds.specs.Telling.{AreTellable, AreTold}
+use Rattle.daemon_rounds.specs.Telling.{AreTellable, AreLinesOf}
 use Rattle.pack_rules.specs.declared.schedule.Form.{Form}
 
 -- the list is one with these values, and behind it what was sealed since
@@ -25,19 +25,19 @@ pub record IsKeptFrom (base : Restored) (sealed kept : List Entry) : Type 0 wher
 pub record GoesOn (tells : Type 0) (kept : List Entry) (s : Kept) : Type 0 where
   pub base : Restored
   pub sealed : List Entry
-  pub stands : Stands base (sealed ++ s.tail) s
+  pub stands : IsStateOf base (sealed ++ s.tail) s
   pub list : tells → IsKeptFrom base sealed kept
 
 -- a batch for each due query, and then an expiry for each table that owes one; behind them no query is due and no floor is owed
 pub record Settles (old new : Kept) : Type 0 where
   pub batches : List Batch
   pub between : Kept
-  pub answers : Brings old (committed_all batches) between
+  pub answers : AddsEntries old (committed_all batches) between
   pub each : AnswersEach old batches between
   pub is : IsState between
   pub expired : List Entry
   pub are : expired ≡ expiries between
-  pub brings : Brings old (committed_all batches ++ expired) new
+  pub brings : AddsEntries old (committed_all batches ++ expired) new
   pub own : AreOwn old.counts.position batches
   pub tellable : AreTellable (committed_all batches ++ expired)
   pub answered : first_due new ≡ None
@@ -51,7 +51,7 @@ pub record Finishes (keeper_tells sink_tells : Type 0) (host : List ℕ) (form :
   pub taken : new ≡ record settled { tail = [] }
   pub kept : keeper_tells → kept_after ≡ kept_before ++ settled.tail
   pub goes_on : GoesOn keeper_tells kept_after new
-  pub told : sink_tells → (lines : List ℕ) × AreTold host form settled.tail lines × (written_after ≡ written_before ++ lines)
+  pub told : sink_tells → (lines : List ℕ) × AreLinesOf host form settled.tail lines × (written_after ≡ written_before ++ lines)
 
 -- at a fault of the keeper its list is as before, or has the whole tail of a settled state
 abbrev pub IsWhole : List Entry → List Entry → Kept → Type 0
@@ -63,4 +63,4 @@ pub record IsPartlyTold (keeper_tells sink_tells : Type 0) (host : List ℕ) (fo
   pub settled : Kept
   pub settles : Settles old settled
   pub kept : keeper_tells → kept_after ≡ kept_before ++ settled.tail
-  pub told : sink_tells → (lines : List ℕ) × (count : ℕ) × AreTold host form settled.tail lines × (written_after ≡ written_before ++ take count lines)
+  pub told : sink_tells → (lines : List ℕ) × (count : ℕ) × AreLinesOf host form settled.tail lines × (written_after ≡ written_before ++ take count lines)

@@ -8,7 +8,7 @@ use Rattle.entry_model.specs.declared.entry.Entry.{Entry}
 use Rattle.entry_model.specs.declared.entry.Entry.TheVariants.{Opened, Configured}
 use Rattle.entry_model.specs.declared.restored.Restored.{Restored}
 use Rattle.session_state.specs.Kept.{Kept}
-use Rattle.session_state.specs.Stands.{Begins, Stands}
+use Rattle.session_state.specs.StateOf.{Begins, IsStateOf}
 use Rattle.daemon_rounds.specs.Telling.{AreTellable}
 use Rattle.daemon_rounds.specs.Turns.{Turn}
 use Rattle.daemon_rounds.specs.Rounding.{Overflows, Rounds, round_entries}
@@ -22,7 +22,7 @@ opening_entries restored turns documents schedule moment =
 
 -- the state stands for these entries alone, none of which is sealed, and no tick has begun
 pub record IsOpened (restored : Restored) (entries : List Entry) (state : Kept) : Type 0 where
-  pub stands : Stands restored entries state
+  pub stands : IsStateOf restored entries state
   pub tail : state.tail ≡ entries
   pub tellable : AreTellable entries
   pub unticked : state.ticked ≡ false

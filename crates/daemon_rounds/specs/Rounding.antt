@@ -6,7 +6,7 @@ use Rattle.entry_model.specs.declared.entry.Entry.{Entry}
 use Rattle.entry_model.specs.declared.restored.Taken.{Taken}
 use Rattle.entry_model.specs.Fits.{IsDistinct}
 use Rattle.session_state.specs.Kept.{Kept}
-use Rattle.daemon_rounds.specs.Adding.{Brings}
+use Rattle.daemon_rounds.specs.Adding.{AddsEntries}
 use Rattle.daemon_rounds.specs.Appending.{Exceeds}
 use Rattle.daemon_rounds.specs.Turns.{IsGoing, IsTurn, Turn, turn_entries}
 use Rattle.daemon_rounds.specs.declared.turning.Which.{Which}
@@ -44,7 +44,7 @@ pub record Rounds {S : Type 0} (tells : Type 0) (left : S → List ℕ) (faults 
   pub turns : List (Turn S)
   pub whole : Whole feeds nexts sources rests turns
   pub each : All (IsTurn tells left faults which most) turns
-  pub brings : Brings old (round_entries old.counts.moment turns) new
+  pub brings : AddsEntries old (round_entries old.counts.moment turns) new
 
 -- the source at this place failed
 pub record FailsAt {S : Type 0} (faults : S → ℕ) (place : ℕ) (sources rests : List S) : Type 0 where
@@ -62,5 +62,5 @@ pub record Overflows {S : Type 0} (tells : Type 0) (left : S → List ℕ) (faul
   pub front : Front feeds nexts sources rests (turns ++ last ∷ [])
   pub each : All (IsTurn tells left faults which most) (turns ++ last ∷ [])
   pub between : Kept
-  pub brings : Brings old (round_entries old.counts.moment turns) between
+  pub brings : AddsEntries old (round_entries old.counts.moment turns) between
   pub exceeds : Exceeds last.feed.name last.readings between new

@@ -23,10 +23,10 @@ Tells host form (Committed batch) lines = AreLines form host (names_of batch.que
 Tells host form entry lines = lines ≡ []
 
 -- the lines of entries, one entry after another, each in the form that runs there
-abbrev pub AreTold : List ℕ → Form → List Entry → List ℕ → Type 0
-AreTold host form [] text = text ≡ []
-AreTold host form (entry ∷ rest) text =
-    (lines : List ℕ) × (others : List ℕ) × Tells host form entry lines × AreTold host (form_after form entry) rest others × (text ≡ lines ++ others)
+abbrev pub AreLinesOf : List ℕ → Form → List Entry → List ℕ → Type 0
+AreLinesOf host form [] text = text ≡ []
+AreLinesOf host form (entry ∷ rest) text =
+    (lines : List ℕ) × (others : List ℕ) × Tells host form entry lines × AreLinesOf host (form_after form entry) rest others × (text ≡ lines ++ others)
 
 -- lines can tell of the entry: of a batch where its text is a query and the calendar has its moment
 abbrev pub IsTold : Entry → Type 0

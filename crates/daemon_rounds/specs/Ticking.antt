@@ -7,7 +7,7 @@ use Rattle.pack_rules.specs.declared.host.Host.{Host}
 use Rattle.source_feeds.specs.Feeding.{Feeding}
 use Rattle.entry_model.specs.declared.entry.Entry.TheVariants.{Ticked}
 use Rattle.session_state.specs.Kept.{Kept}
-use Rattle.daemon_rounds.specs.Adding.{Brings}
+use Rattle.daemon_rounds.specs.Adding.{AddsEntries}
 use Rattle.daemon_rounds.specs.Configuring.{Configures}
 use Rattle.daemon_rounds.specs.Rounding.{Overflows, Rounds}
 use Rattle.daemon_rounds.specs.declared.setup.Setup.{Setup}
@@ -33,7 +33,7 @@ configured_last false configured_at moment = configured_at
 -- turn.
 pub record Fills {S : Type 0} (tells : Type 0) (left : S → List ℕ) (faults : S → ℕ) (setup : Setup) (config : Config) (documents : List (List ℕ)) (configured_at moment : ℕ) (feeds nexts : List Feeding) (sources rests : List S) (old new : Kept) : Type 0 where
   pub ticked : Kept
-  pub ticks : Brings old (Ticked moment ∷ []) ticked
+  pub ticks : AddsEntries old (Ticked moment ∷ []) ticked
   pub configured : Kept
   pub again : ConfiguresAgain (asks_again config configured_at moment) config documents setup.host moment ticked configured
   pub rounds : Rounds tells left faults which.Every setup.records feeds nexts sources rests configured new
@@ -41,7 +41,7 @@ pub record Fills {S : Type 0} (tells : Type 0) (left : S → List ℕ) (faults :
 -- the same, but a source gave too much
 pub record FillsTooMuch {S : Type 0} (tells : Type 0) (left : S → List ℕ) (faults : S → ℕ) (setup : Setup) (config : Config) (documents : List (List ℕ)) (configured_at moment : ℕ) (feeds nexts : List Feeding) (sources rests : List S) (old new : Kept) : Type 0 where
   pub ticked : Kept
-  pub ticks : Brings old (Ticked moment ∷ []) ticked
+  pub ticks : AddsEntries old (Ticked moment ∷ []) ticked
   pub configured : Kept
   pub again : ConfiguresAgain (asks_again config configured_at moment) config documents setup.host moment ticked configured
   pub overflows : Overflows tells left faults which.Every setup.records feeds nexts sources rests configured new

@@ -1,7 +1,7 @@
 -- The turn of one source in a round.
 use Rattle.std.specs.Prelude.{◌≡◌, ℕ, ◌≤◌, Bool, true, false, List, [], All}
 use Rattle.osq_value.specs.declared.reading.Reading.{Reading}
-use Rattle.publisher_core.specs.declared.record.Piece.{Piece}
+use Rattle.publisher_core.specs.declared.record.ReadRecord.{ReadRecord}
 use Rattle.osq_value.specs.declared.source.SourceKind.{SourceKind}
 use Rattle.osq_value.specs.declared.source.SourceKind.TheVariants as kind
 use Rattle.source_feeds.specs.Feeding.{Fed, Feeding, SameFeed}
@@ -12,7 +12,7 @@ use Rattle.entry_model.specs.declared.entry.Entry.{Entry}
 use Rattle.entry_model.specs.declared.restored.Taken.{Taken}
 use Rattle.entry_model.specs.Next.{offset_at}
 use Rattle.session_state.specs.Kept.{Kept}
-use Rattle.daemon_rounds.specs.Adding.{Brings}
+use Rattle.daemon_rounds.specs.Adding.{AddsEntries}
 use Rattle.daemon_rounds.specs.Appending.{Exceeds, entries_of}
 use Rattle.daemon_rounds.specs.declared.turning.Which.{Which}
 use Rattle.daemon_rounds.specs.declared.turning.Which.TheVariants as which
@@ -41,7 +41,7 @@ pub record Turn (S : Type 0) : Type 0 where
 -- One step of the feed, of at most so many records, gave these readings: whatever the session had taken of the source before, they are those of
 -- a step behind it. The source had the bytes `before` to give, and has `after` now.
 pub record Gave (tells : Type 0) (before after : List ℕ) (feed next : Feeding) (most : ℕ) (readings : List Reading) : Type 0 where
-  pub steps : (bytes : List ℕ) (kept : ℕ) (given : List Piece) → Fed tells bytes before feed kept given → IsStep tells bytes after feed next kept given most readings
+  pub steps : (bytes : List ℕ) (kept : ℕ) (given : List ReadRecord) → Fed tells bytes before feed kept given → IsStep tells bytes after feed next kept given most readings
   pub each : All IsReading readings
   pub rise : Rise feed.reader.taken readings next.reader.taken
   pub same : SameFeed feed next
@@ -74,7 +74,7 @@ turn_of feed next source rest readings =
 pub record HasTurn {S : Type 0} (tells : Type 0) (left : S → List ℕ) (faults : S → ℕ) (which : Which) (most : ℕ) (feed next : Feeding) (source rest : S) (old new : Kept) : Type 0 where
   pub readings : List Reading
   pub is : IsTurn tells left faults which most (turn_of feed next source rest readings)
-  pub brings : Brings old (entries_of feed.name old.counts.moment readings) new
+  pub brings : AddsEntries old (entries_of feed.name old.counts.moment readings) new
 
 -- it had its turn, and one of its readings has too many events
 pub record HasTooMuch {S : Type 0} (tells : Type 0) (left : S → List ℕ) (faults : S → ℕ) (which : Which) (most : ℕ) (feed next : Feeding) (source rest : S) (old new : Kept) : Type 0 where

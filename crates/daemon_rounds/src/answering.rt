@@ -6,7 +6,7 @@ ghost use Rattle.entry_model.specs.declared.entry.Batch.{Batch};
 ghost use Rattle.entry_model.specs.declared.entry.Entry.TheVariants.{Committed};
 ghost use Rattle.session_state.specs.Kept.{IsState, due_count};
 ghost use Rattle.session_state.specs.Ticks.{first_due};
-ghost use Rattle.daemon_rounds.specs.Adding.{AreFree, Brings};
+ghost use Rattle.daemon_rounds.specs.Adding.{AreFree, AddsEntries};
 ghost use Rattle.daemon_rounds.specs.declared.error.RoundError.{RoundError};
 ghost use Rattle.daemon_rounds.specs.Answering.{AnswersDue, AnswersFirst, IsTellable, SpendsBatches};
 
@@ -29,9 +29,9 @@ fn rows_of<V: Tables>(alloc: Global, text: &str, view: &V) -> Result<RowList, No
 
 /// Answers the first due query by its batch, and says whether one was due.
 fn answer_next(alloc: Global, state: &mut State) -> Result<bool, RoundError>
-    ensures answered { IfOk result (λ more. more ≡ true → (batch : Batch) × Brings state.old (Committed batch ∷ []) state.new × (batch.cut ≡ state.old.counts.position) × IsTellable batch × AnswersFirst state.old batch) }
+    ensures answered { IfOk result (λ more. more ≡ true → (batch : Batch) × AddsEntries state.old (Committed batch ∷ []) state.new × (batch.cut ≡ state.old.counts.position) × IsTellable batch × AnswersFirst state.old batch) }
     ensures fewer { IfOk result (λ more. more ≡ true → due_count state.new + 1 ≤ due_count state.old) }
-    ensures none { IfOk result (λ more. more ≡ false → (first_due state.new ≡ None) × Brings state.old [] state.new) }
+    ensures none { IfOk result (λ more. more ≡ false → (first_due state.new ≡ None) × AddsEntries state.old [] state.new) }
     ensures spent { result ≡ Err RoundError.NumbersSpent → IsState state.old × (AreFree state.old.claims → (place : ℕ) × (first_due state.old ≡ Some place)) × (2 ^ 62 < state.old.counts.batches + 1) }
 {
     state.is_state();

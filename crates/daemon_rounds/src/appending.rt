@@ -5,7 +5,7 @@ ghost use Rattle.std.specs.Str.{bytes_eq};
 ghost use Rattle.entry_model.specs.Next.{offset_at};
 ghost use Rattle.session_state.specs.Readings.{IsReading, event_count};
 ghost use Rattle.daemon_rounds.specs.declared.error.RoundError.{RoundError};
-ghost use Rattle.daemon_rounds.specs.Adding.{Brings};
+ghost use Rattle.daemon_rounds.specs.Adding.{AddsEntries};
 ghost use Rattle.daemon_rounds.specs.Appending.{AreRising, Exceeds, end_behind, entries_of};
 
 use crate::error::RoundError;
@@ -23,7 +23,7 @@ fn append_one(
 ) -> Result<(), RoundError>
     requires reading { IsReading reading }
     requires rising { AreRising (offset_at state.old.counts.taken source.now) (reading ∷ []) }
-    ensures appended { OnOk result (Brings state.old (entries_of source.now state.old.counts.moment (reading ∷ [])) state.new) }
+    ensures appended { OnOk result (AddsEntries state.old (entries_of source.now state.old.counts.moment (reading ∷ [])) state.new) }
     ensures spent { result ≡ Err RoundError.NumbersSpent → 2 ^ 62 < state.new.image.last + event_count reading }
     ensures err { OnErr result (state.new ≡ state.old) }
 {
@@ -45,7 +45,7 @@ pub fn append_all(
 ) -> Result<(), RoundError>
     requires readings { All IsReading readings }
     requires rising { AreRising (offset_at state.old.counts.taken source.now) readings }
-    ensures appended { OnOk result (Brings state.old (entries_of source.now state.old.counts.moment readings) state.new) }
+    ensures appended { OnOk result (AddsEntries state.old (entries_of source.now state.old.counts.moment readings) state.new) }
     ensures offset { OnOk result (offset_at state.new.counts.taken source.now ≡ end_behind (offset_at state.old.counts.taken source.now) readings) }
     ensures spent { result ≡ Err RoundError.NumbersSpent → Exceeds source.now readings state.old state.new }
     ensures others { (other : List ℕ) → bytes_eq source.now other ≡ false → OnOk result (offset_at state.new.counts.taken other ≡ offset_at state.old.counts.taken other) }

@@ -3,7 +3,7 @@
 ghost use Rattle.std.specs.Prelude.{◌≡◌, ◌≢◌, ◌≤◌, ◌⊎◌, ◌++◌, ℕ, List, [], take, Err, OnOk, OnErr};
 ghost use Rattle.entry_model.specs.Legal.{Legal};
 ghost use Rattle.osq_outside.specs.Causes.{Rose};
-ghost use Rattle.daemon_rounds.specs.Telling.{AreTellable, AreTold};
+ghost use Rattle.daemon_rounds.specs.Telling.{AreTellable, AreLinesOf};
 ghost use Rattle.daemon_rounds.specs.declared.sealing.SealError.{SealError};
 
 use crate::telling::lines_of_entries;
@@ -43,10 +43,10 @@ pub fn seal<K: Keeper, O: Sink>(
     requires tellable { AreTellable state.old.tail }
     ensures taken { OnOk result (state.new ≡ record state.old { tail = [] }) }
     ensures kept { K.tells → OnOk result (K.kept keeper.new ≡ K.kept keeper.old ++ state.old.tail) }
-    ensures told { O.tells → OnOk result ((lines : List ℕ) × AreTold host.now form state.old.tail lines × (O.written results.new ≡ O.written results.old ++ lines)) }
+    ensures told { O.tells → OnOk result ((lines : List ℕ) × AreLinesOf host.now form state.old.tail lines × (O.written results.new ≡ O.written results.old ++ lines)) }
     ensures whole { K.tells → result ≡ Err SealError.KeeperFault → (K.kept keeper.new ≡ K.kept keeper.old) ⊎ (K.kept keeper.new ≡ K.kept keeper.old ++ state.old.tail) }
     ensures sealed { K.tells → result ≡ Err SealError.SinkFault → K.kept keeper.new ≡ K.kept keeper.old ++ state.old.tail }
-    ensures partly { O.tells → result ≡ Err SealError.SinkFault → (lines : List ℕ) × (count : ℕ) × AreTold host.now form state.old.tail lines × (O.written results.new ≡ O.written results.old ++ take count lines) }
+    ensures partly { O.tells → result ≡ Err SealError.SinkFault → (lines : List ℕ) × (count : ℕ) × AreLinesOf host.now form state.old.tail lines × (O.written results.new ≡ O.written results.old ++ take count lines) }
     ensures unkept { K.tells → result ≡ Err SealError.NoMemory → K.kept keeper.new ≡ K.kept keeper.old }
     ensures unwritten { OnErr result (result ≢ Err SealError.SinkFault → results.new ≡ results.old) }
     ensures keeper_cause { result ≡ Err SealError.KeeperFault → Rose (K.faults keeper.old) (K.faults keeper.new) }

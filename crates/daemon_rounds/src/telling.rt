@@ -4,7 +4,7 @@ ghost use Rattle.std.specs.Prelude.{◌≡◌, ◌++◌, ℕ, List, false, IfOk,
 ghost use Rattle.sql_texts.specs.Meaning.{names_of as names_in};
 ghost use Rattle.result_batches.specs.Lines.{AreLines};
 ghost use Rattle.daemon_rounds.specs.Answering.{IsTellable};
-ghost use Rattle.daemon_rounds.specs.Telling.{AreTellable, AreTold, IsTold, Tells, form_after};
+ghost use Rattle.daemon_rounds.specs.Telling.{AreTellable, AreLinesOf, IsTold, Tells, form_after};
 
 use entry_model::entry::{Batch, Entry};
 use osq_value::{Bytes, NoMemory};
@@ -65,7 +65,7 @@ pub fn lines_of_entries(
     entries: &[Entry],
 ) -> Result<Bytes, NoMemory>
     requires { AreTellable entries.now }
-    ensures { IfOk result (AreTold host.now form entries.now) }
+    ensures { IfOk result (AreLinesOf host.now form entries.now) }
 {
     let mut text = Bytes::new(alloc);
     let mut form = form;

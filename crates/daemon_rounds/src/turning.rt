@@ -5,7 +5,7 @@ ghost use Rattle.std.specs.Str.{bytes_eq};
 ghost use Rattle.osq_outside.specs.Causes.{FaultHasCause};
 ghost use Rattle.osq_value.specs.declared.reading.Reading.{Reading};
 ghost use Rattle.entry_model.specs.Next.{offset_at};
-ghost use Rattle.daemon_rounds.specs.Adding.{Brings};
+ghost use Rattle.daemon_rounds.specs.Adding.{AddsEntries};
 ghost use Rattle.daemon_rounds.specs.Appending.{Exceeds, entries_of};
 ghost use Rattle.daemon_rounds.specs.Turns.{Gave, HasTooMuch, HasTurn, IsGoing, takes_part};
 ghost use Rattle.daemon_rounds.specs.declared.error.TurnError.{TurnError};
@@ -51,7 +51,7 @@ fn take_step<S: Source>(
     most: u64,
 ) -> Result<(), TurnError>
     requires going { IsGoing state.old.counts.taken feed.old }
-    ensures gave { OnOk result ((readings : List Reading) × Gave S.tells (S.left source.old) (S.left source.new) feed.old feed.new most readings × Brings state.old (entries_of feed.old.name state.old.counts.moment readings) state.new) }
+    ensures gave { OnOk result ((readings : List Reading) × Gave S.tells (S.left source.old) (S.left source.new) feed.old feed.new most readings × AddsEntries state.old (entries_of feed.old.name state.old.counts.moment readings) state.new) }
     ensures going { OnOk result (IsGoing state.new.counts.taken feed.new) }
     ensures others { (other : List ℕ) → bytes_eq feed.old.name other ≡ false → OnOk result (offset_at state.new.counts.taken other ≡ offset_at state.old.counts.taken other) }
     ensures spent { result ≡ Err TurnError.NumbersSpent → (readings : List Reading) × Gave S.tells (S.left source.old) (S.left source.new) feed.old feed.new most readings × Exceeds feed.old.name readings state.old state.new }

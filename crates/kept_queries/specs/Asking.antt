@@ -8,10 +8,10 @@ use Rattle.entry_model.specs.Legal.{Legal}
 use Rattle.entry_model.specs.Summary.{summary}
 use Rattle.entry_model.specs.Views.{view_of}
 use Rattle.session_state.specs.Kept.{Kept}
-use Rattle.session_state.specs.Stands.{Stands}
+use Rattle.session_state.specs.StateOf.{IsStateOf}
 
 -- where the state stands for entries behind a legal list, the rows are those that the query means over all live events and the tables of
 -- that list with these entries behind it, at this moment
 abbrev pub MeansBehind : Kept → QueryTree → ℕ → List (List Value) → Type 0
 MeansBehind state query moment rows =
-    (before added : List Entry) → Legal before → Stands (summary before) added state → rows ≡ meaning_of query (view_of (before ++ added) 0 moment)
+    (before added : List Entry) → Legal before → IsStateOf (summary before) added state → rows ≡ meaning_of query (view_of (before ++ added) 0 moment)

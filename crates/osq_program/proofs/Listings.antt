@@ -7,9 +7,9 @@ use Rattle.osq_program.specs.declared.status.Status.{Status}
 use Rattle.osq_program.specs.declared.status.Status.TheVariants.{Ok as Done, Usage, FilesFault, ConfigRefused, KeeperFault, KeeperRefused, MomentTooLarge, SourceFault, SourceShrank, NumbersSpent, SinkFault, TicksSpent, QueryRefused, OutOfMemory}
 use Rattle.osq_program.specs.Answers.{Causes, IsCaused, no_causes}
 use Rattle.config_files.specs.Naming.{key_of_error, kind_of_error}
-use Rattle.osq_program.specs.Checking.{HasLines, IsCheck, IsRefusedFor, Leaves, Refuses, causes_of, query_line, schedule_lines}
+use Rattle.osq_program.specs.Checking.{HasLines, IsCheck, IsRefusedFor, CheckLeaves, Refuses, causes_of, query_line, schedule_lines}
 use Rattle.program_words.specs.declared.command.CheckWords.{CheckWords}
-use Rattle.osq_program.specs.Told.{Told}
+use Rattle.osq_program.specs.Observed.{Observed}
 use Rattle.osq_program.proofs.Replays.{not_spent}
 
 lines_end : (queries : List Scheduled) (scheduled : Scheduled) → schedule_lines (queries ++ scheduled ∷ []) ≡ schedule_lines queries ++ query_line scheduled
@@ -41,61 +41,61 @@ by_error failed R error gives TicksSpent refuses = absurd refuses
 by_error failed R error gives (QueryRefused place kind) refuses = absurd refuses
 by_error failed R error gives OutOfMemory refuses = tt
 
-abbrev config_causes : CheckWords → Told → Causes
-config_causes w told = record no_causes { files = told.files_failed; refused = IsRefusedFor told.files_tell told.file w.config }
+abbrev config_causes : CheckWords → Observed → Causes
+config_causes w seen = record no_causes { files = seen.files_failed; refused = IsRefusedFor seen.files_tell seen.file w.config }
 
-check_cause : (w : CheckWords) (told : Told) (s : Status) → IsCaused (config_causes w told) s → IsCaused (causes_of w told) s
-check_cause w told Done caused = caused
-check_cause w told Usage caused = caused
-check_cause w told FilesFault caused = caused
-check_cause w told (ConfigRefused kind key) caused = caused
-check_cause w told KeeperFault caused = caused
-check_cause w told KeeperRefused caused = absurd caused
-check_cause w told (MomentTooLarge moment) caused = caused
-check_cause w told (SourceFault name) caused = caused
-check_cause w told (SourceShrank name kept found) caused = absurd caused
-check_cause w told NumbersSpent caused = absurd caused
-check_cause w told SinkFault caused = absurd caused
-check_cause w told TicksSpent caused = caused
-check_cause w told (QueryRefused place kind) caused = caused
-check_cause w told OutOfMemory caused = caused
+check_cause : (w : CheckWords) (seen : Observed) (s : Status) → IsCaused (config_causes w seen) s → IsCaused (causes_of w seen) s
+check_cause w seen Done caused = caused
+check_cause w seen Usage caused = caused
+check_cause w seen FilesFault caused = caused
+check_cause w seen (ConfigRefused kind key) caused = caused
+check_cause w seen KeeperFault caused = caused
+check_cause w seen KeeperRefused caused = absurd caused
+check_cause w seen (MomentTooLarge moment) caused = caused
+check_cause w seen (SourceFault name) caused = caused
+check_cause w seen (SourceShrank name kept found) caused = absurd caused
+check_cause w seen NumbersSpent caused = absurd caused
+check_cause w seen SinkFault caused = absurd caused
+check_cause w seen TicksSpent caused = caused
+check_cause w seen (QueryRefused place kind) caused = caused
+check_cause w seen OutOfMemory caused = caused
 
-check_leaves : (w : CheckWords) (told : Told) (s : Status) → IsCaused (config_causes w told) s → (told.sink_tells → told.results_after ≡ told.results_before) → Leaves w told s
-check_leaves w told Done caused same = absurd caused
-check_leaves w told Usage caused same = same
-check_leaves w told FilesFault caused same = same
-check_leaves w told (ConfigRefused kind key) caused same = same
-check_leaves w told KeeperFault caused same = same
-check_leaves w told KeeperRefused caused same = same
-check_leaves w told (MomentTooLarge moment) caused same = same
-check_leaves w told (SourceFault name) caused same = same
-check_leaves w told (SourceShrank name kept found) caused same = same
-check_leaves w told NumbersSpent caused same = same
-check_leaves w told SinkFault caused same = absurd caused
-check_leaves w told TicksSpent caused same = same
-check_leaves w told (QueryRefused place kind) caused same = same
-check_leaves w told OutOfMemory caused same = same
+check_leaves : (w : CheckWords) (seen : Observed) (s : Status) → IsCaused (config_causes w seen) s → (seen.sink_tells → seen.results_after ≡ seen.results_before) → CheckLeaves w seen s
+check_leaves w seen Done caused same = absurd caused
+check_leaves w seen Usage caused same = same
+check_leaves w seen FilesFault caused same = same
+check_leaves w seen (ConfigRefused kind key) caused same = same
+check_leaves w seen KeeperFault caused same = same
+check_leaves w seen KeeperRefused caused same = same
+check_leaves w seen (MomentTooLarge moment) caused same = same
+check_leaves w seen (SourceFault name) caused same = same
+check_leaves w seen (SourceShrank name kept found) caused same = same
+check_leaves w seen NumbersSpent caused same = same
+check_leaves w seen SinkFault caused same = absurd caused
+check_leaves w seen TicksSpent caused same = same
+check_leaves w seen (QueryRefused place kind) caused same = same
+check_leaves w seen OutOfMemory caused same = same
 
 -- by the configuration
-pub refused_config : (w : CheckWords) (told : Told) (s r : Status) → r ≡ s → IsCaused (record no_causes { files = told.files_failed; refused = IsRefusedFor told.files_tell told.file w.config }) s
-    → (told.sink_tells → told.results_after ≡ told.results_before) → (told.keeper_tells → told.kept_after ≡ told.kept_before) → IsCheck w told r
-refused_config w told s r is caused same kept =
-    subst (IsCheck w told) (sym is) (record {
-      leaves = check_leaves w told s caused same;
-      unspent = not_spent (config_causes w told) s caused;
-      cause = λ refusal. check_cause w told s caused;
+pub refused_config : (w : CheckWords) (seen : Observed) (s r : Status) → r ≡ s → IsCaused (record no_causes { files = seen.files_failed; refused = IsRefusedFor seen.files_tell seen.file w.config }) s
+    → (seen.sink_tells → seen.results_after ≡ seen.results_before) → (seen.keeper_tells → seen.kept_after ≡ seen.kept_before) → IsCheck w seen r
+refused_config w seen s r is caused same kept =
+    subst (IsCheck w seen) (sym is) (record {
+      leaves = check_leaves w seen s caused same;
+      unspent = not_spent (config_causes w seen) s caused;
+      cause = λ refusal. check_cause w seen s caused;
       kept = kept;
     })
 
-pub wants_memory : (w : CheckWords) (told : Told) (r : Status) → r ≡ OutOfMemory → (told.sink_tells → told.results_after ≡ told.results_before) → (told.keeper_tells → told.kept_after ≡ told.kept_before)
-    → IsCheck w told r
-wants_memory w told r is same kept = subst (IsCheck w told) (sym is) (record { leaves = same; unspent = λ spent. spent; cause = λ refusal. tt; kept = kept })
+pub wants_memory : (w : CheckWords) (seen : Observed) (r : Status) → r ≡ OutOfMemory → (seen.sink_tells → seen.results_after ≡ seen.results_before) → (seen.keeper_tells → seen.kept_after ≡ seen.kept_before)
+    → IsCheck w seen r
+wants_memory w seen r is same kept = subst (IsCheck w seen) (sym is) (record { leaves = same; unspent = λ spent. spent; cause = λ refusal. tt; kept = kept })
 
-pub listed : (w : CheckWords) (told : Told) (lines notes : List ℕ) → HasLines w told lines notes → (told.sink_tells → (told.results_after ≡ told.results_before ++ lines) × (told.status_after ≡ told.status_before ++ notes))
-    → (told.keeper_tells → told.kept_after ≡ told.kept_before) → IsCheck w told Done
-listed w told lines notes has all kept = record { leaves = (lines, notes, has, all); unspent = λ spent. spent; cause = λ refusal. absurd refusal; kept = kept }
+pub listed : (w : CheckWords) (seen : Observed) (lines notes : List ℕ) → HasLines w seen lines notes → (seen.sink_tells → (seen.results_after ≡ seen.results_before ++ lines) × (seen.status_after ≡ seen.status_before ++ notes))
+    → (seen.keeper_tells → seen.kept_after ≡ seen.kept_before) → IsCheck w seen Done
+listed w seen lines notes has all kept = record { leaves = (lines, notes, has, all); unspent = λ spent. spent; cause = λ refusal. absurd refusal; kept = kept }
 
-pub partly_listed : (w : CheckWords) (told : Told) (lines notes : List ℕ) → HasLines w told lines notes → (told.sink_tells → (count : ℕ) × (told.results_after ≡ told.results_before ++ take count lines))
-    → told.results_failed ⊎ told.status_failed → (told.keeper_tells → told.kept_after ≡ told.kept_before) → (r : Status) → r ≡ SinkFault → IsCheck w told r
-partly_listed w told lines notes has front failed kept r is =
-    subst (IsCheck w told) (sym is) (record { leaves = (lines, notes, has, front); unspent = λ spent. spent; cause = λ refusal. failed; kept = kept })
+pub partly_listed : (w : CheckWords) (seen : Observed) (lines notes : List ℕ) → HasLines w seen lines notes → (seen.sink_tells → (count : ℕ) × (seen.results_after ≡ seen.results_before ++ take count lines))
+    → seen.results_failed ⊎ seen.status_failed → (seen.keeper_tells → seen.kept_after ≡ seen.kept_before) → (r : Status) → r ≡ SinkFault → IsCheck w seen r
+partly_listed w seen lines notes has front failed kept r is =
+    subst (IsCheck w seen) (sym is) (record { leaves = (lines, notes, has, front); unspent = λ spent. spent; cause = λ refusal. failed; kept = kept })

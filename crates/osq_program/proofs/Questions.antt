@@ -26,9 +26,9 @@ use Rattle.osq_program.specs.declared.status.Status.{Status}
 use Rattle.osq_program.specs.declared.status.Status.TheVariants.{Ok as Done, Usage, FilesFault, ConfigRefused, KeeperFault, KeeperRefused, MomentTooLarge, SourceFault, SourceShrank, NumbersSpent, SinkFault, TicksSpent, QueryRefused, OutOfMemory}
 use Rattle.osq_program.specs.Answers.{Causes, IsCaused, IsDoneStatus, IsRefusal, no_causes}
 use Rattle.osq_program.specs.Ending.{ended_by}
-use Rattle.osq_program.specs.Querying.{HasAnswer, IsGiven, IsPosed, IsQuery, IsRefusedAt, Leaves, Writes, causes_of, lines_in, row_lines}
+use Rattle.osq_program.specs.Querying.{HasAnswer, IsQueryGiven, IsPosed, IsQuery, IsRefusedAt, QueryLeaves, Writes, causes_of, lines_in, row_lines}
 use Rattle.osq_program.specs.Setups.{sources_named}
-use Rattle.osq_program.specs.Told.{Told}
+use Rattle.osq_program.specs.Observed.{Observed}
 use Rattle.osq_program.specs.Watching.{AreWatched, IsRefusedIn}
 use Rattle.osq_program.proofs.Setups.{sources_are}
 
@@ -62,37 +62,37 @@ caused_by_more c d more (QueryRefused place kind) caused = more.query place kind
 caused_by_more c d more OutOfMemory caused = tt
 
 -- a refusal leaves the results as they were, where a fault of a sink was one of the status stream
-leaves_same : (words : QueryWords) (told : Told) (c : Causes) (s : Status) → IsCaused c s → (c.sink → told.status_failed) → (told.sink_tells → told.results_after ≡ told.results_before) → Leaves words told s
-leaves_same words told c Done caused sink same = absurd caused
-leaves_same words told c Usage caused sink same = absurd caused
-leaves_same words told c FilesFault caused sink same = same
-leaves_same words told c (ConfigRefused kind key) caused sink same = same
-leaves_same words told c KeeperFault caused sink same = same
-leaves_same words told c KeeperRefused caused sink same = same
-leaves_same words told c (MomentTooLarge moment) caused sink same = same
-leaves_same words told c (SourceFault name) caused sink same = same
-leaves_same words told c (SourceShrank name kept found) caused sink same = same
-leaves_same words told c NumbersSpent caused sink same = same
-leaves_same words told c SinkFault caused sink same = inl (sink caused, same)
-leaves_same words told c TicksSpent caused sink same = absurd caused
-leaves_same words told c (QueryRefused place kind) caused sink same = same
-leaves_same words told c OutOfMemory caused sink same = same
+leaves_same : (words : QueryWords) (seen : Observed) (c : Causes) (s : Status) → IsCaused c s → (c.sink → seen.status_failed) → (seen.sink_tells → seen.results_after ≡ seen.results_before) → QueryLeaves words seen s
+leaves_same words seen c Done caused sink same = absurd caused
+leaves_same words seen c Usage caused sink same = absurd caused
+leaves_same words seen c FilesFault caused sink same = same
+leaves_same words seen c (ConfigRefused kind key) caused sink same = same
+leaves_same words seen c KeeperFault caused sink same = same
+leaves_same words seen c KeeperRefused caused sink same = same
+leaves_same words seen c (MomentTooLarge moment) caused sink same = same
+leaves_same words seen c (SourceFault name) caused sink same = same
+leaves_same words seen c (SourceShrank name kept found) caused sink same = same
+leaves_same words seen c NumbersSpent caused sink same = same
+leaves_same words seen c SinkFault caused sink same = inl (sink caused, same)
+leaves_same words seen c TicksSpent caused sink same = absurd caused
+leaves_same words seen c (QueryRefused place kind) caused sink same = same
+leaves_same words seen c OutOfMemory caused sink same = same
 
 -- a question that has no answer, by one of these causes
-pub stopped : (words : QueryWords) (told : Told) (c : Causes) (s r : Status) → r ≡ s → Within c (causes_of words told) → (c.sink → told.status_failed) → IsCaused c s
-    → (told.sink_tells → told.results_after ≡ told.results_before) → (told.keeper_tells → told.kept_after ≡ told.kept_before) → IsQuery words told r
-stopped words told c s r is more sink caused same kept =
-    subst (IsQuery words told) (sym is) (record {
-      leaves = leaves_same words told c s caused sink same;
-      cause = λ refusal. caused_by_more c (causes_of words told) more s caused;
+pub stopped : (words : QueryWords) (seen : Observed) (c : Causes) (s r : Status) → r ≡ s → Within c (causes_of words seen) → (c.sink → seen.status_failed) → IsCaused c s
+    → (seen.sink_tells → seen.results_after ≡ seen.results_before) → (seen.keeper_tells → seen.kept_after ≡ seen.kept_before) → IsQuery words seen r
+stopped words seen c s r is more sink caused same kept =
+    subst (IsQuery words seen) (sym is) (record {
+      leaves = leaves_same words seen c s caused sink same;
+      cause = λ refusal. caused_by_more c (causes_of words seen) more s caused;
       kept = kept;
     })
 
 -- by the text
-pub refused_text : (words : QueryWords) (told : Told) (s r : Status) → r ≡ s → IsCaused (record no_causes { query = IsRefusedAt words.text }) s
-    → (told.sink_tells → told.results_after ≡ told.results_before) → (told.keeper_tells → told.kept_after ≡ told.kept_before) → IsQuery words told r
-refused_text words told s r is caused same kept =
-    stopped words told (record no_causes { query = IsRefusedAt words.text }) s r is (record {
+pub refused_text : (words : QueryWords) (seen : Observed) (s r : Status) → r ≡ s → IsCaused (record no_causes { query = IsRefusedAt words.text }) s
+    → (seen.sink_tells → seen.results_after ≡ seen.results_before) → (seen.keeper_tells → seen.kept_after ≡ seen.kept_before) → IsQuery words seen r
+refused_text words seen s r is caused same kept =
+    stopped words seen (record no_causes { query = IsRefusedAt words.text }) s r is (record {
       query = λ place kind x. x;
       files = λ x. absurd x;
       refused = λ kind key x. absurd x;
@@ -110,11 +110,11 @@ pub of_text : (text same : List ℕ) (s : Status) → text ≡ same → IsCaused
 of_text text same s is caused = subst (λ (t : List ℕ). IsCaused (record no_causes { query = IsRefusedAt t }) s) is caused
 
 -- by the configuration
-pub refused_config : (words : QueryWords) (told : Told) (s r : Status) → r ≡ s → text_fault words.text ≡ None
-    → IsCaused (record no_causes { files = told.files_failed; refused = IsRefusedIn told.files_tell told.file words.config }) s
-    → (told.sink_tells → told.results_after ≡ told.results_before) → (told.keeper_tells → told.kept_after ≡ told.kept_before) → IsQuery words told r
-refused_config words told s r is accepted caused same kept =
-    stopped words told (record no_causes { files = told.files_failed; refused = IsRefusedIn told.files_tell told.file words.config }) s r is (record {
+pub refused_config : (words : QueryWords) (seen : Observed) (s r : Status) → r ≡ s → text_fault words.text ≡ None
+    → IsCaused (record no_causes { files = seen.files_failed; refused = IsRefusedIn seen.files_tell seen.file words.config }) s
+    → (seen.sink_tells → seen.results_after ≡ seen.results_before) → (seen.keeper_tells → seen.kept_after ≡ seen.kept_before) → IsQuery words seen r
+refused_config words seen s r is accepted caused same kept =
+    stopped words seen (record no_causes { files = seen.files_failed; refused = IsRefusedIn seen.files_tell seen.file words.config }) s r is (record {
       query = λ place kind x. absurd x;
       files = λ x. (accepted, x);
       refused = λ kind key x. (accepted, x);
@@ -127,21 +127,21 @@ refused_config words told s r is accepted caused same kept =
       sink = λ x. absurd x;
     }) (λ x. absurd x) caused same kept
 
-pub no_memory : (words : QueryWords) (told : Told) (r : Status) → r ≡ OutOfMemory → (told.sink_tells → told.results_after ≡ told.results_before)
-    → (told.keeper_tells → told.kept_after ≡ told.kept_before) → IsQuery words told r
-no_memory words told r is same kept = subst (IsQuery words told) (sym is) (record { leaves = same; cause = λ refusal. tt; kept = kept })
+pub no_memory : (words : QueryWords) (seen : Observed) (r : Status) → r ≡ OutOfMemory → (seen.sink_tells → seen.results_after ≡ seen.results_before)
+    → (seen.keeper_tells → seen.kept_after ≡ seen.kept_before) → IsQuery words seen r
+no_memory words seen r is same kept = subst (IsQuery words seen) (sym is) (record { leaves = same; cause = λ refusal. tt; kept = kept })
 
 -- the lines of packs that are left out, or of sources of which lines were skipped, could not be written
-pub untold : (words : QueryWords) (told : Told) (r : Status) → r ≡ SinkFault → IsPosed words told → told.status_failed → (told.sink_tells → told.results_after ≡ told.results_before)
-    → (told.keeper_tells → told.kept_after ≡ told.kept_before) → IsQuery words told r
-untold words told r is posed failed same kept =
-    subst (IsQuery words told) (sym is) (record { leaves = inl (failed, same); cause = λ refusal. (posed, inr failed); kept = kept })
+pub untold : (words : QueryWords) (seen : Observed) (r : Status) → r ≡ SinkFault → IsPosed words seen → seen.status_failed → (seen.sink_tells → seen.results_after ≡ seen.results_before)
+    → (seen.keeper_tells → seen.kept_after ≡ seen.kept_before) → IsQuery words seen r
+untold words seen r is posed failed same kept =
+    subst (IsQuery words seen) (sym is) (record { leaves = inl (failed, same); cause = λ refusal. (posed, inr failed); kept = kept })
 
 -- behind the question, by anything but a sink
-pub unanswered : (words : QueryWords) (told : Told) (s r : Status) → r ≡ s → IsCaused (record (causes_of words told) { sink = ⊥ }) s
-    → (told.sink_tells → told.results_after ≡ told.results_before) → (told.keeper_tells → told.kept_after ≡ told.kept_before) → IsQuery words told r
-unanswered words told s r is caused same kept =
-    stopped words told (record (causes_of words told) { sink = ⊥ }) s r is (record {
+pub unanswered : (words : QueryWords) (seen : Observed) (s r : Status) → r ≡ s → IsCaused (record (causes_of words seen) { sink = ⊥ }) s
+    → (seen.sink_tells → seen.results_after ≡ seen.results_before) → (seen.keeper_tells → seen.kept_after ≡ seen.kept_before) → IsQuery words seen r
+unanswered words seen s r is caused same kept =
+    stopped words seen (record (causes_of words seen) { sink = ⊥ }) s r is (record {
       query = λ place kind x. x;
       files = λ x. x;
       refused = λ kind key x. x;
@@ -164,23 +164,23 @@ unfolding names_of
 same_lines text query rows is = rw is refl
 
 -- a question whose text is accepted, and whose configuration was read, is posed
-abbrev pub posed_by : (words : QueryWords) (told : Told) (text : List ℕ) (paths : List Category) (notes : List ℕ) → text ≡ words.text → text_fault text ≡ None → AreWatched told.files_tell told.file words.config paths notes → IsPosed words told
-posed_by words told text paths notes is accepted are = record { accepted = ap text_fault (sym is) ∙ accepted; watched = record { paths = paths; notes = notes; are = are } }
+abbrev pub posed_by : (words : QueryWords) (seen : Observed) (text : List ℕ) (paths : List Category) (notes : List ℕ) → text ≡ words.text → text_fault text ≡ None → AreWatched seen.files_tell seen.file words.config paths notes → IsPosed words seen
+posed_by words seen text paths notes is accepted are = record { accepted = ap text_fault (sym is) ∙ accepted; watched = record { paths = paths; notes = notes; are = are } }
 
 -- what a session is given is what the question is over
-pub given_for : {S : Type 0} (left : S → List ℕ) (words : QueryWords) (told : Told) (posed : IsPosed words told) (names : List SourceName) (objects : List S) (given : Given) → names ≡ words.sources
-    → told.all_bytes ≡ map left objects → IsGiven words told posed given → asking.IsGiven left names objects posed.watched.paths words.records given
-given_for left words told posed names objects given is bytes g = record {
+pub given_for : {S : Type 0} (left : S → List ℕ) (words : QueryWords) (seen : Observed) (posed : IsPosed words seen) (names : List SourceName) (objects : List S) (given : Given) → names ≡ words.sources
+    → seen.all_bytes ≡ map left objects → IsQueryGiven words seen posed given → asking.IsGivenFrom left names objects posed.watched.paths words.records given
+given_for left words seen posed names objects given is bytes g = record {
   sources_are = g.sources ∙ sym (ap (λ (ns : List SourceName). sources_of left ns objects) is ∙ sources_are left words.sources objects ∙ ap (sources_named words.sources) (sym bytes));
   paths_are = g.paths;
   records_are = g.records;
 }
 
 -- the rows of a question mean what the words ask for
-pub meant_for : (words : QueryWords) (tells : Type 0) (kept : List Entry) (names : List SourceName) (text : List ℕ) (moment : ℕ) (rows : List (List Value)) → names ≡ words.sources → text ≡ words.text → asking.IsMeant tells kept names text moment rows
-    → asking.IsMeant tells kept words.sources words.text moment rows
+pub meant_for : (words : QueryWords) (tells : Type 0) (kept : List Entry) (names : List SourceName) (text : List ℕ) (moment : ℕ) (rows : List (List Value)) → names ≡ words.sources → text ≡ words.text → asking.AnswersSomeContinuation tells kept names text moment rows
+    → asking.AnswersSomeContinuation tells kept words.sources words.text moment rows
 meant_for words tells kept names text moment rows named is meant =
-    subst (λ (text : List ℕ). asking.IsMeant tells kept words.sources text moment rows) is (subst (λ (names : List SourceName). asking.IsMeant tells kept names text moment rows) named meant)
+    subst (λ (text : List ℕ). asking.AnswersSomeContinuation tells kept words.sources text moment rows) is (subst (λ (names : List SourceName). asking.AnswersSomeContinuation tells kept names text moment rows) named meant)
 
 -- what its sources skipped is told of the sources that the words name
 pub skips_for : (words : QueryWords) (tells : Type 0) (paths : List Category) (taken : List Taken) (names : List SourceName) (given_bytes all_bytes : List (List ℕ)) (is_end : Bool) (lines : List ℕ) → names ≡ words.sources
@@ -190,18 +190,18 @@ skips_for words tells paths taken names given_bytes all_bytes is_end lines named
     (subst (λ (names : List SourceName). TellsSkipped tells paths taken names all_bytes is_end lines) named skips)
 
 -- the question was answered, and what was then written
-module _ (words : QueryWords) (told : Told) (posed : IsPosed words told) (moment : ℕ) (read : told.reads moment) (early : moment ≤ LAST_MOMENT) (asked : Asked)
-    (meant : asking.IsMeant told.keeper_tells told.kept_before words.sources words.text moment asked.rows)
-    (taken : List Taken) (taken_is : told.keeper_tells → taken ≡ (summary told.kept_before).taken) (skips : TellsSkipped told.source_tells posed.watched.paths taken words.sources told.all_bytes asked.is_end asked.skipped)
-    (answer : told.keeper_tells → told.source_tells → Legal told.kept_before → (given : Given) → IsGiven words told posed given → asking.IsAnswer given told.kept_before words.text words.ticks moment asked)
-    (lines : List ℕ) (same : lines ≡ lines_in words asked) (kept : told.keeper_tells → told.kept_after ≡ told.kept_before) where
-  abbrev has : (is_end : Bool) → asked.is_end ≡ is_end → HasAnswer words told is_end
+module _ (words : QueryWords) (seen : Observed) (posed : IsPosed words seen) (moment : ℕ) (read : seen.reads moment) (early : moment ≤ LAST_MOMENT) (asked : Asked)
+    (meant : asking.AnswersSomeContinuation seen.keeper_tells seen.kept_before words.sources words.text moment asked.rows)
+    (taken : List Taken) (taken_is : seen.keeper_tells → taken ≡ (summary seen.kept_before).taken) (skips : TellsSkipped seen.source_tells posed.watched.paths taken words.sources seen.all_bytes asked.is_end asked.skipped)
+    (answer : seen.keeper_tells → seen.source_tells → Legal seen.kept_before → (given : Given) → IsQueryGiven words seen posed given → asking.IsAnswer given seen.kept_before words.text words.ticks moment asked)
+    (lines : List ℕ) (same : lines ≡ lines_in words asked) (kept : seen.keeper_tells → seen.kept_after ≡ seen.kept_before) where
+  abbrev has : (is_end : Bool) → asked.is_end ≡ is_end → HasAnswer words seen is_end
   has is_end end_is = record { posed = posed; moment = moment; read = read; early = early; asked = asked; end_is = end_is; meant = meant; taken = taken; taken_is = taken_is; skips = skips; answer = answer }
 
-  leaves_written : (s : Status) → Writes told.sink_tells asked.is_end told.results_before told.results_after lines told.results_failed s
-      → (IsDoneStatus s → told.sink_tells → told.status_after ≡ told.status_before ++ (posed.watched.notes ++ asked.skipped)) → Leaves words told s
+  leaves_written : (s : Status) → Writes seen.sink_tells asked.is_end seen.results_before seen.results_after lines seen.results_failed s
+      → (IsDoneStatus s → seen.sink_tells → seen.status_after ≡ seen.status_before ++ (posed.watched.notes ++ asked.skipped)) → QueryLeaves words seen s
   leaves_written Done writes quiet =
-      (has true writes.0, λ tells. (writes.1 tells ∙ ap (λ (ls : List ℕ). told.results_before ++ ls) same, quiet tt tells))
+      (has true writes.0, λ tells. (writes.1 tells ∙ ap (λ (ls : List ℕ). seen.results_before ++ ls) same, quiet tt tells))
   leaves_written Usage writes quiet = absurd writes
   leaves_written FilesFault writes quiet = absurd writes
   leaves_written (ConfigRefused kind key) writes quiet = absurd writes
@@ -212,12 +212,12 @@ module _ (words : QueryWords) (told : Told) (posed : IsPosed words told) (moment
   leaves_written (SourceShrank name kept found) writes quiet = absurd writes
   leaves_written NumbersSpent writes quiet = absurd writes
   leaves_written SinkFault writes quiet =
-      inr (has true writes.0, writes.1, λ tells. let front = writes.2 tells in (front.0, front.1 ∙ ap (λ (ls : List ℕ). told.results_before ++ take front.0 ls) same))
+      inr (has true writes.0, writes.1, λ tells. let front = writes.2 tells in (front.0, front.1 ∙ ap (λ (ls : List ℕ). seen.results_before ++ take front.0 ls) same))
   leaves_written TicksSpent writes quiet = (has false writes.0, writes.1)
   leaves_written (QueryRefused place kind) writes quiet = absurd writes
   leaves_written OutOfMemory writes quiet = writes
 
-  caused_written : (s : Status) → Writes told.sink_tells asked.is_end told.results_before told.results_after lines told.results_failed s → IsRefusal s → IsCaused (causes_of words told) s
+  caused_written : (s : Status) → Writes seen.sink_tells asked.is_end seen.results_before seen.results_after lines seen.results_failed s → IsRefusal s → IsCaused (causes_of words seen) s
   caused_written Done writes refusal = absurd refusal
   caused_written Usage writes refusal = absurd refusal
   caused_written FilesFault writes refusal = absurd writes
@@ -233,8 +233,8 @@ module _ (words : QueryWords) (told : Told) (posed : IsPosed words told) (moment
   caused_written (QueryRefused place kind) writes refusal = absurd writes
   caused_written OutOfMemory writes refusal = tt
 
-  pub answered : (s : Status) → Writes told.sink_tells asked.is_end told.results_before told.results_after lines told.results_failed s
-      → (IsDoneStatus s → told.sink_tells → told.status_after ≡ told.status_before ++ (posed.watched.notes ++ asked.skipped)) → IsQuery words told s
+  pub answered : (s : Status) → Writes seen.sink_tells asked.is_end seen.results_before seen.results_after lines seen.results_failed s
+      → (IsDoneStatus s → seen.sink_tells → seen.status_after ≡ seen.status_before ++ (posed.watched.notes ++ asked.skipped)) → IsQuery words seen s
   answered s writes quiet = record { leaves = leaves_written s writes quiet; cause = caused_written s writes; kept = kept }
 
 -- a question ends as a session does, where it is for the same reason

@@ -28,10 +28,10 @@ use Rattle.osq_program.specs.Answers.{Causes, IsCaused, IsDoneStatus, IsSpentSta
 use Rattle.osq_program.specs.Checking.{IsRefusedFor}
 use Rattle.osq_program.specs.Ending.{IsAnswerTo, IsNamedAt}
 use Rattle.osq_program.specs.Reasons.{HasShrunk}
-use Rattle.osq_program.specs.Replaying.{IsAccepted, IsGiven, IsReplay, IsToldBy, Ran, causes_of, fixed}
+use Rattle.osq_program.specs.Replaying.{IsAccepted, IsReplayGiven, IsReplay, IsToldBy, Ran, causes_of, fixed}
 use Rattle.osq_program.specs.Report.{final_line, spent_line}
 use Rattle.osq_program.specs.Setups.{setup_in, sources_named}
-use Rattle.osq_program.specs.Told.{Told}
+use Rattle.osq_program.specs.Observed.{Observed}
 use Rattle.osq_program.proofs.Setups.{sources_are}
 
 -- a refusal with a cause is no other answer
@@ -84,70 +84,70 @@ not_usage c (QueryRefused place kind) caused is = is
 not_usage c OutOfMemory caused is = is
 
 -- the configuration is refused
-config_cause : (words : ReplayWords) (told : Told) (s : Status) → IsCaused (record no_causes { files = told.files_failed; refused = IsRefusedFor told.files_tell told.file words.config }) s → IsCaused (causes_of words told) s
-config_cause words told Done caused = caused
-config_cause words told Usage caused = caused
-config_cause words told FilesFault caused = caused
-config_cause words told (ConfigRefused kind key) caused = caused
-config_cause words told KeeperFault caused = absurd caused
-config_cause words told KeeperRefused caused = absurd caused
-config_cause words told (MomentTooLarge moment) caused = absurd caused
-config_cause words told (SourceFault name) caused = absurd caused
-config_cause words told (SourceShrank name kept found) caused = absurd caused
-config_cause words told NumbersSpent caused = absurd caused
-config_cause words told SinkFault caused = absurd caused
-config_cause words told TicksSpent caused = caused
-config_cause words told (QueryRefused place kind) caused = caused
-config_cause words told OutOfMemory caused = tt
+config_cause : (words : ReplayWords) (seen : Observed) (s : Status) → IsCaused (record no_causes { files = seen.files_failed; refused = IsRefusedFor seen.files_tell seen.file words.config }) s → IsCaused (causes_of words seen) s
+config_cause words seen Done caused = caused
+config_cause words seen Usage caused = caused
+config_cause words seen FilesFault caused = caused
+config_cause words seen (ConfigRefused kind key) caused = caused
+config_cause words seen KeeperFault caused = absurd caused
+config_cause words seen KeeperRefused caused = absurd caused
+config_cause words seen (MomentTooLarge moment) caused = absurd caused
+config_cause words seen (SourceFault name) caused = absurd caused
+config_cause words seen (SourceShrank name kept found) caused = absurd caused
+config_cause words seen NumbersSpent caused = absurd caused
+config_cause words seen SinkFault caused = absurd caused
+config_cause words seen TicksSpent caused = caused
+config_cause words seen (QueryRefused place kind) caused = caused
+config_cause words seen OutOfMemory caused = tt
 
 -- the last line of a whole session could not be written
-line_cause : (words : ReplayWords) (told : Told) → IsAccepted words told → (s : Status) → IsCaused (record no_causes { sink = told.status_failed }) s → IsCaused (causes_of words told) s
-line_cause words told accepted Done caused = caused
-line_cause words told accepted Usage caused = caused
-line_cause words told accepted FilesFault caused = absurd caused
-line_cause words told accepted (ConfigRefused kind key) caused = absurd caused
-line_cause words told accepted KeeperFault caused = absurd caused
-line_cause words told accepted KeeperRefused caused = absurd caused
-line_cause words told accepted (MomentTooLarge moment) caused = absurd caused
-line_cause words told accepted (SourceFault name) caused = absurd caused
-line_cause words told accepted (SourceShrank name kept found) caused = absurd caused
-line_cause words told accepted NumbersSpent caused = absurd caused
-line_cause words told accepted SinkFault caused = (accepted, inr caused)
-line_cause words told accepted TicksSpent caused = caused
-line_cause words told accepted (QueryRefused place kind) caused = caused
-line_cause words told accepted OutOfMemory caused = tt
+line_cause : (words : ReplayWords) (seen : Observed) → IsAccepted words seen → (s : Status) → IsCaused (record no_causes { sink = seen.status_failed }) s → IsCaused (causes_of words seen) s
+line_cause words seen accepted Done caused = caused
+line_cause words seen accepted Usage caused = caused
+line_cause words seen accepted FilesFault caused = absurd caused
+line_cause words seen accepted (ConfigRefused kind key) caused = absurd caused
+line_cause words seen accepted KeeperFault caused = absurd caused
+line_cause words seen accepted KeeperRefused caused = absurd caused
+line_cause words seen accepted (MomentTooLarge moment) caused = absurd caused
+line_cause words seen accepted (SourceFault name) caused = absurd caused
+line_cause words seen accepted (SourceShrank name kept found) caused = absurd caused
+line_cause words seen accepted NumbersSpent caused = absurd caused
+line_cause words seen accepted SinkFault caused = (accepted, inr caused)
+line_cause words seen accepted TicksSpent caused = caused
+line_cause words seen accepted (QueryRefused place kind) caused = caused
+line_cause words seen accepted OutOfMemory caused = tt
 
 -- a run that ended before its session was done
-pub stopped : (words : ReplayWords) (told : Told) (s r : Status) → r ≡ s → IsCaused (causes_of words told) s
-    → (told.keeper_tells → (told.kept_after ≡ told.kept_before) ⊎ ((given : Given) × IsGiven words told given × IsKept (fixed told given) told.has_read told.kept_after))
-    → (told.sink_tells → (told.results_after ≡ told.results_before) ⊎ ((given : Given) × IsGiven words told given × IsWritten (fixed told given) told.kept_after told.results_after))
-    → IsReplay words told r
-stopped words told s r is caused kept written =
-    subst (IsReplay words told) (sym is) (record {
-      done = λ done. absurd (not_done (causes_of words told) s caused done);
-      spent = λ spent. absurd (not_spent (causes_of words told) s caused spent);
+pub stopped : (words : ReplayWords) (seen : Observed) (s r : Status) → r ≡ s → IsCaused (causes_of words seen) s
+    → (seen.keeper_tells → (seen.kept_after ≡ seen.kept_before) ⊎ ((given : Given) × IsReplayGiven words seen given × IsKept (fixed seen given) seen.has_read seen.kept_after))
+    → (seen.sink_tells → (seen.results_after ≡ seen.results_before) ⊎ ((given : Given) × IsReplayGiven words seen given × IsWritten (fixed seen given) seen.kept_after seen.results_after))
+    → IsReplay words seen r
+stopped words seen s r is caused kept written =
+    subst (IsReplay words seen) (sym is) (record {
+      done = λ done. absurd (not_done (causes_of words seen) s caused done);
+      spent = λ spent. absurd (not_spent (causes_of words seen) s caused spent);
       cause = λ refusal. caused;
       kept = kept;
       written = written;
     })
 
 -- before its session began
-unbegun : (words : ReplayWords) (told : Told) (s r : Status) → r ≡ s → IsCaused (causes_of words told) s → (told.keeper_tells → told.kept_after ≡ told.kept_before) → (told.sink_tells → told.results_after ≡ told.results_before)
-    → IsReplay words told r
-unbegun words told s r is caused kept same = stopped words told s r is caused (λ tells. inl (kept tells)) (λ tells. inl (same tells))
+unbegun : (words : ReplayWords) (seen : Observed) (s r : Status) → r ≡ s → IsCaused (causes_of words seen) s → (seen.keeper_tells → seen.kept_after ≡ seen.kept_before) → (seen.sink_tells → seen.results_after ≡ seen.results_before)
+    → IsReplay words seen r
+unbegun words seen s r is caused kept same = stopped words seen s r is caused (λ tells. inl (kept tells)) (λ tells. inl (same tells))
 
-pub refused_config : (words : ReplayWords) (told : Told) (s r : Status) → r ≡ s → IsCaused (record no_causes { files = told.files_failed; refused = IsRefusedFor told.files_tell told.file words.config }) s
-    → (told.keeper_tells → told.kept_after ≡ told.kept_before) → (told.sink_tells → told.results_after ≡ told.results_before) → IsReplay words told r
-refused_config words told s r is caused kept same = unbegun words told s r is (config_cause words told s caused) kept same
+pub refused_config : (words : ReplayWords) (seen : Observed) (s r : Status) → r ≡ s → IsCaused (record no_causes { files = seen.files_failed; refused = IsRefusedFor seen.files_tell seen.file words.config }) s
+    → (seen.keeper_tells → seen.kept_after ≡ seen.kept_before) → (seen.sink_tells → seen.results_after ≡ seen.results_before) → IsReplay words seen r
+refused_config words seen s r is caused kept same = unbegun words seen s r is (config_cause words seen s caused) kept same
 
-pub no_memory : (words : ReplayWords) (told : Told) (r : Status) → r ≡ OutOfMemory → (told.keeper_tells → told.kept_after ≡ told.kept_before) → (told.sink_tells → told.results_after ≡ told.results_before)
-    → IsReplay words told r
-no_memory words told r is kept same = unbegun words told OutOfMemory r is tt kept same
+pub no_memory : (words : ReplayWords) (seen : Observed) (r : Status) → r ≡ OutOfMemory → (seen.keeper_tells → seen.kept_after ≡ seen.kept_before) → (seen.sink_tells → seen.results_after ≡ seen.results_before)
+    → IsReplay words seen r
+no_memory words seen r is kept same = unbegun words seen OutOfMemory r is tt kept same
 
 -- what a session is given by its setup
-abbrev pub given_is : {S : Type 0} (left : S → List ℕ) (words : ReplayWords) (told : Told) (setup : Setup) (config : Config) (documents : List (List ℕ)) (notes : List ℕ) (objects : List S) → setup ≡ setup_in words
-    → told.all_bytes ≡ map left objects → IsConfigured told.files_tell told.file words.config config documents notes → IsGiven words told (given_of setup config documents left objects)
-given_is left words told setup config documents notes objects is bytes configured = record {
+abbrev pub given_is : {S : Type 0} (left : S → List ℕ) (words : ReplayWords) (seen : Observed) (setup : Setup) (config : Config) (documents : List (List ℕ)) (notes : List ℕ) (objects : List S) → setup ≡ setup_in words
+    → seen.all_bytes ≡ map left objects → IsConfigured seen.files_tell seen.file words.config config documents notes → IsReplayGiven words seen (given_of setup config documents left objects)
+given_is left words seen setup config documents notes objects is bytes configured = record {
   notes = notes;
   configured = configured;
   host = ap (λ (s : Setup). s.host) is;
@@ -156,23 +156,23 @@ given_is left words told setup config documents notes objects is bytes configure
 }
 
 -- a session that did all its ticks, and what was then told of it
-module _ (words : ReplayWords) (told : Told) (status : Status) (given : Given) (is : IsGiven words told given) (ended : Ended)
-    (run : HasRun (fixed told given) told.has_read words.ticks told.kept_after told.results_after ended) (between : List ℕ) (session : told.sink_tells → HasTold given.config given.host is.notes told.status_before between) where
-  abbrev ran_with : (is_end : Bool) → ended.is_end ≡ is_end → Ran words told is_end
+module _ (words : ReplayWords) (seen : Observed) (status : Status) (given : Given) (is : IsReplayGiven words seen given) (ended : Ended)
+    (run : HasRun (fixed seen given) seen.has_read words.ticks seen.kept_after seen.results_after ended) (between : List ℕ) (session : seen.sink_tells → HasTold given.config given.host is.notes seen.status_before between) where
+  abbrev ran_with : (is_end : Bool) → ended.is_end ≡ is_end → Ran words seen is_end
   ran_with is_end end_is = record { given = given; is = is; ended = ended; end_is = end_is; run = run }
 
-  told_by : (text : List ℕ) → told.sink_tells → told.status_after ≡ between ++ text → IsToldBy told given is.notes text
+  told_by : (text : List ℕ) → seen.sink_tells → seen.status_after ≡ between ++ text → IsToldBy seen given is.notes text
   told_by text tells written = (between, session tells, written)
 
-  told_spent : (failed : Type 0) → (failed → told.status_failed) → told.sink_tells → (told.status_after ≡ between ++ (spent_line ++ final_line 11 ended.numbers 0)) ⊎ failed
-      → IsToldBy told given is.notes (spent_line ++ final_line 11 ended.numbers 0) ⊎ told.status_failed
+  told_spent : (failed : Type 0) → (failed → seen.status_failed) → seen.sink_tells → (seen.status_after ≡ between ++ (spent_line ++ final_line 11 ended.numbers 0)) ⊎ failed
+      → IsToldBy seen given is.notes (spent_line ++ final_line 11 ended.numbers 0) ⊎ seen.status_failed
   told_spent failed more tells (inl written) = inl (told_by (spent_line ++ final_line 11 ended.numbers 0) tells written)
   told_spent failed more tells (inr rose) = inr (more rose)
 
-  pub ran : (failed : Type 0) → (failed → told.status_failed) → (IsDoneStatus status → (ended.is_end ≡ true) × (told.sink_tells → told.status_after ≡ between ++ final_line 0 ended.numbers 0))
-      → (IsSpentStatus status → (ended.is_end ≡ false) × (told.sink_tells → (told.status_after ≡ between ++ (spent_line ++ final_line 11 ended.numbers 0)) ⊎ failed))
+  pub ran : (failed : Type 0) → (failed → seen.status_failed) → (IsDoneStatus status → (ended.is_end ≡ true) × (seen.sink_tells → seen.status_after ≡ between ++ final_line 0 ended.numbers 0))
+      → (IsSpentStatus status → (ended.is_end ≡ false) × (seen.sink_tells → (seen.status_after ≡ between ++ (spent_line ++ final_line 11 ended.numbers 0)) ⊎ failed))
       → (IsRefusal status → IsCaused (record no_causes { sink = failed }) status)
-      → (told.keeper_tells → IsKept (fixed told given) told.has_read told.kept_after) → (told.sink_tells → IsWritten (fixed told given) told.kept_after told.results_after) → IsReplay words told status
+      → (seen.keeper_tells → IsKept (fixed seen given) seen.has_read seen.kept_after) → (seen.sink_tells → IsWritten (fixed seen given) seen.kept_after seen.results_after) → IsReplay words seen status
   ran failed more done spent cause kept written = record {
     done = λ finished.
         let end = done finished in
@@ -180,11 +180,11 @@ module _ (words : ReplayWords) (told : Told) (status : Status) (given : Given) (
     spent = λ finished.
         let end = spent finished in
         (ran_with false end.0, λ tells. told_spent failed more tells (end.1 tells));
-    cause = λ refusal. line_cause words told (given, is) status (failed_more status (cause refusal));
+    cause = λ refusal. line_cause words seen (given, is) status (failed_more status (cause refusal));
     kept = λ tells. inr (given, is, kept tells);
     written = λ tells. inr (given, is, written tells);
   } where
-    failed_more : (s : Status) → IsCaused (record no_causes { sink = failed }) s → IsCaused (record no_causes { sink = told.status_failed }) s
+    failed_more : (s : Status) → IsCaused (record no_causes { sink = failed }) s → IsCaused (record no_causes { sink = seen.status_failed }) s
     failed_more Done caused = caused
     failed_more Usage caused = caused
     failed_more FilesFault caused = absurd caused
@@ -223,17 +223,17 @@ same_name sources place name source named there =
     ap (λ (s : SourceName). s.name) (same_Some source named.source (sym there ∙ named.there)) ∙ sym named.name_is
 
 -- a source that shrank, by the words
-pub shrank_by : {S : Type 0} (left : S → List ℕ) (sources : List SourceName) (told : Told) (names : List SourceName) (objects : List S) (taken : List Taken) (place kept found : ℕ) (name : List ℕ) → names ≡ sources
-    → told.all_bytes ≡ map left objects → (told.keeper_tells → taken ≡ (summary told.kept_before).taken)
-    → starting.HasShrunk told.source_tells left taken names place kept found objects → IsNamedAt sources place name → HasShrunk sources told name kept found
-shrank_by left sources told names objects taken place kept found name is bytes taken_there h named =
+pub shrank_by : {S : Type 0} (left : S → List ℕ) (sources : List SourceName) (seen : Observed) (names : List SourceName) (objects : List S) (taken : List Taken) (place kept found : ℕ) (name : List ℕ) → names ≡ sources
+    → seen.all_bytes ≡ map left objects → (seen.keeper_tells → taken ≡ (summary seen.kept_before).taken)
+    → starting.HasShrunk seen.source_tells left taken names place kept found objects → IsNamedAt sources place name → HasShrunk sources seen name kept found
+shrank_by left sources seen names objects taken place kept found name is bytes taken_there h named =
     let there = sym (ap (λ (ns : List SourceName). slice_get ns place) is) ∙ h.named in
     let same = same_name sources place name h.name named there in
     record {
       place = place;
       named = named;
       short = h.short;
-      kept_is = λ tells. h.kept_is ∙ ap (λ (t : List Taken). offset_at t h.name.name) (taken_there tells) ∙ taken_is told.kept_before h.name.name ∙ ap (taken_from told.kept_before) same;
+      kept_is = λ tells. h.kept_is ∙ ap (λ (t : List Taken). offset_at t h.name.name) (taken_there tells) ∙ taken_is seen.kept_before h.name.name ∙ ap (taken_from seen.kept_before) same;
       ended = λ tells. (left h.source, ap (λ (bs : List (List ℕ)). slice_get bs place) bytes ∙ slice_get-map left objects place ∙ ap (option_map left) h.source_there, h.ended tells);
     }
 

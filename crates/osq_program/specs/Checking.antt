@@ -19,7 +19,7 @@ use Rattle.osq_program.specs.declared.status.Status.{Status}
 use Rattle.osq_program.specs.declared.status.Status.TheVariants.{Ok as Done, ConfigRefused, OutOfMemory, SinkFault}
 use Rattle.osq_program.specs.Answers.{Causes, IsCaused, IsSpentStatus, IsRefusal, no_causes}
 use Rattle.program_words.specs.declared.command.CheckWords.{CheckWords}
-use Rattle.osq_program.specs.Told.{Told}
+use Rattle.osq_program.specs.Observed.{Observed}
 
 abbrev pub mode_text : Mode → List ℕ
 mode_text Evented = codes "evented"
@@ -63,34 +63,34 @@ pub record IsListing (config : Config) (host : Host) (found : List Bool) (lines 
   pub are : lines ≡ schedule_lines schedule.queries
 
 -- the lines of a check: those of the schedule, and those that a session of it would tell of the configuration
-pub record HasLines (w : CheckWords) (told : Told) (lines notes : List ℕ) : Type 0 where
+pub record HasLines (w : CheckWords) (seen : Observed) (lines notes : List ℕ) : Type 0 where
   pub config : Config
   pub documents : List (List ℕ)
   pub left_out : List ℕ
-  pub configured : IsConfigured told.files_tell told.file w.config config documents left_out
+  pub configured : IsConfigured seen.files_tell seen.file w.config config documents left_out
   pub listing : IsListing config (checked_host w) (all_found config) lines
   pub noted : AreNotes config (checked_host w) (all_found config) left_out notes
 
 -- the causes of a check
-abbrev pub causes_of : CheckWords → Told → Causes
-causes_of w told =
+abbrev pub causes_of : CheckWords → Observed → Causes
+causes_of w seen =
     record no_causes {
-      files = told.files_failed;
-      refused = IsRefusedFor told.files_tell told.file w.config;
-      sink = told.results_failed ⊎ told.status_failed;
+      files = seen.files_failed;
+      refused = IsRefusedFor seen.files_tell seen.file w.config;
+      sink = seen.results_failed ⊎ seen.status_failed;
     }
 
 -- What each answer leaves in the results and, where the check is done, on the status stream. At a fault of a sink the results have grown
 -- by a front part of the lines, and at any other refusal they are as before.
-abbrev pub Leaves : CheckWords → Told → Status → Type 0
-Leaves w told Done = (lines notes : List ℕ) × HasLines w told lines notes
-    × (told.sink_tells → (told.results_after ≡ told.results_before ++ lines) × (told.status_after ≡ told.status_before ++ notes))
-Leaves w told SinkFault = (lines notes : List ℕ) × HasLines w told lines notes
-    × (told.sink_tells → (count : ℕ) × (told.results_after ≡ told.results_before ++ take count lines))
-Leaves w told _ = told.sink_tells → told.results_after ≡ told.results_before
+abbrev pub CheckLeaves : CheckWords → Observed → Status → Type 0
+CheckLeaves w seen Done = (lines notes : List ℕ) × HasLines w seen lines notes
+    × (seen.sink_tells → (seen.results_after ≡ seen.results_before ++ lines) × (seen.status_after ≡ seen.status_before ++ notes))
+CheckLeaves w seen SinkFault = (lines notes : List ℕ) × HasLines w seen lines notes
+    × (seen.sink_tells → (count : ℕ) × (seen.results_after ≡ seen.results_before ++ take count lines))
+CheckLeaves w seen _ = seen.sink_tells → seen.results_after ≡ seen.results_before
 
-pub record IsCheck (w : CheckWords) (told : Told) (status : Status) : Type 0 where
-  pub leaves : Leaves w told status
+pub record IsCheck (w : CheckWords) (seen : Observed) (status : Status) : Type 0 where
+  pub leaves : CheckLeaves w seen status
   pub unspent : IsSpentStatus status → ⊥
-  pub cause : IsRefusal status → IsCaused (causes_of w told) status
-  pub kept : told.keeper_tells → told.kept_after ≡ told.kept_before
+  pub cause : IsRefusal status → IsCaused (causes_of w seen) status
+  pub kept : seen.keeper_tells → seen.kept_after ≡ seen.kept_before

@@ -8,16 +8,16 @@ use Rattle.osq_program.specs.Checking.{IsCheck}
 use Rattle.osq_program.specs.Explaining.{IsExplain}
 use Rattle.osq_program.specs.Querying.{IsQuery}
 use Rattle.osq_program.specs.Replaying.{IsReplay}
-use Rattle.osq_program.specs.Told.{Told}
+use Rattle.osq_program.specs.Observed.{Observed}
 
-abbrev pub QueriesBy : Bool → QueryWords → Told → Status → Type 0
-QueriesBy true words told status = IsExplain (record { text = words.text }) told status
-QueriesBy false words told status = IsQuery words told status
+abbrev pub QueriesBy : Bool → QueryWords → Observed → Status → Type 0
+QueriesBy true words seen status = IsExplain (record { text = words.text }) seen status
+QueriesBy false words seen status = IsQuery words seen status
 
-abbrev pub DoesQuery : QueryWords → Told → Status → Type 0
-DoesQuery words told status = QueriesBy words.explain words told status
+abbrev pub DoesQuery : QueryWords → Observed → Status → Type 0
+DoesQuery words seen status = QueriesBy words.explain words seen status
 
-abbrev pub Does : CommandWords → Told → Status → Type 0
-Does (AsksReplay words) told status = IsReplay words told status
-Does (AsksQuery words) told status = DoesQuery words told status
-Does (AsksCheck words) told status = IsCheck words told status
+abbrev pub MeetsCommand : CommandWords → Observed → Status → Type 0
+MeetsCommand (AsksReplay words) seen status = IsReplay words seen status
+MeetsCommand (AsksQuery words) seen status = DoesQuery words seen status
+MeetsCommand (AsksCheck words) seen status = IsCheck words seen status

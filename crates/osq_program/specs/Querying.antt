@@ -12,7 +12,7 @@ use Rattle.sql_texts.specs.Meaning.{names_of}
 use Rattle.sql_texts.specs.declared.text.TextError.{TextError}
 use Rattle.sql_texts.specs.TextFaults.{text_fault, place_of_fault, name_of_fault}
 use Rattle.session_model.specs.Given.{Given}
-use Rattle.query_rounds.specs.Asking.{IsAnswer, IsMeant, Spends}
+use Rattle.query_rounds.specs.Asking.{IsAnswer, AnswersSomeContinuation, Spends}
 use Rattle.query_rounds.specs.Skipping.{TellsSkipped}
 use Rattle.query_rounds.specs.declared.asking.Asked.{Asked}
 use Rattle.osq_program.specs.declared.status.Status.{Status}
@@ -20,7 +20,7 @@ use Rattle.osq_program.specs.declared.status.Status.TheVariants.{Ok as Done, Sin
 use Rattle.osq_program.specs.Answers.{Causes, IsCaused, IsRefusal, no_causes}
 use Rattle.osq_program.specs.Reasons.{HasFailed, HasShrunk, IsUnfit}
 use Rattle.osq_program.specs.Setups.{sources_named}
-use Rattle.osq_program.specs.Told.{Told}
+use Rattle.osq_program.specs.Observed.{Observed}
 use Rattle.osq_program.specs.Watching.{IsRefusedIn, Watches}
 
 -- an object and a line feed for each row
@@ -37,49 +37,49 @@ IsRefusedAt text place kind =
     (fault : TextError) × (text_fault text ≡ Some fault) × (place ≡ place_of_fault fault) × (kind ≡ name_of_fault fault)
 
 -- the text is a query, and the configuration, where the words name one, was accepted
-pub record IsPosed (words : QueryWords) (told : Told) : Type 0 where
+pub record IsPosed (words : QueryWords) (seen : Observed) : Type 0 where
   pub accepted : text_fault words.text ≡ None
-  pub watched : Watches told.files_tell told.file words.config
+  pub watched : Watches seen.files_tell seen.file words.config
 
 -- A question is over the sources of the words, of each all that its object had to give, and over changes of these paths alone.
-pub record IsGiven (words : QueryWords) (told : Told) (posed : IsPosed words told) (given : Given) : Type 0 where
-  pub sources : given.sources ≡ sources_named words.sources told.all_bytes
+pub record IsQueryGiven (words : QueryWords) (seen : Observed) (posed : IsPosed words seen) (given : Given) : Type 0 where
+  pub sources : given.sources ≡ sources_named words.sources seen.all_bytes
   pub paths : given.config.categories ≡ posed.watched.paths
   pub records : given.records ≡ words.records
 
 -- The question was answered at the clock's one reading, over the kept list and what the sources have behind it: they were read to their ends, or
 -- one of them had more, and the lines that were skipped were counted. Whatever the sources tell, the rows are those that the text means over the kept list, an opening, and entries for what they gave.
-pub record HasAnswer (words : QueryWords) (told : Told) (is_end : Bool) : Type 0 where
-  pub posed : IsPosed words told
+pub record HasAnswer (words : QueryWords) (seen : Observed) (is_end : Bool) : Type 0 where
+  pub posed : IsPosed words seen
   pub moment : ℕ
-  pub read : told.reads moment
+  pub read : seen.reads moment
   pub early : moment ≤ LAST_MOMENT
   pub asked : Asked
   pub end_is : asked.is_end ≡ is_end
-  pub meant : IsMeant told.keeper_tells told.kept_before words.sources words.text moment asked.rows
+  pub meant : AnswersSomeContinuation seen.keeper_tells seen.kept_before words.sources words.text moment asked.rows
   pub taken : List Taken
-  pub taken_is : told.keeper_tells → taken ≡ (summary told.kept_before).taken
-  pub skips : TellsSkipped told.source_tells posed.watched.paths taken words.sources told.all_bytes asked.is_end asked.skipped
-  pub answer : told.keeper_tells → told.source_tells → Legal told.kept_before → (given : Given) → IsGiven words told posed given → IsAnswer given told.kept_before words.text words.ticks moment asked
+  pub taken_is : seen.keeper_tells → taken ≡ (summary seen.kept_before).taken
+  pub skips : TellsSkipped seen.source_tells posed.watched.paths taken words.sources seen.all_bytes asked.is_end asked.skipped
+  pub answer : seen.keeper_tells → seen.source_tells → Legal seen.kept_before → (given : Given) → IsQueryGiven words seen posed given → IsAnswer given seen.kept_before words.text words.ticks moment asked
 
 -- the lines of these rows
 abbrev pub lines_in : QueryWords → Asked → List ℕ
 lines_in words asked = row_lines (names_of words.text) asked.rows
 
 -- The causes of a query. Each carries what was passed before it.
-abbrev pub causes_of : QueryWords → Told → Causes
-causes_of words told =
+abbrev pub causes_of : QueryWords → Observed → Causes
+causes_of words seen =
     record no_causes {
       query = IsRefusedAt words.text;
-      files = (text_fault words.text ≡ None) × told.files_failed;
-      refused = λ kind key. (text_fault words.text ≡ None) × IsRefusedIn told.files_tell told.file words.config kind key;
-      keeper = IsPosed words told × told.keeper_failed;
-      unfit = IsPosed words told × IsUnfit told;
-      moment = λ moment. IsPosed words told × told.reads moment × (LAST_MOMENT < moment);
-      source = λ name. IsPosed words told × HasFailed words.sources told name;
-      shrank = λ name kept found. IsPosed words told × HasShrunk words.sources told name kept found;
-      numbers = (posed : IsPosed words told) × (told.keeper_tells → told.source_tells → Legal told.kept_before → (given : Given) → IsGiven words told posed given → Spends given told.kept_before words.ticks);
-      sink = IsPosed words told × (told.results_failed ⊎ told.status_failed);
+      files = (text_fault words.text ≡ None) × seen.files_failed;
+      refused = λ kind key. (text_fault words.text ≡ None) × IsRefusedIn seen.files_tell seen.file words.config kind key;
+      keeper = IsPosed words seen × seen.keeper_failed;
+      unfit = IsPosed words seen × IsUnfit seen;
+      moment = λ moment. IsPosed words seen × seen.reads moment × (LAST_MOMENT < moment);
+      source = λ name. IsPosed words seen × HasFailed words.sources seen name;
+      shrank = λ name kept found. IsPosed words seen × HasShrunk words.sources seen name kept found;
+      numbers = (posed : IsPosed words seen) × (seen.keeper_tells → seen.source_tells → Legal seen.kept_before → (given : Given) → IsQueryGiven words seen posed given → Spends given seen.kept_before words.ticks);
+      sink = IsPosed words seen × (seen.results_failed ⊎ seen.status_failed);
     }
 
 -- What the writing of these lines leaves of a sink: all of them or, at its fault, a front part; and none, where the sources had more.
@@ -93,15 +93,15 @@ Writes tells is_end before after lines failed _ = ⊥
 -- What each answer leaves in the results, and where the query is done on the status stream, which then tells of each pack that is left out and of the
 -- lines that were skipped. At a fault of the status stream before the rows are written, and at any other refusal, the results are as before; at a fault of theirs they have a front
 -- part of the lines.
-abbrev pub Leaves : QueryWords → Told → Status → Type 0
-Leaves words told Done = (has : HasAnswer words told true)
-    × (told.sink_tells → (told.results_after ≡ told.results_before ++ lines_in words has.asked) × (told.status_after ≡ told.status_before ++ (has.posed.watched.notes ++ has.asked.skipped)))
-Leaves words told SinkFault = (told.status_failed × (told.sink_tells → told.results_after ≡ told.results_before))
-    ⊎ ((has : HasAnswer words told true) × told.results_failed × (told.sink_tells → (count : ℕ) × (told.results_after ≡ told.results_before ++ take count (lines_in words has.asked))))
-Leaves words told TicksSpent = HasAnswer words told false × (told.sink_tells → told.results_after ≡ told.results_before)
-Leaves words told _ = told.sink_tells → told.results_after ≡ told.results_before
+abbrev pub QueryLeaves : QueryWords → Observed → Status → Type 0
+QueryLeaves words seen Done = (has : HasAnswer words seen true)
+    × (seen.sink_tells → (seen.results_after ≡ seen.results_before ++ lines_in words has.asked) × (seen.status_after ≡ seen.status_before ++ (has.posed.watched.notes ++ has.asked.skipped)))
+QueryLeaves words seen SinkFault = (seen.status_failed × (seen.sink_tells → seen.results_after ≡ seen.results_before))
+    ⊎ ((has : HasAnswer words seen true) × seen.results_failed × (seen.sink_tells → (count : ℕ) × (seen.results_after ≡ seen.results_before ++ take count (lines_in words has.asked))))
+QueryLeaves words seen TicksSpent = HasAnswer words seen false × (seen.sink_tells → seen.results_after ≡ seen.results_before)
+QueryLeaves words seen _ = seen.sink_tells → seen.results_after ≡ seen.results_before
 
-pub record IsQuery (words : QueryWords) (told : Told) (status : Status) : Type 0 where
-  pub leaves : Leaves words told status
-  pub cause : IsRefusal status → IsCaused (causes_of words told) status
-  pub kept : told.keeper_tells → told.kept_after ≡ told.kept_before
+pub record IsQuery (words : QueryWords) (seen : Observed) (status : Status) : Type 0 where
+  pub leaves : QueryLeaves words seen status
+  pub cause : IsRefusal status → IsCaused (causes_of words seen) status
+  pub kept : seen.keeper_tells → seen.kept_after ≡ seen.kept_before

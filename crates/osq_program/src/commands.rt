@@ -10,7 +10,7 @@ ghost use Rattle.program_words.specs.declared.command.QueryWords.{QueryWords};
 ghost use Rattle.program_words.specs.declared.command.CommandWords.TheVariants.{Check as AsksCheck, Query as AsksQuery};
 ghost use Rattle.program_words.specs.Commands.{sources_in};
 ghost use Rattle.osq_program.specs.Answers.{IsUsageStatus};
-ghost use Rattle.osq_program.specs.Doing.{Does, DoesQuery};
+ghost use Rattle.osq_program.specs.Doing.{MeetsCommand, DoesQuery};
 
 use crate::check::run_check;
 use crate::explain::run_explain;
@@ -83,7 +83,7 @@ pub(crate) fn run_command<S: Source, O: Sink, F: Files, C: Clock, K: Keeper, L: 
         → outside.new ≡ record outside.old { results = outside.new.results; status = outside.new.status } }
     ensures check_unread { (check : CheckWords) → words.now ≡ AsksCheck check
         → (outside.new.sources ≡ outside.old.sources) × (outside.new.clock ≡ outside.old.clock) × (outside.new.keeper ≡ outside.old.keeper) }
-    ensures does { Does words.now (record {
+    ensures does { MeetsCommand words.now (record {
       files_tell = F.tells;
       file = F.file outside.old.files;
       files_failed = Rose (F.faults outside.old.files) (F.faults outside.new.files);

@@ -8,7 +8,7 @@ use Rattle.record_lines.specs.Lines.{HasNoFeed}
 use Rattle.audit_records.specs.declared.line.AuditLine.{AuditLine}
 use Rattle.publisher_core.specs.declared.gathering.AuditRecord.{AuditRecord}
 use Rattle.publisher_core.specs.declared.record.Gain.{Gain}
-use Rattle.publisher_core.specs.declared.record.Piece.{Piece}
+use Rattle.publisher_core.specs.declared.record.ReadRecord.{ReadRecord}
 use Rattle.publisher_core.specs.AuditParts.{Item, lines_in, skipped_in, IsPart, IsPartBy, AreRecordsOf}
 use Rattle.publisher_core.specs.Audit.{items_of, line_in}
 use Rattle.publisher_core.specs.Records.{ended, HaveNoFeed, LinesGive}
@@ -49,7 +49,7 @@ not_plain [] behind plain = plain.0 refl
 not_plain (byte ∷ line) behind plain = not_plain line behind plain.1
 
 -- one more line of a source that gives by lines
-pub lines_give_more : (gives : List ℕ → Gain → Type 0) (start : ℕ) (lines : List (List ℕ)) (pieces : List Piece) (line : List ℕ) (piece : Piece) → LinesGive gives start lines pieces → gives line piece.gain → piece.end ≡ start + length (ended lines) + length line + 1 → LinesGive gives start (lines ++ line ∷ []) (pieces ++ piece ∷ [])
+pub lines_give_more : (gives : List ℕ → Gain → Type 0) (start : ℕ) (lines : List (List ℕ)) (pieces : List ReadRecord) (line : List ℕ) (piece : ReadRecord) → LinesGive gives start lines pieces → gives line piece.gain → piece.end ≡ start + length (ended lines) + length line + 1 → LinesGive gives start (lines ++ line ∷ []) (pieces ++ piece ∷ [])
 lines_give_more gives start [] [] line piece all one end = (one, (let at : piece.end ≡ start + length line + 1 = omega (arith, end) in at), tt)
 lines_give_more gives start [] (first ∷ pieces) line piece all one end = absurd all
 lines_give_more gives start (other ∷ lines) [] line piece all one end = absurd all

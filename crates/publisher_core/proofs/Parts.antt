@@ -5,7 +5,7 @@ use Rattle.std.proofs.lemmas.List.{append-nil}
 use Rattle.std.proofs.lemmas.List.Elements.{filter_map-append}
 use Rattle.std.proofs.lemmas.Grind.{flat_map-append}
 use Rattle.audit_records.specs.declared.line.AuditLine.{AuditLine}
-use Rattle.audit_records.specs.Groups.{whole, Stands as StandsForGroups}
+use Rattle.audit_records.specs.Groups.{whole, HasGrouped as StandsForGroups}
 use Rattle.audit_records.specs.Runs.{AreWholeRuns, BeginsAnew}
 use Rattle.audit_records.proofs.Runs.{groups_of-runs}
 use Rattle.publisher_core.specs.declared.gathering.AuditRecord.{AuditRecord}

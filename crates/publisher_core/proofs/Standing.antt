@@ -12,7 +12,7 @@ use Rattle.publisher_core.specs.declared.gathering.Gathering.{Gathering}
 use Rattle.osq_value.specs.declared.source.SourceKind.{SourceKind}
 use Rattle.osq_value.specs.declared.source.SourceKind.TheVariants.{Audit, Changes, Tables}
 use Rattle.publisher_core.specs.declared.record.Gain.{Gain}
-use Rattle.publisher_core.specs.declared.record.Piece.{Piece}
+use Rattle.publisher_core.specs.declared.record.ReadRecord.{ReadRecord}
 use Rattle.audit_records.specs.declared.line.AuditLine.{AuditLine}
 use Rattle.audit_records.specs.Groups.{groups_of, whole}
 use Rattle.publisher_core.specs.AuditParts.{Item, AreRecordsOf, groups_in, lines_in}
@@ -20,13 +20,13 @@ use Rattle.publisher_core.proofs.Only.{groups_of_log}
 use Rattle.publisher_core.specs.Gathered as gathered
 use Rattle.publisher_core.specs.Audit.{items_of, line_in, IsPieceOf}
 use Rattle.publisher_core.specs.Records.{ended, HaveNoFeed, LinesGive, ChangeGives, TableGives}
-use Rattle.publisher_core.specs.Standing.{Reader, Stands, Gives, Waits, AuditWaits, NoneWaits, HasGathered, is_at_end, limit_of}
+use Rattle.publisher_core.specs.Standing.{Reader, HasPublished, Gives, Waits, AuditWaits, NoneWaits, HasGathered, is_at_end, limit_of}
 use Rattle.publisher_core.specs.Stepping.{HoldsLast, IsDry, TakesCut}
 use Rattle.publisher_core.proofs.Parts.{records_split, records_none, records_end, lines_in-append, lines_in-skipped}
 use Rattle.publisher_core.proofs.Given.{cut_more, plain_more, not_plain, size_more, lines_give_more, items_more, front_lines, last_end, as_many, items_of-append, length-items, more_bytes, none_more, zip_more}
 
 -- a line was cut off where its source is not at its end
-goes_on : (before reader : Reader) (given : List Piece) (start : ℕ) (stream : List ℕ) (cut : Cut) → TakesCut before reader given start stream cut → before.is_ended ≡ true → ⊥
+goes_on : (before reader : Reader) (given : List ReadRecord) (start : ℕ) (stream : List ℕ) (cut : Cut) → TakesCut before reader given start stream cut → before.is_ended ≡ true → ⊥
 goes_on before reader given start stream cut t is_ended = not_plain t.line.line t.line.behind (subst HasNoFeed t.line.stream_is (t.stands.over is_ended))
 
 -- the offset behind the line that was cut off
@@ -34,7 +34,7 @@ pub record CutOff (start : ℕ) (lines : List (List ℕ)) (line : List ℕ) (end
   pub is : end ≡ start + length (ended lines) + length line + 1
 
 -- one more line of a source that gives by lines, whose kind gives so
-by_line : (kind : SourceKind) (gives : List ℕ → Gain → Type 0) (before reader after : Reader) (given : List Piece) (start : ℕ) (stream : List ℕ) (cut : Cut) (gain : Gain) (end : ℕ)
+by_line : (kind : SourceKind) (gives : List ℕ → Gain → Type 0) (before reader after : Reader) (given : List ReadRecord) (start : ℕ) (stream : List ℕ) (cut : Cut) (gain : Gain) (end : ℕ)
     → (t : TakesCut before reader given start stream cut)
     → reader.kind ≡ kind
     → (Gives kind reader.paths start t.stands.lines given → LinesGive gives start t.stands.lines given)
@@ -44,7 +44,7 @@ by_line : (kind : SourceKind) (gives : List ℕ → Gain → Type 0) (before rea
     → gives t.line.line gain
     → end ≡ start + length (ended (t.stands.lines ++ t.stands.held)) + length t.line.line + 1
     → after ≡ record reader { taken = end }
-    → Stands after (given ++ record { gain = gain; end = end } ∷ []) start stream
+    → HasPublished after (given ++ record { gain = gain; end = end } ∷ []) start stream
 by_line kind gives before reader after given start stream cut gain end t is gives_old gives_new waits_old waits_new one at after_is =
     let s = t.stands in
     let kinds : before.kind ≡ kind = sym (ap (λ (r : Reader). r.kind) t.same) ∙ is in
@@ -73,23 +73,23 @@ by_line kind gives before reader after given start stream cut gain end t is give
       gives = subst (λ (k : SourceKind). Gives k after.paths start (s.lines ++ t.line.line ∷ []) (given ++ record { gain = gain; end = end } ∷ [])) (sym after_kind)
           (subst (λ (p : List Category). Gives kind p start (s.lines ++ t.line.line ∷ []) (given ++ record { gain = gain; end = end } ∷ [])) (sym after_paths) new);
       waits = subst (λ (k : SourceKind). Waits k after (given ++ record { gain = gain; end = end } ∷ []) start (s.lines ++ t.line.line ∷ []) []) (sym after_kind) (waits_new (refl, ready));
-      cutter = subst (λ (n : ℕ). cutting.Stands after.cutter n t.line.behind) stands_at
-          (subst (λ (k : cutting.Cutter). cutting.Stands k (start + length (ended (s.lines ++ s.held)) + length t.line.line + 1) t.line.behind) (sym cutter) t.line.stands);
+      cutter = subst (λ (n : ℕ). cutting.HasCut after.cutter n t.line.behind) stands_at
+          (subst (λ (k : cutting.Cutter). cutting.HasCut k (start + length (ended (s.lines ++ s.held)) + length t.line.line + 1) t.line.behind) (sym cutter) t.line.stands);
       limit = ap (λ (k : cutting.Cutter). k.limit) cutter ∙ t.line.limit ∙ s.limit ∙ ap limit_of (kinds ∙ sym after_kind);
       over = λ ended_is. absurd (goes_on before reader given start stream cut t (ap (λ (r : Reader). r.is_ended) (sym t.same) ∙ ap (λ (r : Reader). r.is_ended) (sym after_is) ∙ ended_is));
     }
 
-pub change_given : (before reader after : Reader) (given : List Piece) (start : ℕ) (stream : List ℕ) (cut : Cut) (gain : Gain) (end : ℕ)
+pub change_given : (before reader after : Reader) (given : List ReadRecord) (start : ℕ) (stream : List ℕ) (cut : Cut) (gain : Gain) (end : ℕ)
     → (t : TakesCut before reader given start stream cut) → reader.kind ≡ Changes → ChangeGives reader.paths t.line.line gain
     → end ≡ start + length (ended (t.stands.lines ++ t.stands.held)) + length t.line.line + 1 → after ≡ record reader { taken = end }
-    → Stands after (given ++ record { gain = gain; end = end } ∷ []) start stream
+    → HasPublished after (given ++ record { gain = gain; end = end } ∷ []) start stream
 change_given before reader after given start stream cut gain end t is one at after_is =
     by_line Changes (ChangeGives reader.paths) before reader after given start stream cut gain end t is (λ g. g) (λ g. g) (λ w. w) (λ w. w) one at after_is
 
-pub table_given : (before reader after : Reader) (given : List Piece) (start : ℕ) (stream : List ℕ) (cut : Cut) (gain : Gain) (end : ℕ)
+pub table_given : (before reader after : Reader) (given : List ReadRecord) (start : ℕ) (stream : List ℕ) (cut : Cut) (gain : Gain) (end : ℕ)
     → (t : TakesCut before reader given start stream cut) → reader.kind ≡ Tables → TableGives t.line.line gain
     → end ≡ start + length (ended (t.stands.lines ++ t.stands.held)) + length t.line.line + 1 → after ≡ record reader { taken = end }
-    → Stands after (given ++ record { gain = gain; end = end } ∷ []) start stream
+    → HasPublished after (given ++ record { gain = gain; end = end } ∷ []) start stream
 table_given before reader after given start stream cut gain end t is one at after_is =
     by_line Tables TableGives before reader after given start stream cut gain end t is (λ g. g) (λ g. g) (λ w. w) (λ w. w) one at after_is
 
@@ -98,22 +98,22 @@ not_ended true never = absurd (never refl)
 not_ended false never = refl
 
 -- what the gathering has of one more line
-gathered_more : (before reader after : Reader) (given : List Piece) (start : ℕ) (stream : List ℕ) (line : List ℕ) (end : ℕ) (lines held : List (List ℕ))
+gathered_more : (before reader after : Reader) (given : List ReadRecord) (start : ℕ) (stream : List ℕ) (line : List ℕ) (end : ℕ) (lines held : List (List ℕ))
     → before.is_ended ≡ false → after.is_ended ≡ false → before.gathering ≡ reader.gathering → before.ready ≡ reader.ready
     → end ≡ start + length (ended (lines ++ held)) + length line + 1
     → gathered.Takes (record { line = line_in line; end = end }) reader.gathering after.gathering reader.ready after.ready
     → AuditWaits before given start lines held → AuditWaits after given start lines (held ++ line ∷ [])
 gathered_more before reader after given start stream line end lines held open_is after_open gathering ready at takes waits =
     let stands_before : HasGathered false (waits.records ++ before.ready) start (lines ++ held) before.gathering = subst (λ (b : Bool). HasGathered b (waits.records ++ before.ready) start (lines ++ held) before.gathering) open_is waits.gathered in
-    let stands_ready : gathered.Stands (waits.records ++ reader.ready) (items_of start (lines ++ held)) before.gathering = subst (λ (rs : List AuditRecord). gathered.Stands (waits.records ++ rs) (items_of start (lines ++ held)) before.gathering) ready stands_before in
-    let stands : gathered.Stands (waits.records ++ reader.ready) (items_of start (lines ++ held)) reader.gathering = subst (λ (g : Gathering). gathered.Stands (waits.records ++ reader.ready) (items_of start (lines ++ held)) g) gathering stands_ready in
+    let stands_ready : gathered.HasGathered (waits.records ++ reader.ready) (items_of start (lines ++ held)) before.gathering = subst (λ (rs : List AuditRecord). gathered.HasGathered (waits.records ++ rs) (items_of start (lines ++ held)) before.gathering) ready stands_before in
+    let stands : gathered.HasGathered (waits.records ++ reader.ready) (items_of start (lines ++ held)) reader.gathering = subst (λ (g : Gathering). gathered.HasGathered (waits.records ++ reader.ready) (items_of start (lines ++ held)) g) gathering stands_ready in
     let gains = takes (waits.records ++ reader.ready) (items_of start (lines ++ held)) stands in
     let items : items_of start (lines ++ held) ++ record { line = line_in line; end = end } ∷ [] ≡ items_of start (lines ++ (held ++ line ∷ [])) =
     ap (λ (n : ℕ). items_of start (lines ++ held) ++ record { line = line_in line; end = n } ∷ []) at ∙ sym (items_more start (lines ++ held) line) ∙ ap (items_of start) (append_assoc lines held (line ∷ [])) in
     let records : (waits.records ++ reader.ready) ++ gains.0 ≡ waits.records ++ after.ready = append_assoc waits.records reader.ready gains.0 ∙ ap (λ (rs : List AuditRecord). waits.records ++ rs) (sym gains.1.0) in
-    let new : gathered.Stands (waits.records ++ after.ready) (items_of start (lines ++ (held ++ line ∷ []))) after.gathering =
-    subst (λ (rs : List AuditRecord). gathered.Stands rs (items_of start (lines ++ (held ++ line ∷ []))) after.gathering) records
-    (subst (λ (is : List Item). gathered.Stands ((waits.records ++ reader.ready) ++ gains.0) is after.gathering) items gains.1.1) in
+    let new : gathered.HasGathered (waits.records ++ after.ready) (items_of start (lines ++ (held ++ line ∷ []))) after.gathering =
+    subst (λ (rs : List AuditRecord). gathered.HasGathered rs (items_of start (lines ++ (held ++ line ∷ []))) after.gathering) records
+    (subst (λ (is : List Item). gathered.HasGathered ((waits.records ++ reader.ready) ++ gains.0) is after.gathering) items gains.1.1) in
     record {
       records = waits.records;
       are = waits.are;
@@ -122,12 +122,12 @@ gathered_more before reader after given start stream line end lines held open_is
     }
 
 -- one more line of an audit log was taken in
-pub line_gathered : (before reader after : Reader) (given : List Piece) (start : ℕ) (stream : List ℕ) (cut : Cut) (end : ℕ)
+pub line_gathered : (before reader after : Reader) (given : List ReadRecord) (start : ℕ) (stream : List ℕ) (cut : Cut) (end : ℕ)
     → (t : TakesCut before reader given start stream cut) → reader.kind ≡ Audit
     → end ≡ start + length (ended (t.stands.lines ++ t.stands.held)) + length t.line.line + 1
     → gathered.Takes (record { line = line_in t.line.line; end = end }) reader.gathering after.gathering reader.ready after.ready
     → after ≡ record reader { gathering = after.gathering; ready = after.ready }
-    → Stands after given start stream
+    → HasPublished after given start stream
 line_gathered before reader after given start stream cut end t is at takes after_is =
     let s = t.stands in
     let kinds : before.kind ≡ Audit = sym (ap (λ (r : Reader). r.kind) t.same) ∙ is in
@@ -152,8 +152,8 @@ line_gathered before reader after given start stream cut end t is at takes after
       taken = ap (λ (r : Reader). r.taken) after_is ∙ ap (λ (r : Reader). r.taken) t.same ∙ s.taken;
       gives = subst (λ (k : SourceKind). Gives k after.paths start s.lines given) (sym after_kind) (subst (λ (p : List Category). Gives before.kind p start s.lines given) (sym after_paths) s.gives);
       waits = subst (λ (k : SourceKind). Waits k after given start s.lines (s.held ++ t.line.line ∷ [])) (sym (after_kind ∙ kinds)) more;
-      cutter = subst (λ (n : ℕ). cutting.Stands after.cutter n t.line.behind) stands_at
-          (subst (λ (k : cutting.Cutter). cutting.Stands k (start + length (ended (s.lines ++ s.held)) + length t.line.line + 1) t.line.behind) (sym cutter) t.line.stands);
+      cutter = subst (λ (n : ℕ). cutting.HasCut after.cutter n t.line.behind) stands_at
+          (subst (λ (k : cutting.Cutter). cutting.HasCut k (start + length (ended (s.lines ++ s.held)) + length t.line.line + 1) t.line.behind) (sym cutter) t.line.stands);
       limit = ap (λ (k : cutting.Cutter). k.limit) cutter ∙ t.line.limit ∙ s.limit ∙ ap limit_of (sym after_kind);
       over = λ ended_is. absurd (goes_on before reader given start stream cut t (sym after_ended ∙ ended_is));
     }
@@ -196,11 +196,11 @@ no_record : (made : AuditRecord) (rest : List AuditRecord) → made ∷ rest ≡
 no_record made rest e = let same = e in cc
 
 -- a record that was whole is given
-pub popped : (before after : Reader) (given : List Piece) (start : ℕ) (stream : List ℕ) (made : AuditRecord) (piece : Piece) (rest : List AuditRecord)
-    → Stands before given start stream → before.ready ≡ made ∷ rest → IsPieceOf made piece → after ≡ record before { taken = made.end; ready = rest }
-    → Stands after (given ++ piece ∷ []) start stream
+pub popped : (before after : Reader) (given : List ReadRecord) (start : ℕ) (stream : List ℕ) (made : AuditRecord) (piece : ReadRecord) (rest : List AuditRecord)
+    → HasPublished before given start stream → before.ready ≡ made ∷ rest → IsPieceOf made piece → after ≡ record before { taken = made.end; ready = rest }
+    → HasPublished after (given ++ piece ∷ []) start stream
 popped before after given start stream made piece rest s ready is after_is = by_kind before.kind refl s.waits where
-  by_kind : (kind : SourceKind) → before.kind ≡ kind → Waits kind before given start s.lines s.held → Stands after (given ++ piece ∷ []) start stream
+  by_kind : (kind : SourceKind) → before.kind ≡ kind → Waits kind before given start s.lines s.held → HasPublished after (given ++ piece ∷ []) start stream
   by_kind Changes kind waits = absurd (no_record made rest (sym ready ∙ waits.1))
   by_kind Tables kind waits = absurd (no_record made rest (sym ready ∙ waits.1))
   by_kind Audit kind waits =
@@ -229,14 +229,14 @@ popped before after given start stream made piece rest s ready is after_is = by_
         taken = ap (λ (r : Reader). r.taken) after_is ∙ more.end;
         gives = subst (λ (k : SourceKind). Gives k after.paths start more.front (given ++ piece ∷ [])) (sym (after_kind ∙ kind)) (record { records = waits.records ++ made ∷ []; are = more.are; each = each });
         waits = subst (λ (k : SourceKind). Waits k after (given ++ piece ∷ []) start more.front more.back) (sym (after_kind ∙ kind)) new_waits;
-        cutter = subst (λ (k : cutting.Cutter). cutting.Stands k (start + length (ended (more.front ++ more.back))) s.rest) (sym after_cutter)
-            (subst (λ (ls : List (List ℕ)). cutting.Stands before.cutter (start + length (ended ls)) s.rest) (sym more.joined) s.cutter);
+        cutter = subst (λ (k : cutting.Cutter). cutting.HasCut k (start + length (ended (more.front ++ more.back))) s.rest) (sym after_cutter)
+            (subst (λ (ls : List (List ℕ)). cutting.HasCut before.cutter (start + length (ended ls)) s.rest) (sym more.joined) s.cutter);
         limit = ap (λ (k : cutting.Cutter). k.limit) after_cutter ∙ s.limit ∙ ap limit_of (sym after_kind);
         over = λ is_ended. s.over (sym after_ended ∙ is_ended);
       }
 
 -- what the gathering holds are the lines that are held
-holds_lines : (start : ℕ) (lines held : List (List ℕ)) (records : List AuditRecord) (gathering : Gathering) → AreRecordsOf (items_of start lines) records → gathered.Stands records (items_of start (lines ++ held)) gathering
+holds_lines : (start : ℕ) (lines held : List (List ℕ)) (records : List AuditRecord) (gathering : Gathering) → AreRecordsOf (items_of start lines) records → gathered.HasGathered records (items_of start (lines ++ held)) gathering
     → gathering.builder ≡ lines_in (items_of (start + length (ended lines)) held)
 holds_lines start lines held records gathering are stands =
     let keeps = stands.keeps in
@@ -252,7 +252,7 @@ holds_lines start lines held records gathering are stands =
     ∙ sym (lines_in-append h.body (map gathered.skipped_line gathering.behind.items)) ∙ ap lines_in (h.joined ∙ rest)
 
 -- the groups of all lines are those given, and the one that is held
-held_last : (start : ℕ) (lines held : List (List ℕ)) (records : List AuditRecord) (gathering : Gathering) → AreRecordsOf (items_of start lines) records → gathered.Stands records (items_of start (lines ++ held)) gathering
+held_last : (start : ℕ) (lines held : List (List ℕ)) (records : List AuditRecord) (gathering : Gathering) → AreRecordsOf (items_of start lines) records → gathered.HasGathered records (items_of start (lines ++ held)) gathering
     → groups_of (lines_in (items_of start (lines ++ held))) ≡ groups_in records ++ whole (lines_in (items_of (start + length (ended lines)) held))
 held_last start lines held records gathering are stands =
     let none : List AuditLine = [] in
@@ -279,7 +279,7 @@ one_grows start lines held records made are more =
     more_bytes lines held more.front more.back (sym more.joined) (omega (arith, few, some, all, count))
 
 -- a record that is given ends behind those before it
-pub popped_grows : (before : Reader) (given : List Piece) (start : ℕ) (stream : List ℕ) (made : AuditRecord) (rest : List AuditRecord) → Stands before given start stream → before.ready ≡ made ∷ rest → before.taken < made.end
+pub popped_grows : (before : Reader) (given : List ReadRecord) (start : ℕ) (stream : List ℕ) (made : AuditRecord) (rest : List AuditRecord) → HasPublished before given start stream → before.ready ≡ made ∷ rest → before.taken < made.end
 popped_grows before given start stream made rest s ready = by_kind before.kind s.waits where
   by_kind : (kind : SourceKind) → Waits kind before given start s.lines s.held → before.taken < made.end
   by_kind Changes waits = absurd (no_record made rest (sym ready ∙ waits.1))
@@ -293,7 +293,7 @@ popped_grows before given start stream made rest s ready = by_kind before.kind s
       omega (arith, less, taken, end)
 
 -- no line is left
-pub dry : (reader : Reader) (given : List Piece) (start : ℕ) (stream : List ℕ) → (s : Stands reader given start stream) → reader.ready ≡ [] → HasNoFeed s.rest → IsDry reader given start stream
+pub dry : (reader : Reader) (given : List ReadRecord) (start : ℕ) (stream : List ℕ) → (s : HasPublished reader given start stream) → reader.ready ≡ [] → HasNoFeed s.rest → IsDry reader given start stream
 dry reader given start stream s ready plain = record { stands = s; none = ready; dry = plain; last = by_last reader.kind refl s.waits; all = λ is_ended. by_kind reader.kind refl s.waits is_ended } where
   by_kind : (kind : SourceKind) → reader.kind ≡ kind → Waits kind reader given start s.lines s.held → reader.is_ended ≡ true → s.held ≡ []
   by_kind Changes kind waits is_ended = waits.0
@@ -327,11 +327,11 @@ same_reader reader cutter ready cutter_is ready_is =
     ap (λ (k : cutting.Cutter). record reader { cutter = k; ready = ready }) cutter_is ∙ ap (λ (rs : List AuditRecord). record reader { ready = rs }) ready_is
 
 -- more of the source was read
-pub fed : (before after : Reader) (given : List Piece) (start : ℕ) (stream fresh : List ℕ)
+pub fed : (before after : Reader) (given : List ReadRecord) (start : ℕ) (stream fresh : List ℕ)
     → (d : IsDry before given start stream) → before.is_ended ≡ false
-    → cutting.Stands after.cutter (start + length (ended (d.stands.lines ++ d.stands.held))) (d.stands.rest ++ fresh) → after.cutter.limit ≡ before.cutter.limit
+    → cutting.HasCut after.cutter (start + length (ended (d.stands.lines ++ d.stands.held))) (d.stands.rest ++ fresh) → after.cutter.limit ≡ before.cutter.limit
     → after ≡ record before { cutter = after.cutter }
-    → Stands after given start (stream ++ fresh)
+    → HasPublished after given start (stream ++ fresh)
 fed before after given start stream fresh d open_is cutter limit after_is =
     let s = d.stands in
     let kind : after.kind ≡ before.kind = ap (λ (r : Reader). r.kind) after_is in
@@ -353,7 +353,7 @@ fed before after given start stream fresh d open_is cutter limit after_is =
       over = λ over. absurd (true≢false (sym over ∙ is_ended ∙ open_is));
     }
   where
-    same_waits : (before after : Reader) (given : List Piece) (start : ℕ) (lines held : List (List ℕ)) → after.kind ≡ before.kind → after.is_ended ≡ before.is_ended → after.gathering ≡ before.gathering → after.ready ≡ before.ready
+    same_waits : (before after : Reader) (given : List ReadRecord) (start : ℕ) (lines held : List (List ℕ)) → after.kind ≡ before.kind → after.is_ended ≡ before.is_ended → after.gathering ≡ before.gathering → after.ready ≡ before.ready
         → Waits before.kind before given start lines held → Waits after.kind after given start lines held
     same_waits before after given start lines held kind is_ended gathering ready waits = subst (λ (k : SourceKind). Waits k after given start lines held) (sym kind) (by_kind before.kind waits) where
       by_kind : (k : SourceKind) → Waits k before given start lines held → Waits k after given start lines held
@@ -370,10 +370,10 @@ fed before after given start stream fresh d open_is cutter limit after_is =
       }
 
 -- the source is at its end: what of it waits is taken as whole
-pub ended_as : (before after : Reader) (given : List Piece) (start : ℕ) (stream : List ℕ)
+pub ended_as : (before after : Reader) (given : List ReadRecord) (start : ℕ) (stream : List ℕ)
     → (d : IsDry before given start stream) → after.kind ≡ before.kind → after.paths ≡ before.paths → after.taken ≡ before.taken → after.cutter ≡ before.cutter
     → Waits after.kind after given start d.stands.lines d.stands.held
-    → Stands after given start stream
+    → HasPublished after given start stream
 ended_as before after given start stream d kind paths taken cutter waits =
     let s = d.stands in
     record {
@@ -385,15 +385,15 @@ ended_as before after given start stream d kind paths taken cutter waits =
       taken = taken ∙ s.taken;
       gives = subst (λ (k : SourceKind). Gives k after.paths start s.lines given) (sym kind) (subst (λ (p : List Category). Gives before.kind p start s.lines given) (sym paths) s.gives);
       waits = waits;
-      cutter = subst (λ (k : cutting.Cutter). cutting.Stands k (start + length (ended (s.lines ++ s.held))) s.rest) (sym cutter) s.cutter;
+      cutter = subst (λ (k : cutting.Cutter). cutting.HasCut k (start + length (ended (s.lines ++ s.held))) s.rest) (sym cutter) s.cutter;
       limit = ap (λ (k : cutting.Cutter). k.limit) cutter ∙ s.limit ∙ ap limit_of (sym kind);
       over = λ over. d.dry;
     }
 
 -- of changes and tables nothing waits
-pub ended_by_lines : (kind : SourceKind) → (before after : Reader) (given : List Piece) (start : ℕ) (stream : List ℕ)
+pub ended_by_lines : (kind : SourceKind) → (before after : Reader) (given : List ReadRecord) (start : ℕ) (stream : List ℕ)
     → (d : IsDry before given start stream) → before.kind ≡ kind → (kind ≡ Changes) ⊎ (kind ≡ Tables) → after ≡ record before { is_ended = true }
-    → Stands after given start stream
+    → HasPublished after given start stream
 ended_by_lines Audit before after given start stream d kind line after_is = absurd (no_line line) where
   no_line : (Audit ≡ Changes) ⊎ (Audit ≡ Tables) → ⊥
   no_line (inl e) = let same = e in cc
@@ -414,15 +414,15 @@ ended_by_lines Tables before after given start stream d kind line after_is =
     (subst (λ (k : SourceKind). Waits k after given start s.lines s.held) (sym (after_kind ∙ kind)) (waits.0, ready ∙ waits.1))
 
 -- of an audit log the gathering gives what it holds
-pub ended_audit : (before after : Reader) (given : List Piece) (start : ℕ) (stream : List ℕ)
+pub ended_audit : (before after : Reader) (given : List ReadRecord) (start : ℕ) (stream : List ℕ)
     → (d : IsDry before given start stream) → before.kind ≡ Audit → before.is_ended ≡ false
     → gathered.Finishes before.gathering after.gathering before.ready after.ready
     → after ≡ record before { gathering = after.gathering; ready = after.ready; is_ended = true }
-    → Stands after given start stream
+    → HasPublished after given start stream
 ended_audit before after given start stream d kind open_is finishes after_is =
     let s = d.stands in
     let waits : AuditWaits before given start s.lines s.held = subst (λ (k : SourceKind). Waits k before given start s.lines s.held) kind s.waits in
-    let stands : gathered.Stands (waits.records ++ before.ready) (items_of start (s.lines ++ s.held)) before.gathering = subst (λ (b : Bool). HasGathered b (waits.records ++ before.ready) start (s.lines ++ s.held) before.gathering) open_is waits.gathered in
+    let stands : gathered.HasGathered (waits.records ++ before.ready) (items_of start (s.lines ++ s.held)) before.gathering = subst (λ (b : Bool). HasGathered b (waits.records ++ before.ready) start (s.lines ++ s.held) before.gathering) open_is waits.gathered in
     let gains = finishes (waits.records ++ before.ready) (items_of start (s.lines ++ s.held)) stands in
     let records : (waits.records ++ before.ready) ++ gains.0 ≡ waits.records ++ after.ready = append_assoc waits.records before.ready gains.0 ∙ ap (λ (rs : List AuditRecord). waits.records ++ rs) (sym gains.1.0) in
     let all : AreRecordsOf (items_of start (s.lines ++ s.held)) (waits.records ++ after.ready) = subst (AreRecordsOf (items_of start (s.lines ++ s.held))) records gains.1.1.0 in
@@ -438,8 +438,8 @@ ended_audit before after given start stream d kind open_is finishes after_is =
     (subst (λ (k : SourceKind). Waits k after given start s.lines s.held) (sym (after_kind ∙ kind)) new)
 
 -- nothing was read yet
-pub nothing_read : (reader : Reader) → cutting.Stands reader.cutter reader.taken [] → reader.cutter.limit ≡ limit_of reader.kind → gathered.Stands [] [] reader.gathering → reader.ready ≡ [] → reader.is_ended ≡ false
-    → Stands reader [] reader.taken []
+pub nothing_read : (reader : Reader) → cutting.HasCut reader.cutter reader.taken [] → reader.cutter.limit ≡ limit_of reader.kind → gathered.HasGathered [] [] reader.gathering → reader.ready ≡ [] → reader.is_ended ≡ false
+    → HasPublished reader [] reader.taken []
 nothing_read reader cutter limit gathering ready open_is = record {
   lines = [];
   held = [];
@@ -449,7 +449,7 @@ nothing_read reader cutter limit gathering ready open_is = record {
   taken = omega arith;
   gives = by_gives reader.kind;
   waits = by_waits reader.kind;
-  cutter = subst (λ (n : ℕ). cutting.Stands reader.cutter n []) (let e : reader.taken ≡ reader.taken + 0 = omega arith in e) cutter;
+  cutter = subst (λ (n : ℕ). cutting.HasCut reader.cutter n []) (let e : reader.taken ≡ reader.taken + 0 = omega arith in e) cutter;
   limit = limit;
   over = λ over. tt;
 }
@@ -465,7 +465,7 @@ nothing_read reader cutter limit gathering ready open_is = record {
       are = records_none;
       each = tt;
       gathered = subst (λ (b : Bool). HasGathered b ([] ++ reader.ready) reader.taken [] reader.gathering) (sym open_is)
-          (subst (λ (rs : List AuditRecord). gathered.Stands rs [] reader.gathering) (sym ready) gathering);
+          (subst (λ (rs : List AuditRecord). gathered.HasGathered rs [] reader.gathering) (sym ready) gathering);
     }
     by_waits Changes = (refl, ready)
     by_waits Tables = (refl, ready)
@@ -475,14 +475,14 @@ both_true true b is = (refl, is)
 both_true false b is = absurd (true≢false (sym is))
 
 -- at the end no line is left
-pub over_dry : (reader : Reader) (given : List Piece) (start : ℕ) (stream : List ℕ) → is_at_end reader ≡ true → Stands reader given start stream → IsDry reader given start stream
+pub over_dry : (reader : Reader) (given : List ReadRecord) (start : ℕ) (stream : List ℕ) → is_at_end reader ≡ true → HasPublished reader given start stream → IsDry reader given start stream
 over_dry reader given start stream over s =
     let both = both_true reader.is_ended (length reader.ready == 0) over in
     dry reader given start stream s (nil_from_length reader.ready (eqb-true (length reader.ready) 0 both.1)) (s.over both.0)
 
 -- whether a publisher has begun says nothing of what it has read
-pub begins : (before after : Reader) (given : List Piece) (start : ℕ) (stream : List ℕ) → after ≡ record before { is_begun = after.is_begun } → Stands before given start stream → Stands after given start stream
-begins before after given start stream is s = subst (λ (r : Reader). Stands r given start stream) (sym is) (record {
+pub begins : (before after : Reader) (given : List ReadRecord) (start : ℕ) (stream : List ℕ) → after ≡ record before { is_begun = after.is_begun } → HasPublished before given start stream → HasPublished after given start stream
+begins before after given start stream is s = subst (λ (r : Reader). HasPublished r given start stream) (sym is) (record {
   lines = s.lines;
   held = s.held;
   rest = s.rest;

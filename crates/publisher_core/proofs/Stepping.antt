@@ -3,33 +3,33 @@ use Rattle.std.proofs.Common.{◌≡◌, ◌⊎◌, inl, inr, ℕ, ◌+◌, ◌-
 use Rattle.std.proofs.lemmas.List.{append-nil}
 use Rattle.std.proofs.lemmas.Bool.{true≢false}
 use Rattle.osq_value.specs.declared.reading.Reading.{Reading}
-use Rattle.publisher_core.specs.declared.record.Piece.{Piece}
+use Rattle.publisher_core.specs.declared.record.ReadRecord.{ReadRecord}
 use Rattle.osq_value.specs.declared.source.SourceKind.{SourceKind}
 use Rattle.osq_value.specs.declared.source.SourceKind.TheVariants.{Audit, Changes, Tables}
 use Rattle.publisher_core.specs.Readings.{joined, readings_of}
-use Rattle.publisher_core.specs.Standing.{Reader, Stands}
+use Rattle.publisher_core.specs.Standing.{Reader, HasPublished}
 use Rattle.publisher_core.specs.Stepping.{GrowsBy, IsDry, SameSource, Reads, UnderWay, Steps, STEP_BYTES}
 
 -- before the first record
-pub begun : (tells : Type 0) (left : List ℕ) (reader : Reader) (given : List Piece) (start : ℕ) (stream : List ℕ) → Stands reader given start stream → UnderWay tells left left reader given start stream [] 0
+pub begun : (tells : Type 0) (left : List ℕ) (reader : Reader) (given : List ReadRecord) (start : ℕ) (stream : List ℕ) → HasPublished reader given start stream → UnderWay tells left left reader given start stream [] 0
 begun tells left reader given start stream s = record {
   fresh = [];
   size = refl;
   left = λ told. refl;
-  stands = subst (λ (ps : List Piece). Stands reader ps start (stream ++ [])) (sym (append-nil given)) (subst (λ (bs : List ℕ). Stands reader given start bs) (sym (append-nil stream)) s);
+  stands = subst (λ (ps : List ReadRecord). HasPublished reader ps start (stream ++ [])) (sym (append-nil given)) (subst (λ (bs : List ℕ). HasPublished reader given start bs) (sym (append-nil stream)) s);
 }
 
-pub more_given : (tells : Type 0) (before after : List ℕ) (old new : Reader) (given : List Piece) (start : ℕ) (stream : List ℕ) (pieces : List Piece) (piece : Piece) (read : ℕ)
-    → (w : UnderWay tells before after old given start stream pieces read) → Stands new ((given ++ pieces) ++ piece ∷ []) start (stream ++ w.fresh)
+pub more_given : (tells : Type 0) (before after : List ℕ) (old new : Reader) (given : List ReadRecord) (start : ℕ) (stream : List ℕ) (pieces : List ReadRecord) (piece : ReadRecord) (read : ℕ)
+    → (w : UnderWay tells before after old given start stream pieces read) → HasPublished new ((given ++ pieces) ++ piece ∷ []) start (stream ++ w.fresh)
     → UnderWay tells before after new given start stream (pieces ++ piece ∷ []) read
 more_given tells before after old new given start stream pieces piece read w s = record {
   fresh = w.fresh;
   size = w.size;
   left = w.left;
-  stands = subst (λ (ps : List Piece). Stands new ps start (stream ++ w.fresh)) (append_assoc given pieces (piece ∷ [])) s;
+  stands = subst (λ (ps : List ReadRecord). HasPublished new ps start (stream ++ w.fresh)) (append_assoc given pieces (piece ∷ [])) s;
 }
 
-pub more_read : (tells : Type 0) (before between after : List ℕ) (old new : Reader) (given : List Piece) (start : ℕ) (stream : List ℕ) (pieces : List Piece) (read count : ℕ)
+pub more_read : (tells : Type 0) (before between after : List ℕ) (old new : Reader) (given : List ReadRecord) (start : ℕ) (stream : List ℕ) (pieces : List ReadRecord) (read count : ℕ)
     → (w : UnderWay tells before between old given start stream pieces read) → Reads tells between after new (given ++ pieces) start (stream ++ w.fresh) count
     → UnderWay tells before after new given start stream pieces (read + count)
 more_read tells before between after old new given start stream pieces read count w r =
@@ -40,10 +40,10 @@ more_read tells before between after old new given start stream pieces read coun
       fresh = w.fresh ++ r.fresh;
       size = omega (arith, size, first, second);
       left = λ told. w.left told ∙ ap (λ (l : List ℕ). w.fresh ++ l) (r.left told) ∙ sym (append_assoc w.fresh r.fresh after);
-      stands = subst (λ (bs : List ℕ). Stands new (given ++ pieces) start bs) (append_assoc stream w.fresh r.fresh) r.stands;
+      stands = subst (λ (bs : List ℕ). HasPublished new (given ++ pieces) start bs) (append_assoc stream w.fresh r.fresh) r.stands;
     }
 
-pub dry_steps : (tells : Type 0) (before after : List ℕ) (old new : Reader) (given : List Piece) (start : ℕ) (stream : List ℕ) (pieces : List Piece) (read most : ℕ)
+pub dry_steps : (tells : Type 0) (before after : List ℕ) (old new : Reader) (given : List ReadRecord) (start : ℕ) (stream : List ℕ) (pieces : List ReadRecord) (read most : ℕ)
     → (w : UnderWay tells before after old given start stream pieces read) → IsDry new (given ++ pieces) start (stream ++ w.fresh) → length pieces ≤ most
     → (new.is_ended ≡ true) ⊎ (STEP_BYTES ≤ read)
     → Steps tells before after new given start stream pieces most
@@ -59,7 +59,7 @@ dry_steps tells before after old new given start stream pieces read most w d few
     by_why (inl over) = inl over
     by_why (inr enough) = let size = w.size in inr (omega (arith, enough, size))
 
-pub full_steps : (tells : Type 0) (before after : List ℕ) (reader : Reader) (given : List Piece) (start : ℕ) (stream : List ℕ) (pieces : List Piece) (read most : ℕ)
+pub full_steps : (tells : Type 0) (before after : List ℕ) (reader : Reader) (given : List ReadRecord) (start : ℕ) (stream : List ℕ) (pieces : List ReadRecord) (read most : ℕ)
     → UnderWay tells before after reader given start stream pieces read → length pieces ≡ most
     → Steps tells before after reader given start stream pieces most
 full_steps tells before after reader given start stream pieces read most w full = record {
@@ -105,23 +105,23 @@ grows_same before between after [] still same = same ∙ still
 grows_same before between after (y ∷ ys) grown same = omega (arith, grown, same)
 
 -- readings are there exactly where records are
-pub grows_readings : (before after : ℕ) (kind : SourceKind) (pieces : List Piece) (readings : List Reading) → GrowsBy before after pieces → readings ≡ readings_of kind pieces → GrowsBy before after readings
+pub grows_readings : (before after : ℕ) (kind : SourceKind) (pieces : List ReadRecord) (readings : List Reading) → GrowsBy before after pieces → readings ≡ readings_of kind pieces → GrowsBy before after readings
 grows_readings before after kind pieces readings grown is = subst (λ (rs : List Reading). GrowsBy before after rs) (sym is) (by_pieces kind pieces grown) where
-  last_there : (first : Piece) (pieces : List Piece) → (last : Piece) × (slice_get (first ∷ pieces) (length pieces) ≡ Some last)
+  last_there : (first : ReadRecord) (pieces : List ReadRecord) → (last : ReadRecord) × (slice_get (first ∷ pieces) (length pieces) ≡ Some last)
   last_there first [] = (first, refl)
   last_there first (next ∷ pieces) = last_there next pieces
 
-  place : (first : Piece) (pieces : List Piece) → length (first ∷ pieces) - 1 ≡ length pieces
+  place : (first : ReadRecord) (pieces : List ReadRecord) → length (first ∷ pieces) - 1 ≡ length pieces
   place first pieces = omega arith
 
-  by_both : (pieces : List Piece) → GrowsBy before after pieces → GrowsBy before after (joined pieces)
+  by_both : (pieces : List ReadRecord) → GrowsBy before after pieces → GrowsBy before after (joined pieces)
   by_both [] grown = grown
   by_both (first ∷ pieces) grown =
       let last = last_there first pieces in
       let found = ap (λ (n : ℕ). slice_get (first ∷ pieces) n) (place first pieces) ∙ last.1 in
       rw found grown
 
-  by_pieces : (kind : SourceKind) (pieces : List Piece) → GrowsBy before after pieces → GrowsBy before after (readings_of kind pieces)
+  by_pieces : (kind : SourceKind) (pieces : List ReadRecord) → GrowsBy before after pieces → GrowsBy before after (readings_of kind pieces)
   by_pieces Audit pieces grown = by_both pieces grown
   by_pieces Changes pieces grown = by_both pieces grown
   by_pieces Tables [] grown = grown

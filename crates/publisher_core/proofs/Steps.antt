@@ -6,12 +6,12 @@ use Rattle.std.proofs.lemmas.List.{append-nil, map-append}
 use Rattle.std.proofs.lemmas.List.Elements.{filter-append}
 use Rattle.std.proofs.lemmas.Bool.{true≢false}
 use Rattle.audit_records.specs.declared.line.AuditLine.{AuditLine}
-use Rattle.audit_records.specs.Groups.{is_ended, goes_on, own_group, whole, Stands as StandsForGroups}
+use Rattle.audit_records.specs.Groups.{is_ended, goes_on, own_group, whole, HasGrouped as StandsForGroups}
 use Rattle.audit_records.proofs.Builds.{stands_new}
 use Rattle.publisher_core.specs.declared.gathering.AuditRecord.{AuditRecord}
 use Rattle.publisher_core.specs.declared.gathering.Gathering.{Gathering}
 use Rattle.publisher_core.specs.AuditParts.{Item, lines_in, skipped_in, groups_in, BeginsWithLine, EndsWithLine, AreRecordsOf}
-use Rattle.publisher_core.specs.Gathered.{skipped_line, lone, ended_records, IsBody, Holds, HoldsNothing, Keeps, Stands, Gains}
+use Rattle.publisher_core.specs.Gathered.{skipped_line, lone, ended_records, IsBody, Holds, HoldsNothing, Keeps, HasGathered, Gains}
 use Rattle.publisher_core.proofs.Parts.{AreParts, parts_append, parts_one, parts_lone, parts_of, records_are, records_none, groups_in-append, groups_in-lone, lines_in-append, lines_in-skipped}
 
 skipped_in-append : (front back : List Item) → skipped_in (front ++ back) ≡ skipped_in front + skipped_in back
@@ -93,7 +93,7 @@ nothing_holds gathering nothing = record {
   skipped = nothing.skipped;
 }
 
-pub nothing_stands : (gathering : Gathering) → HoldsNothing gathering → Stands [] [] gathering
+pub nothing_stands : (gathering : Gathering) → HoldsNothing gathering → HasGathered [] [] gathering
 nothing_stands gathering nothing = record {
   keeps = record {
     front = [];
@@ -107,7 +107,7 @@ nothing_stands gathering nothing = record {
 }
 
 -- everything that came is given, and nothing is held
-pub all_given : (given : List AuditRecord) (items : List Item) (gathering : Gathering) → AreParts items given → HoldsNothing gathering → StandsForGroups (groups_in given) (lines_in items) gathering.builder → Stands given items gathering
+pub all_given : (given : List AuditRecord) (items : List Item) (gathering : Gathering) → AreParts items given → HoldsNothing gathering → StandsForGroups (groups_in given) (lines_in items) gathering.builder → HasGathered given items gathering
 all_given given items gathering cut nothing groups = record {
   keeps = record {
     front = items;
@@ -216,7 +216,7 @@ settled given items old new line end before records_old records_new keeps before
           let held = lines_hold given items old keeps (λ (no : old.builder ≡ []). true≢false (sym (ap (λ (ls : List AuditLine). goes_on ls line) no) ∙ on)) in
           (gained, (more.0, keeps_begun (given ++ gained) items new line end (parts_ended given items old old.builder keeps held refl) begun more.1 behind last holds here_too))
 
-pub waits : (given : List AuditRecord) (items : List Item) (old new : Gathering) (end : ℕ) → Stands given items old → old.holds ≡ true → new.builder ≡ old.builder → new.holds ≡ old.holds → new.last ≡ old.last → new.inside ≡ old.inside → new.behind.items ≡ old.behind.items ++ end ∷ [] → Stands given (items ++ skipped_line end ∷ []) new
+pub waits : (given : List AuditRecord) (items : List Item) (old new : Gathering) (end : ℕ) → HasGathered given items old → old.holds ≡ true → new.builder ≡ old.builder → new.holds ≡ old.holds → new.last ≡ old.last → new.inside ≡ old.inside → new.behind.items ≡ old.behind.items ++ end ∷ [] → HasGathered given (items ++ skipped_line end ∷ []) new
 waits given items old new end stands some lines holds last inside behind =
     let keeps = stands.keeps in
     let body = keeps.holds.body in
@@ -241,7 +241,7 @@ waits given items old new end stands some lines holds last inside behind =
       unended = ap is_ended lines ∙ stands.unended;
     }
 
-pub alone : (given : List AuditRecord) (items : List Item) (gathering : Gathering) (end : ℕ) → Stands given items gathering → gathering.holds ≡ false → Stands (given ++ lone end ∷ []) (items ++ skipped_line end ∷ []) gathering
+pub alone : (given : List AuditRecord) (items : List Item) (gathering : Gathering) (end : ℕ) → HasGathered given items gathering → gathering.holds ≡ false → HasGathered (given ++ lone end ∷ []) (items ++ skipped_line end ∷ []) gathering
 alone given items gathering end stands none =
     let kept = nothing_kept given items gathering stands.keeps none in
     let one : AreParts (skipped_line end ∷ []) (lone end ∷ []) = parts_one (skipped_line end ∷ []) (lone end) (record { one = refl; skipped = refl }) in
@@ -289,6 +289,6 @@ gave_all (Ok v) gathering behind inside holds lines = record { none = holds; lin
 gave_all (Err e) gathering behind inside holds lines = tt
 
 -- the records gained later stand behind those gained before
-pub gains_more : (given gained : List AuditRecord) (items : List Item) (new : Gathering) (before between after : List AuditRecord) → between ≡ before ++ gained → Gains (λ later. Stands ((given ++ gained) ++ later) items new) between after → Gains (λ all. Stands (given ++ all) items new) before after
+pub gains_more : (given gained : List AuditRecord) (items : List Item) (new : Gathering) (before between after : List AuditRecord) → between ≡ before ++ gained → Gains (λ later. HasGathered ((given ++ gained) ++ later) items new) between after → Gains (λ all. HasGathered (given ++ all) items new) before after
 gains_more given gained items new before between after is (later, last) =
-    (gained ++ later, (last.0 ∙ ap (λ (rs : List AuditRecord). rs ++ later) is ∙ append_assoc before gained later, subst (λ (rs : List AuditRecord). Stands rs items new) (append_assoc given gained later) last.1))
+    (gained ++ later, (last.0 ∙ ap (λ (rs : List AuditRecord). rs ++ later) is ∙ append_assoc before gained later, subst (λ (rs : List AuditRecord). HasGathered rs items new) (append_assoc given gained later) last.1))

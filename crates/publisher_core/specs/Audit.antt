@@ -7,7 +7,7 @@ use Rattle.audit_records.specs.Events.{event_of}
 use Rattle.audit_records.specs.Lines.{line_of}
 use Rattle.publisher_core.specs.declared.gathering.AuditRecord.{AuditRecord}
 use Rattle.publisher_core.specs.declared.record.Gain.TheVariants as gain
-use Rattle.publisher_core.specs.declared.record.Piece.{Piece}
+use Rattle.publisher_core.specs.declared.record.ReadRecord.{ReadRecord}
 use Rattle.publisher_core.specs.AuditParts.{Item, AreRecordsOf}
 use Rattle.publisher_core.specs.Records.{LINE_LIMIT}
 
@@ -25,11 +25,11 @@ abbrev pub event_in : Option (List AuditLine) → Option Event
 event_in None = None
 event_in (Some group) = event_of group
 
-abbrev pub IsPieceOf : AuditRecord → Piece → Type 0
+abbrev pub IsPieceOf : AuditRecord → ReadRecord → Type 0
 IsPieceOf made piece = piece ≡ record { gain = gain.Event (event_in made.group) made.skipped; end = made.end }
 
 -- the lines are cut into records, and each gives what it gives
-pub record AuditGives (start : ℕ) (lines : List (List ℕ)) (pieces : List Piece) : Type 0 where
+pub record AuditGives (start : ℕ) (lines : List (List ℕ)) (pieces : List ReadRecord) : Type 0 where
   pub records : List AuditRecord
   pub are : AreRecordsOf (items_of start lines) records
   pub each : AllZip IsPieceOf records pieces

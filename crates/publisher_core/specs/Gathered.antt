@@ -1,7 +1,7 @@
 -- What a gathering of records stands for.
 use Rattle.std.specs.Prelude.{◌≡◌, ℕ, Bool, true, false, List, [], ◌∷◌, ◌++◌, map, Some, None}
 use Rattle.audit_records.specs.declared.line.AuditLine.{AuditLine}
-use Rattle.audit_records.specs.Groups.{is_ended, Stands as StandsForGroups}
+use Rattle.audit_records.specs.Groups.{is_ended, HasGrouped as StandsForGroups}
 use Rattle.publisher_core.specs.declared.gathering.AuditRecord.{AuditRecord}
 use Rattle.publisher_core.specs.declared.gathering.Gathering.{Gathering}
 use Rattle.publisher_core.specs.AuditParts.{Item, lines_in, skipped_in, BeginsWithLine, EndsWithLine, groups_in, AreRecordsOf}
@@ -47,7 +47,7 @@ pub record Keeps (given : List AuditRecord) (items : List Item) (gathering : Gat
   pub groups : StandsForGroups (groups_in given) (lines_in items) gathering.builder
 
 -- These records were given for these items, as soon as each was known to be whole: a group that is held can still go on.
-pub record Stands (given : List AuditRecord) (items : List Item) (gathering : Gathering) : Type 0 where
+pub record HasGathered (given : List AuditRecord) (items : List Item) (gathering : Gathering) : Type 0 where
   pub keeps : Keeps given items gathering
   pub unended : is_ended gathering.builder ≡ false
 
@@ -57,12 +57,12 @@ Gains OfThem before after = (gained : List AuditRecord) × ((after ≡ before ++
 
 -- The item was taken behind those before it: what it completes was added to the records before.
 abbrev pub Takes : Item → Gathering → Gathering → List AuditRecord → List AuditRecord → Type 0
-Takes item old new before after = (given : List AuditRecord) → (items : List Item) → Stands given items old → Gains (λ gained. Stands (given ++ gained) (items ++ item ∷ []) new) before after
+Takes item old new before after = (given : List AuditRecord) → (items : List Item) → HasGathered given items old → Gains (λ gained. HasGathered (given ++ gained) (items ++ item ∷ []) new) before after
 
 -- The log is at its end: the rest of its records was added, nothing is held, and what comes is a log of its own.
 abbrev pub Finishes : Gathering → Gathering → List AuditRecord → List AuditRecord → Type 0
-Finishes old new before after = (given : List AuditRecord) → (items : List Item) → Stands given items old → Gains (λ gained. AreRecordsOf items (given ++ gained) × (HoldsNothing new × Stands [] [] new)) before after
+Finishes old new before after = (given : List AuditRecord) → (items : List Item) → HasGathered given items old → Gains (λ gained. AreRecordsOf items (given ++ gained) × (HoldsNothing new × HasGathered [] [] new)) before after
 
 -- A group whose last line ended it itself is held no longer.
 abbrev pub Closes : Gathering → Gathering → List AuditRecord → List AuditRecord → Type 0
-Closes old new before after = (given : List AuditRecord) → (items : List Item) → Keeps given items old → Gains (λ gained. Stands (given ++ gained) items new) before after
+Closes old new before after = (given : List AuditRecord) → (items : List Item) → Keeps given items old → Gains (λ gained. HasGathered (given ++ gained) items new) before after

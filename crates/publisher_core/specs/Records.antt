@@ -18,7 +18,7 @@ use Rattle.publisher_core.specs.declared.record.Record.{Record}
 use Rattle.publisher_core.specs.declared.record.Record.TheVariants as item
 use Rattle.publisher_core.specs.declared.record.Gain.{Gain}
 use Rattle.publisher_core.specs.declared.record.Gain.TheVariants as gain
-use Rattle.publisher_core.specs.declared.record.Piece.{Piece}
+use Rattle.publisher_core.specs.declared.record.ReadRecord.{ReadRecord}
 
 -- a line has at most so many bytes; a longer one is skipped
 abbrev pub LINE_LIMIT : ℕ
@@ -75,7 +75,7 @@ HaveNoFeed [] = Unit {0}
 HaveNoFeed (line ∷ lines) = HasNoFeed line × HaveNoFeed lines
 
 -- what lines give one by one, where the first begins at this offset
-abbrev pub LinesGive : (List ℕ → Gain → Type 0) → ℕ → List (List ℕ) → List Piece → Type 0
+abbrev pub LinesGive : (List ℕ → Gain → Type 0) → ℕ → List (List ℕ) → List ReadRecord → Type 0
 LinesGive gives start [] [] = Unit {0}
 LinesGive gives start [] (piece ∷ pieces) = ⊥
 LinesGive gives start (line ∷ lines) [] = ⊥

@@ -9,7 +9,7 @@ use Rattle.publisher_core.specs.declared.gathering.AuditRecord.{AuditRecord}
 use Rattle.publisher_core.specs.declared.gathering.Gathering.{Gathering}
 use Rattle.osq_value.specs.declared.source.SourceKind.{SourceKind}
 use Rattle.osq_value.specs.declared.source.SourceKind.TheVariants.{Audit, Changes, Tables}
-use Rattle.publisher_core.specs.declared.record.Piece.{Piece}
+use Rattle.publisher_core.specs.declared.record.ReadRecord.{ReadRecord}
 use Rattle.publisher_core.specs.AuditParts.{AreRecordsOf}
 use Rattle.publisher_core.specs.Gathered as gathered
 use Rattle.publisher_core.specs.Audit.{items_of, AuditGives, IsPieceOf}
@@ -37,7 +37,7 @@ abbrev pub is_at_end : Reader → Bool
 is_at_end reader = reader.is_ended && length reader.ready == 0
 
 -- what the lines of a source give, record by record, where the first line begins at this offset
-abbrev pub Gives : SourceKind → List Category → ℕ → List (List ℕ) → List Piece → Type 0
+abbrev pub Gives : SourceKind → List Category → ℕ → List (List ℕ) → List ReadRecord → Type 0
 Gives Audit paths start lines pieces = AuditGives start lines pieces
 Gives Changes paths start lines pieces = LinesGive (ChangeGives paths) start lines pieces
 Gives Tables paths start lines pieces = LinesGive TableGives start lines pieces
@@ -45,10 +45,10 @@ Gives Tables paths start lines pieces = LinesGive TableGives start lines pieces
 -- these records are all that the lines have, up to the source's end, or all that are known to be whole
 abbrev pub HasGathered : Bool → List AuditRecord → ℕ → List (List ℕ) → Gathering → Type 0
 HasGathered true records start lines gathering = AreRecordsOf (items_of start lines) records
-HasGathered false records start lines gathering = gathered.Stands records (items_of start lines) gathering
+HasGathered false records start lines gathering = gathered.HasGathered records (items_of start lines) gathering
 
 -- lines of an audit log are held whose records aren't given: some are whole, and the others are gathered
-pub record AuditWaits (reader : Reader) (given : List Piece) (start : ℕ) (lines held : List (List ℕ)) : Type 0 where
+pub record AuditWaits (reader : Reader) (given : List ReadRecord) (start : ℕ) (lines held : List (List ℕ)) : Type 0 where
   pub records : List AuditRecord
   pub are : AreRecordsOf (items_of start lines) records
   pub each : AllZip IsPieceOf records given
@@ -58,14 +58,14 @@ pub record AuditWaits (reader : Reader) (given : List Piece) (start : ℕ) (line
 abbrev pub NoneWaits : Reader → List (List ℕ) → Type 0
 NoneWaits reader held = (held ≡ []) × (reader.ready ≡ [])
 
-abbrev pub Waits : SourceKind → Reader → List Piece → ℕ → List (List ℕ) → List (List ℕ) → Type 0
+abbrev pub Waits : SourceKind → Reader → List ReadRecord → ℕ → List (List ℕ) → List (List ℕ) → Type 0
 Waits Audit reader given start lines held = AuditWaits reader given start lines held
 Waits Changes reader given start lines held = NoneWaits reader held
 Waits Tables reader given start lines held = NoneWaits reader held
 
 -- Of a source the publisher has read this stream, from an offset on, and given these records: those of the stream's first lines. It
 -- holds some lines whose records it has not given, and its cutter has the rest.
-pub record Stands (reader : Reader) (given : List Piece) (start : ℕ) (stream : List ℕ) : Type 0 where
+pub record HasPublished (reader : Reader) (given : List ReadRecord) (start : ℕ) (stream : List ℕ) : Type 0 where
   pub lines : List (List ℕ)
   pub held : List (List ℕ)
   pub rest : List ℕ
@@ -74,6 +74,6 @@ pub record Stands (reader : Reader) (given : List Piece) (start : ℕ) (stream :
   pub taken : reader.taken ≡ start + length (ended lines)
   pub gives : Gives reader.kind reader.paths start lines given
   pub waits : Waits reader.kind reader given start lines held
-  pub cutter : cutting.Stands reader.cutter (start + length (ended (lines ++ held))) rest
+  pub cutter : cutting.HasCut reader.cutter (start + length (ended (lines ++ held))) rest
   pub limit : reader.cutter.limit ≡ limit_of reader.kind
   pub over : reader.is_ended ≡ true → HasNoFeed rest

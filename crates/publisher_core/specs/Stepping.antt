@@ -10,10 +10,10 @@ use Rattle.osq_value.specs.declared.source.SourceKind.TheVariants.{Audit, Change
 use Rattle.publisher_core.specs.Audit.{items_of}
 use Rattle.publisher_core.specs.AuditParts.{AreRecordsOf, groups_in, lines_in}
 use Rattle.publisher_core.specs.Records.{ended}
-use Rattle.publisher_core.specs.declared.record.Piece.{Piece}
+use Rattle.publisher_core.specs.declared.record.ReadRecord.{ReadRecord}
 use Rattle.publisher_core.specs.declared.record.Next.{Next}
 use Rattle.publisher_core.specs.declared.record.Next.TheVariants as next
-use Rattle.publisher_core.specs.Standing.{Reader, Stands}
+use Rattle.publisher_core.specs.Standing.{Reader, HasPublished}
 
 -- a step ends once it has read so many bytes
 abbrev pub STEP_BYTES : ℕ
@@ -32,17 +32,17 @@ HoldsLast Changes start lines held = held ≡ []
 HoldsLast Tables start lines held = held ≡ []
 
 -- no line that was read is left, but those of a record that may go on; at the source's end none at all
-pub record IsDry (reader : Reader) (given : List Piece) (start : ℕ) (stream : List ℕ) : Type 0 where
-  pub stands : Stands reader given start stream
+pub record IsDry (reader : Reader) (given : List ReadRecord) (start : ℕ) (stream : List ℕ) : Type 0 where
+  pub stands : HasPublished reader given start stream
   pub none : reader.ready ≡ []
   pub dry : HasNoFeed stands.rest
   pub last : HoldsLast reader.kind start stands.lines stands.held
   pub all : reader.is_ended ≡ true → stands.held ≡ []
 
 -- one more record was given, or one more line was taken in, or no line is left
-abbrev pub Goes : Reader → List Piece → ℕ → List ℕ → Next → Type 0
-Goes reader given start stream (next.Whole piece) = Stands reader (given ++ piece ∷ []) start stream
-Goes reader given start stream next.More = Stands reader given start stream
+abbrev pub Goes : Reader → List ReadRecord → ℕ → List ℕ → Next → Type 0
+Goes reader given start stream (next.Whole piece) = HasPublished reader (given ++ piece ∷ []) start stream
+Goes reader given start stream next.More = HasPublished reader given start stream
 Goes reader given start stream next.Nothing = IsDry reader given start stream
 
 -- it is a publisher of the same source, and no call on it has refused in between
@@ -64,31 +64,31 @@ GrowsBy before after [] = after ≡ before
 GrowsBy before after (x ∷ xs) = before < after
 
 -- a line was taken off the cutter, and not yet further
-pub record TakesCut (before reader : Reader) (given : List Piece) (start : ℕ) (stream : List ℕ) (cut : Cut) : Type 0 where
-  pub stands : Stands before given start stream
+pub record TakesCut (before reader : Reader) (given : List ReadRecord) (start : ℕ) (stream : List ℕ) (cut : Cut) : Type 0 where
+  pub stands : HasPublished before given start stream
   pub same : reader ≡ record before { cutter = reader.cutter }
   pub line : TakesLine before.cutter reader.cutter (start + length (ended (stands.lines ++ stands.held))) stands.rest cut
 
 -- one more piece of the source was read
-pub record Reads (tells : Type 0) (before after : List ℕ) (reader : Reader) (given : List Piece) (start : ℕ) (stream : List ℕ) (count : ℕ) : Type 0 where
+pub record Reads (tells : Type 0) (before after : List ℕ) (reader : Reader) (given : List ReadRecord) (start : ℕ) (stream : List ℕ) (count : ℕ) : Type 0 where
   pub fresh : List ℕ
   pub size : length fresh ≡ count
   pub left : tells → before ≡ fresh ++ after
-  pub stands : Stands reader given start (stream ++ fresh)
+  pub stands : HasPublished reader given start (stream ++ fresh)
 
 -- records were given, by as many as may be, of the lines read before and in this step
-pub record UnderWay (tells : Type 0) (before after : List ℕ) (reader : Reader) (given : List Piece) (start : ℕ) (stream : List ℕ) (pieces : List Piece) (read : ℕ) : Type 0 where
+pub record UnderWay (tells : Type 0) (before after : List ℕ) (reader : Reader) (given : List ReadRecord) (start : ℕ) (stream : List ℕ) (pieces : List ReadRecord) (read : ℕ) : Type 0 where
   pub fresh : List ℕ
   pub size : length fresh ≡ read
   pub left : tells → before ≡ fresh ++ after
-  pub stands : Stands reader (given ++ pieces) start (stream ++ fresh)
+  pub stands : HasPublished reader (given ++ pieces) start (stream ++ fresh)
 
 -- A step gave so many records. The source, where it tells its bytes, has so many less. Fewer records than it may give it gives only at
 -- the source's end, or when it has read enough; then no line that was read is left, but those of a record that may go on, and at the
 -- source's end none at all.
-pub record Steps (tells : Type 0) (before after : List ℕ) (reader : Reader) (given : List Piece) (start : ℕ) (stream : List ℕ) (pieces : List Piece) (most : ℕ) : Type 0 where
+pub record Steps (tells : Type 0) (before after : List ℕ) (reader : Reader) (given : List ReadRecord) (start : ℕ) (stream : List ℕ) (pieces : List ReadRecord) (most : ℕ) : Type 0 where
   pub fresh : List ℕ
   pub left : tells → before ≡ fresh ++ after
-  pub stands : Stands reader (given ++ pieces) start (stream ++ fresh)
+  pub stands : HasPublished reader (given ++ pieces) start (stream ++ fresh)
   pub count : length pieces ≤ most
   pub full : (length pieces ≡ most) ⊎ (IsDry reader (given ++ pieces) start (stream ++ fresh) × ((reader.is_ended ≡ true) ⊎ (STEP_BYTES ≤ length fresh)))

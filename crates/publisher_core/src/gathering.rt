@@ -1,7 +1,7 @@
 //! The records of an audit log, gathered from its lines.
 
 ghost use Rattle.std.specs.Prelude.{◌≡◌, ◌+◌, [], ◌∷◌, ◌++◌, length, Some, None, true, false, OnOk, IfNone, IfSome};
-ghost use Rattle.publisher_core.specs.Gathered.{lone, ended_records, Closes, Finishes, Gains, Stands, Takes};
+ghost use Rattle.publisher_core.specs.Gathered.{lone, ended_records, Closes, Finishes, Gains, HasGathered, Takes};
 
 use audit_records::{AuditGroup, AuditLine, GroupBuilder};
 use osq_value::NoMemory;
@@ -38,7 +38,7 @@ pub struct Gathering {
 impl Gathering {
     /// A gathering that no line was put into. It takes no memory until a line is.
     pub fn new(alloc: Global) -> Self
-        ensures stands { Stands [] [] result }
+        ensures stands { HasGathered [] [] result }
     {
         Gathering {
             builder: GroupBuilder::new(alloc),

@@ -4,20 +4,20 @@ ghost use Rattle.std.specs.Prelude.{◌≡◌, ◌≢◌, ◌≤◌, ◌<◌, �
 ghost use Rattle.osq_outside.specs.Causes.{FaultHasCause};
 ghost use Rattle.publisher_core.specs.Stepping.{Goes, Grows, GrowsBy, IsDry, TakesCut, SameSource, Reads, Steps, STEP_BYTES, PIECE_BYTES};
 ghost use Rattle.publisher_core.specs.Readings.{readings_of};
-ghost use Rattle.publisher_core.specs.Standing.{Reader, Stands, is_at_end, limit_of};
+ghost use Rattle.publisher_core.specs.Standing.{Reader, HasPublished, is_at_end, limit_of};
 ghost use Rattle.publisher_core.specs.Audit.{IsPieceOf, line_in, event_in};
 ghost use Rattle.publisher_core.specs.Gathered.{Takes};
 ghost use Rattle.publisher_core.specs.Records.{LINE_LIMIT};
 ghost use Rattle.record_lines.specs.Lines.{cut_of};
 ghost use Rattle.publisher_core.specs.declared.error.StepError.{StepError};
-ghost use Rattle.publisher_core.specs.declared.record.Piece.{Piece};
+ghost use Rattle.publisher_core.specs.declared.record.ReadRecord.{ReadRecord};
 ghost use Rattle.publisher_core.specs.declared.record.Next.{Next};
 
 use crate::error::StepError;
 use crate::gathering::{AuditRecord, Gathering};
 use crate::line::{LINE_LIMIT, TABLE_LIMIT, audit_line, change_gain, table_gain};
 use crate::readings::readings_of;
-use crate::record::{Gain, Next, Piece, PieceList, Record};
+use crate::record::{Gain, Next, ReadRecord, ReadRecordList, Record};
 use crate::subscription::{Callback, Subscription};
 use audit_records::AuditGroup;
 use osq_outside::{Source, SourceFault};
@@ -131,7 +131,7 @@ impl<C: Callback> Publisher<C> {
         ensures paths { IfOk result (λ made. made.paths ≡ subscription.paths) }
         ensures kept { IfOk result (λ made. made.taken ≡ kept) }
         ensures fresh { IfOk result (λ made. (made.is_begun ≡ false) × (made.is_ended ≡ false) × (made.is_spent ≡ false)) }
-        ensures stands { IfOk result (λ made. Stands made [] kept []) }
+        ensures stands { IfOk result (λ made. HasPublished made [] kept []) }
     {
         Ok(Publisher {
             alloc,
@@ -157,7 +157,7 @@ impl<C: Callback> Publisher<C> {
     /// A read gave no bytes, and no line that was read with its line feed is left untaken.
     pub fn at_end(&self) -> bool
         ensures end { result ≡ is_at_end self.now }
-        ensures all { result ≡ true → (given : List Piece) → (start : ℕ) → (stream : List ℕ) → Stands self.now given start stream → IsDry self.now given start stream }
+        ensures all { result ≡ true → (given : List ReadRecord) → (start : ℕ) → (stream : List ℕ) → HasPublished self.now given start stream → IsDry self.now given start stream }
     {
         self.has_nothing_left()
     }
@@ -188,7 +188,7 @@ impl<C: Callback> Publisher<C> {
         requires fresh { (self.old.is_begun ≡ false) × (self.old.is_spent ≡ false) }
         ensures dropped { OnOk result (S.tells → (front : List ℕ) × (length front ≡ self.old.taken) × (S.left source.old ≡ front ++ S.left source.new)) }
         ensures begun { OnOk result (self.new ≡ record self.old { is_begun = true }) }
-        ensures stands { (given : List Piece) → (start : ℕ) → (stream : List ℕ) → Stands self.old given start stream → OnOk result (Stands self.new given start stream) }
+        ensures stands { (given : List ReadRecord) → (start : ℕ) → (stream : List ℕ) → HasPublished self.old given start stream → OnOk result (HasPublished self.new given start stream) }
         ensures shrank { (kept found : ℕ) → result ≡ Err (StepError.SourceShrank kept found) → (kept ≡ self.old.taken) × (found < kept) × (S.tells → length (S.left source.old) ≡ found) }
         ensures spent { IfErr result (λ error. self.new ≡ record self.old { is_begun = true; is_spent = true }) }
         ensures cause { FaultHasCause StepError.SourceFault (S.faults source.old) (S.faults source.new) result }
@@ -208,10 +208,10 @@ impl<C: Callback> Publisher<C> {
     /// where the source failed, or memory was wanting.
     pub fn step<S: Source>(&mut self, source: &mut S, most: u64) -> Result<ReadingList, StepError>
         requires begun { (self.old.is_begun ≡ true) × (self.old.is_spent ≡ false) }
-        ensures steps { (given : List Piece) → (start : ℕ) → (stream : List ℕ) → Stands self.old given start stream
-            → IfOk result (λ readings. (pieces : List Piece) × (readings ≡ readings_of self.old.kind pieces)
+        ensures steps { (given : List ReadRecord) → (start : ℕ) → (stream : List ℕ) → HasPublished self.old given start stream
+            → IfOk result (λ readings. (pieces : List ReadRecord) × (readings ≡ readings_of self.old.kind pieces)
             × Steps S.tells (S.left source.old) (S.left source.new) self.new given start stream pieces most) }
-        ensures grown { (given : List Piece) → (start : ℕ) → (stream : List ℕ) → Stands self.old given start stream → IfOk result (λ readings. GrowsBy self.old.taken self.new.taken readings) }
+        ensures grown { (given : List ReadRecord) → (start : ℕ) → (stream : List ℕ) → HasPublished self.old given start stream → IfOk result (λ readings. GrowsBy self.old.taken self.new.taken readings) }
         ensures same { OnOk result (SameSource self.old self.new) }
         ensures spent { IfErr result (λ error. self.new.is_spent ≡ true) }
         ensures shrank { (kept found : ℕ) → result ≢ Err (StepError.SourceShrank kept found) }
@@ -232,10 +232,10 @@ impl<C: Callback> Publisher<C> {
         source: &mut S,
         most: u64,
     ) -> Result<ReadingList, StepError>
-        ensures steps { (given : List Piece) → (start : ℕ) → (stream : List ℕ) → Stands self.old given start stream
-            → IfOk result (λ readings. (pieces : List Piece) × (readings ≡ readings_of self.old.kind pieces)
+        ensures steps { (given : List ReadRecord) → (start : ℕ) → (stream : List ℕ) → HasPublished self.old given start stream
+            → IfOk result (λ readings. (pieces : List ReadRecord) × (readings ≡ readings_of self.old.kind pieces)
             × Steps S.tells (S.left source.old) (S.left source.new) self.new given start stream pieces most) }
-        ensures grown { (given : List Piece) → (start : ℕ) → (stream : List ℕ) → Stands self.old given start stream → IfOk result (λ readings. GrowsBy self.old.taken self.new.taken readings) }
+        ensures grown { (given : List ReadRecord) → (start : ℕ) → (stream : List ℕ) → HasPublished self.old given start stream → IfOk result (λ readings. GrowsBy self.old.taken self.new.taken readings) }
         ensures same { SameSource self.old self.new }
         ensures shrank { (kept found : ℕ) → result ≢ Err (StepError.SourceShrank kept found) }
         ensures end { (S.tells → self.old.is_ended ≡ true → S.left source.old ≡ []) → OnOk result (S.tells → self.new.is_ended ≡ true → S.left source.new ≡ []) }
@@ -252,16 +252,16 @@ impl<C: Callback> Publisher<C> {
     }
 
     /// Takes the records of a step.
-    fn take_records<S: Source>(&mut self, source: &mut S, most: u64) -> Result<PieceList, StepError>
-        ensures steps { (given : List Piece) → (start : ℕ) → (stream : List ℕ) → Stands self.old given start stream
+    fn take_records<S: Source>(&mut self, source: &mut S, most: u64) -> Result<ReadRecordList, StepError>
+        ensures steps { (given : List ReadRecord) → (start : ℕ) → (stream : List ℕ) → HasPublished self.old given start stream
             → IfOk result (λ pieces. Steps S.tells (S.left source.old) (S.left source.new) self.new given start stream pieces most) }
-        ensures grown { (given : List Piece) → (start : ℕ) → (stream : List ℕ) → Stands self.old given start stream → IfOk result (λ pieces. GrowsBy self.old.taken self.new.taken pieces) }
+        ensures grown { (given : List ReadRecord) → (start : ℕ) → (stream : List ℕ) → HasPublished self.old given start stream → IfOk result (λ pieces. GrowsBy self.old.taken self.new.taken pieces) }
         ensures same { SameSource self.old self.new }
         ensures shrank { (kept found : ℕ) → result ≢ Err (StepError.SourceShrank kept found) }
         ensures end { (S.tells → self.old.is_ended ≡ true → S.left source.old ≡ []) → OnOk result (S.tells → self.new.is_ended ≡ true → S.left source.new ≡ []) }
         ensures cause { FaultHasCause StepError.SourceFault (S.faults source.old) (S.faults source.new) result }
     {
-        let mut pieces = PieceList::new(self.alloc);
+        let mut pieces = ReadRecordList::new(self.alloc);
         let mut read = 0;
         while (pieces.len() as u64) < most {
             match self.next_piece() {
@@ -291,11 +291,11 @@ impl<C: Callback> Publisher<C> {
         ensures taken { self.new ≡ record self.old { taken = end } }
     {
         self.taken = end;
-        Next::Whole(Piece { gain, end })
+        Next::Whole(ReadRecord { gain, end })
     }
 
     /// Gives a record of an audit log.
-    fn give_audit(&mut self, made: AuditRecord) -> Result<Piece, NoMemory>
+    fn give_audit(&mut self, made: AuditRecord) -> Result<ReadRecord, NoMemory>
         ensures given { IfOk result (λ piece. IsPieceOf made piece) }
         ensures taken { OnOk result (self.new ≡ record self.old { taken = made.end }) }
         ensures same { self.new ≡ record self.old { taken = self.new.taken } }
@@ -310,7 +310,7 @@ impl<C: Callback> Publisher<C> {
             Ok(event) => {
                 let gain = Gain::Event { event, skipped };
                 self.taken = end;
-                Ok(Piece { gain, end })
+                Ok(ReadRecord { gain, end })
             }
         }
     }
@@ -328,10 +328,10 @@ impl<C: Callback> Publisher<C> {
     }
 
     /// The next record of the lines that were read, or none where no whole one is left.
-    fn next_piece(&mut self) -> Result<Option<Piece>, NoMemory>
-        ensures found { (given : List Piece) → (start : ℕ) → (stream : List ℕ) → Stands self.old given start stream
-            → IfOk result (λ found. MatchOption found (IsDry self.new given start stream) (λ piece. Stands self.new (given ++ piece ∷ []) start stream)) }
-        ensures grown { (given : List Piece) → (start : ℕ) → (stream : List ℕ) → Stands self.old given start stream
+    fn next_piece(&mut self) -> Result<Option<ReadRecord>, NoMemory>
+        ensures found { (given : List ReadRecord) → (start : ℕ) → (stream : List ℕ) → HasPublished self.old given start stream
+            → IfOk result (λ found. MatchOption found (IsDry self.new given start stream) (λ piece. HasPublished self.new (given ++ piece ∷ []) start stream)) }
+        ensures grown { (given : List ReadRecord) → (start : ℕ) → (stream : List ℕ) → HasPublished self.old given start stream
             → IfOk result (λ found. MatchOption found (self.new.taken ≡ self.old.taken) (λ piece. self.old.taken < self.new.taken)) }
         ensures same { self.new ≡ record self.old { taken = self.new.taken; cutter = self.new.cutter; gathering = self.new.gathering; ready = self.new.ready } }
     {
@@ -347,8 +347,8 @@ impl<C: Callback> Publisher<C> {
 
     /// What becomes of the next line that was read.
     fn next_record(&mut self) -> Result<Next, NoMemory>
-        ensures goes { (given : List Piece) → (start : ℕ) → (stream : List ℕ) → Stands self.old given start stream → IfOk result (λ next. Goes self.new given start stream next) }
-        ensures grown { (given : List Piece) → (start : ℕ) → (stream : List ℕ) → Stands self.old given start stream → IfOk result (λ next. Grows self.old.taken self.new.taken next) }
+        ensures goes { (given : List ReadRecord) → (start : ℕ) → (stream : List ℕ) → HasPublished self.old given start stream → IfOk result (λ next. Goes self.new given start stream next) }
+        ensures grown { (given : List ReadRecord) → (start : ℕ) → (stream : List ℕ) → HasPublished self.old given start stream → IfOk result (λ next. Grows self.old.taken self.new.taken next) }
         ensures fewer { result ≡ Ok Next.More → length self.new.cutter.ready < length self.old.cutter.ready }
         ensures same { self.new ≡ record self.old { taken = self.new.taken; cutter = self.new.cutter; gathering = self.new.gathering; ready = self.new.ready } }
     {
@@ -370,8 +370,8 @@ impl<C: Callback> Publisher<C> {
     /// What becomes of a line.
     fn take_line(&mut self, cut: &Cut) -> Result<Next, NoMemory>
         requires none { self.old.ready ≡ [] }
-        ensures goes { (before : Reader) → (given : List Piece) → (start : ℕ) → (stream : List ℕ) → TakesCut before self.old given start stream cut.now → IfOk result (λ next. Goes self.new given start stream next) }
-        ensures grown { (before : Reader) → (given : List Piece) → (start : ℕ) → (stream : List ℕ) → TakesCut before self.old given start stream cut.now → IfOk result (λ next. Grows self.old.taken self.new.taken next) }
+        ensures goes { (before : Reader) → (given : List ReadRecord) → (start : ℕ) → (stream : List ℕ) → TakesCut before self.old given start stream cut.now → IfOk result (λ next. Goes self.new given start stream next) }
+        ensures grown { (before : Reader) → (given : List ReadRecord) → (start : ℕ) → (stream : List ℕ) → TakesCut before self.old given start stream cut.now → IfOk result (λ next. Grows self.old.taken self.new.taken next) }
         ensures nothing { result ≢ Ok Next.Nothing }
         ensures same { self.new ≡ record self.old { taken = self.new.taken; gathering = self.new.gathering; ready = self.new.ready } }
     {
@@ -411,7 +411,7 @@ impl<C: Callback> Publisher<C> {
     /// end, where the records of an audit log that could go on are whole.
     fn read_piece<S: Source>(&mut self, source: &mut S) -> Result<u64, StepError>
         requires more { self.old.is_ended ≡ false }
-        ensures read { (given : List Piece) → (start : ℕ) → (stream : List ℕ) → IsDry self.old given start stream → IfOk result (λ count. Reads S.tells (S.left source.old) (S.left source.new) self.new given start stream count) }
+        ensures read { (given : List ReadRecord) → (start : ℕ) → (stream : List ℕ) → IsDry self.old given start stream → IfOk result (λ count. Reads S.tells (S.left source.old) (S.left source.new) self.new given start stream count) }
         ensures count { IfOk result (λ count. count ≤ PIECE_BYTES) }
         ensures end { IfOk result (λ count. (count ≡ 0 → self.new.is_ended ≡ true) × (count ≢ 0 → self.new.is_ended ≡ false)) }
         ensures left { S.tells → result ≡ Ok 0 → S.left source.new ≡ [] }
@@ -438,7 +438,7 @@ impl<C: Callback> Publisher<C> {
     /// The source is at its end.
     fn end(&mut self) -> Result<(), NoMemory>
         requires more { self.old.is_ended ≡ false }
-        ensures ended { (given : List Piece) → (start : ℕ) → (stream : List ℕ) → IsDry self.old given start stream → OnOk result (Stands self.new given start stream) }
+        ensures ended { (given : List ReadRecord) → (start : ℕ) → (stream : List ℕ) → IsDry self.old given start stream → OnOk result (HasPublished self.new given start stream) }
         ensures same { self.new ≡ record self.old { gathering = self.new.gathering; ready = self.new.ready; is_ended = true } }
     {
         self.is_ended = true;

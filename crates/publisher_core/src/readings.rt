@@ -4,7 +4,7 @@ ghost use Rattle.std.specs.Prelude.{◌≡◌, ◌∷◌, ◌++◌, ◌+◌, [],
 ghost use Rattle.osq_value.specs.declared.reading.Reading.TheVariants.{Events};
 ghost use Rattle.publisher_core.specs.Readings.{joined, readings_of, reading_of, events_of, skipped_of, events_in, skipped_in};
 
-use crate::record::{Gain, Piece, PieceList};
+use crate::record::{Gain, ReadRecord, ReadRecordList};
 use osq_value::{EventList, NoMemory, Reading, ReadingList, SourceKind};
 use std::alloc::Global;
 
@@ -13,7 +13,7 @@ use std::alloc::Global;
 pub fn readings_of(
     alloc: Global,
     kind: SourceKind,
-    pieces: PieceList,
+    pieces: ReadRecordList,
 ) -> Result<ReadingList, NoMemory>
     ensures { IfOk result (λ readings. readings ≡ readings_of kind pieces) }
 {
@@ -24,7 +24,7 @@ pub fn readings_of(
     }
 }
 
-fn joined(alloc: Global, pieces: PieceList) -> Result<ReadingList, NoMemory>
+fn joined(alloc: Global, pieces: ReadRecordList) -> Result<ReadingList, NoMemory>
     ensures { IfOk result (λ readings. readings ≡ joined pieces) }
 {
     let mut readings = ReadingList::new(alloc);
@@ -42,7 +42,7 @@ fn joined(alloc: Global, pieces: PieceList) -> Result<ReadingList, NoMemory>
 }
 
 /// The one reading of these records, behind which is the offset `taken`.
-fn join(alloc: Global, taken: u64, pieces: PieceList) -> Result<Reading, NoMemory>
+fn join(alloc: Global, taken: u64, pieces: ReadRecordList) -> Result<Reading, NoMemory>
     ensures { IfOk result (λ reading. reading ≡ Events taken (events_of pieces) (skipped_of pieces)) }
 {
     let mut events = EventList::new(alloc);
@@ -87,7 +87,7 @@ fn sum(a: u64, b: u64) -> Result<u64, NoMemory>
     }
 }
 
-fn listed(alloc: Global, pieces: PieceList) -> Result<ReadingList, NoMemory>
+fn listed(alloc: Global, pieces: ReadRecordList) -> Result<ReadingList, NoMemory>
     ensures { IfOk result (λ readings. readings ≡ map reading_of pieces) }
 {
     let mut readings = ReadingList::new(alloc);
@@ -98,7 +98,7 @@ fn listed(alloc: Global, pieces: PieceList) -> Result<ReadingList, NoMemory>
 }
 
 /// The reading of one line of a source of tables.
-fn reading_of(alloc: Global, piece: Piece) -> Result<Reading, NoMemory>
+fn reading_of(alloc: Global, piece: ReadRecord) -> Result<Reading, NoMemory>
     ensures { IfOk result (λ reading. reading ≡ reading_of piece) }
 {
     let taken = piece.end;

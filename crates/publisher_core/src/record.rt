@@ -24,7 +24,7 @@ pub enum Gain {
 
 /// What one record gave. `end` is the source's offset, in bytes, behind the record's last line.
 #[derive(Drop)]
-pub struct Piece {
+pub struct ReadRecord {
     /// What the record gave.
     pub gain: Gain,
     /// The offset behind the record, in bytes.
@@ -32,13 +32,13 @@ pub struct Piece {
 }
 
 /// What records gave, in their order.
-pub type PieceList = Sequence<Piece>;
+pub type ReadRecordList = Sequence<ReadRecord>;
 
 /// What became of the lines that were read.
 #[derive(Drop)]
 pub enum Next {
     /// A record is whole.
-    Whole(Piece),
+    Whole(ReadRecord),
     /// A line was taken in.
     More,
     /// No line is left.

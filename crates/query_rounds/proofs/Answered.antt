@@ -20,7 +20,7 @@ use Rattle.osq_value.specs.declared.source.SourceName.{SourceName}
 use Rattle.daemon_rounds.specs.Starting.{source_names}
 use Rattle.replay_rounds.specs.Sources.{sources_of}
 use Rattle.replay_rounds.proofs.Endings.{all_present, all_whole}
-use Rattle.query_rounds.specs.Asking.{AnswersBehind, IsAnswer, IsGiven, opened_behind}
+use Rattle.query_rounds.specs.Asking.{AnswersBehind, IsAnswer, IsGivenFrom, opened_behind}
 use Rattle.query_rounds.specs.Reading.{HasRead}
 use Rattle.query_rounds.specs.Rounds.{HasMore}
 use Rattle.query_rounds.specs.Running.{Place, place_of}
@@ -70,6 +70,6 @@ module _ {S : Type 0} (tells : Type 0) (left : S → List ℕ) (faults : S → �
       more = more_left;
     }
 
-  pub answered : (paths : List Category) (records : ℕ) → IsGiven left names objects paths records given → HasRead tells left faults names paths records rounds (summary kept) objects rests state is_end → (text : List ℕ) (moment : ℕ) (rows : List (List Value)) (skipped : List ℕ) → AnswersBehind state text moment rows → IsAnswer given kept text rounds moment (record { rows = rows; is_end = is_end; skipped = skipped })
+  pub answered : (paths : List Category) (records : ℕ) → IsGivenFrom left names objects paths records given → HasRead tells left faults names paths records rounds (summary kept) objects rests state is_end → (text : List ℕ) (moment : ℕ) (rows : List (List Value)) (skipped : List ℕ) → AnswersBehind state text moment rows → IsAnswer given kept text rounds moment (record { rows = rows; is_end = is_end; skipped = skipped })
   answered paths records is read =
       answer_of is.sources_are (subst (λ (records : ℕ). HasRead tells left faults names given.config.categories records rounds (summary kept) objects rests state is_end) (sym is.records_are) (subst (λ (paths : List Category). HasRead tells left faults names paths records rounds (summary kept) objects rests state is_end) (sym is.paths_are) read))

@@ -18,14 +18,14 @@ use Rattle.entry_model.specs.Values.{sessions}
 use Rattle.entry_model.specs.Views.{view_of}
 use Rattle.session_state.specs.Kept.{Kept}
 use Rattle.session_state.specs.Readings.{entry_of}
-use Rattle.session_state.specs.Stands.{Stands}
+use Rattle.session_state.specs.StateOf.{IsStateOf}
 use Rattle.osq_value.specs.declared.source.SourceName.{SourceName}
 use Rattle.daemon_rounds.specs.declared.turning.Which.TheVariants as which
 use Rattle.daemon_rounds.specs.Appending.{entries_of}
 use Rattle.daemon_rounds.specs.Rounding.{names_of, round_entries}
 use Rattle.daemon_rounds.specs.Starting.{AreFeedsOf, IsStart, source_names}
 use Rattle.daemon_rounds.specs.Turns.{Gave, IsTurn, Turn, turn_entries}
-use Rattle.query_rounds.specs.Asking.{AnswersBehind, IsFrom, IsMeant, opened_behind}
+use Rattle.query_rounds.specs.Asking.{AnswersBehind, IsFrom, AnswersSomeContinuation, opened_behind}
 use Rattle.query_rounds.specs.Reading.{HasRead, IsBegun}
 use Rattle.query_rounds.specs.Running.{Place, Turns, TurnsOften, place_of}
 
@@ -78,7 +78,7 @@ module _ {S : Type 0} (tells : Type 0) (left : S → List ℕ) (faults : S → �
     module _ (restored : Restored) (names : List (List ℕ)) where
       -- behind the opening the state stands for these entries, each for what one of the sources gave, whose names the feeds have
       record HasGained (entries : List Entry) (at : Place S) : Type 0 where
-        stands : Stands restored (Opened (restored.sessions + 1) ∷ entries) at.state
+        stands : IsStateOf restored (Opened (restored.sessions + 1) ∷ entries) at.state
         given : All (IsFrom names) entries
         named : names_of at.feeds ≡ names
 
@@ -122,12 +122,12 @@ module _ {S : Type 0} (tells : Type 0) (left : S → List ℕ) (faults : S → �
   list_is before same =
       ap (λ (base : Restored). before ++ (Opened (base.sessions + 1) ∷ entries)) (sym same) ∙ sym (append_assoc before (Opened (sessions before + 1) ∷ []) entries)
 
-  pub meant : (keeper_tells : Type 0) (kept : List Entry) → (keeper_tells → restored ≡ summary kept) → (text : List ℕ) (moment : ℕ) (rows : List (List Value)) → AnswersBehind state text moment rows → IsMeant keeper_tells kept names text moment rows
+  pub meant : (keeper_tells : Type 0) (kept : List Entry) → (keeper_tells → restored ≡ summary kept) → (text : List ℕ) (moment : ℕ) (rows : List (List Value)) → AnswersBehind state text moment rows → AnswersSomeContinuation keeper_tells kept names text moment rows
   meant keeper_tells kept is text moment rows answers = record {
     restored = restored;
     restored_is = is;
     entries = entries;
     given = gained.given;
     legal = λ before legal same. subst Legal (list_is before same) (gained.stands.values before legal same).legal;
-    means = λ before legal same. answers before (Opened (restored.sessions + 1) ∷ entries) legal (subst (λ (base : Restored). Stands base (Opened (restored.sessions + 1) ∷ entries) state) (sym same) gained.stands) ∙ ap (λ (list : List Entry). meaning text (view_of list 0 moment)) (list_is before same);
+    means = λ before legal same. answers before (Opened (restored.sessions + 1) ∷ entries) legal (subst (λ (base : Restored). IsStateOf base (Opened (restored.sessions + 1) ∷ entries) state) (sym same) gained.stands) ∙ ap (λ (list : List Entry). meaning text (view_of list 0 moment)) (list_is before same);
   }

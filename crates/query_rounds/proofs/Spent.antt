@@ -10,7 +10,7 @@ use Rattle.session_model.specs.Given.{Given}
 use Rattle.osq_value.specs.declared.source.SourceName.{SourceName}
 use Rattle.daemon_rounds.specs.Starting.{source_names}
 use Rattle.replay_rounds.specs.Sources.{sources_of}
-use Rattle.query_rounds.specs.Asking.{IsGiven, Spends}
+use Rattle.query_rounds.specs.Asking.{IsGivenFrom, Spends}
 use Rattle.query_rounds.specs.Reading.{IsOverfull}
 use Rattle.query_rounds.specs.Running.{place_of}
 use Rattle.query_rounds.proofs.Taken.{all_taken, begun_taken, one_spends, sources_distinct, spent}
@@ -30,6 +30,6 @@ module _ {S : Type 0} (tells : Type 0) (left : S → List ℕ) (faults : S → �
         spends = one_spends tells left faults given kept told legal apart over.runs.count entries over.runs.between end taken over.runs.overflows;
       }
 
-  pub has_spent : (paths : List Category) (records : ℕ) → IsGiven left names objects paths records given → IsOverfull tells left faults names paths records rounds (summary kept) objects rests → Spends given kept rounds
+  pub has_spent : (paths : List Category) (records : ℕ) → IsGivenFrom left names objects paths records given → IsOverfull tells left faults names paths records rounds (summary kept) objects rests → Spends given kept rounds
   has_spent paths records is over =
       spends_over is.sources_are (subst (λ (records : ℕ). IsOverfull tells left faults names given.config.categories records rounds (summary kept) objects rests) (sym is.records_are) (subst (λ (paths : List Category). IsOverfull tells left faults names paths records rounds (summary kept) objects rests) (sym is.paths_are) over))

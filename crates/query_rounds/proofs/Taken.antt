@@ -13,7 +13,7 @@ use Rattle.entry_model.proofs.Summaries.{taken_is}
 use Rattle.session_model.specs.Given.{Given, Source}
 use Rattle.session_model.specs.Taking.{TakesSteps}
 use Rattle.session_state.specs.Kept.{Counts}
-use Rattle.session_state.specs.Stands.{HasValues, Stands}
+use Rattle.session_state.specs.StateOf.{HasValues, IsStateOf}
 use Rattle.osq_value.specs.declared.source.SourceName.{SourceName}
 use Rattle.daemon_rounds.specs.Rounding.{Overflows, names_of, round_entries}
 use Rattle.daemon_rounds.specs.Starting.{source_names}
@@ -40,7 +40,7 @@ behind_opening kept entries entry = append_assoc kept (entry ∷ []) entries
 -- Behind the opening the session took these entries in so many rounds: its state stands for them, and its sources are fed.
 pub record HasTaken {S : Type 0} (tells : Type 0) (left : S → List ℕ) (given : Given) (kept : List Entry) (count : ℕ) (entries : List Entry) (at : Place S) : Type 0 where
   pub takes : TakesRounds given (opened_behind kept) count entries
-  pub stands : Stands (summary kept) (Opened (sessions kept + 1) ∷ entries) at.state
+  pub stands : IsStateOf (summary kept) (Opened (sessions kept + 1) ∷ entries) at.state
   pub fed : AreFed tells left given.config.categories kept (opened_behind kept ++ entries) given.sources at.feeds at.sources
 
 -- the last of the rounds, in which each source that isn't at its end gave a full step
@@ -110,7 +110,7 @@ module _ {S : Type 0} (tells : Type 0) (left : S → List ℕ) (faults : S → �
     abbrev pub spent : List Entry
     spent = overflow_entries tells left faults which.Every given from.feeds to.feeds from.sources to.sources from.state to.state o
 
-    stands_spent : Stands (summary kept) (Opened (sessions kept + 1) ∷ (entries ++ spent)) to.state
+    stands_spent : IsStateOf (summary kept) (Opened (sessions kept + 1) ∷ (entries ++ spent)) to.state
     stands_spent =
         (overflow_brings tells left faults which.Every given from.feeds to.feeds from.sources to.sources from.state to.state o).stands (summary kept) (Opened (sessions kept + 1) ∷ entries) taken.stands
 

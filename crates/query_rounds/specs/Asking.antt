@@ -13,7 +13,7 @@ use Rattle.entry_model.specs.Views.{view_of}
 use Rattle.session_model.specs.Given.{Given, Source}
 use Rattle.session_model.specs.Taking.{IsReadWhole}
 use Rattle.session_state.specs.Kept.{Kept}
-use Rattle.session_state.specs.Stands.{Stands}
+use Rattle.session_state.specs.StateOf.{IsStateOf}
 use Rattle.daemon_rounds.specs.Starting.{source_names}
 use Rattle.osq_value.specs.declared.source.SourceName.{SourceName}
 use Rattle.replay_rounds.specs.Sources.{sources_of}
@@ -22,7 +22,7 @@ use Rattle.query_rounds.specs.Rounds.{HasMore, TakesRounds}
 use Rattle.query_rounds.specs.declared.asking.Asked.{Asked}
 
 -- a session is given these sources with the bytes that their objects have, these paths, and so many records a step
-pub record IsGiven {S : Type 0} (left : S → List ℕ) (names : List SourceName) (objects : List S) (paths : List Category) (records : ℕ) (given : Given) : Type 0 where
+pub record IsGivenFrom {S : Type 0} (left : S → List ℕ) (names : List SourceName) (objects : List S) (paths : List Category) (records : ℕ) (given : Given) : Type 0 where
   pub sources_are : given.sources ≡ sources_of left names objects
   pub paths_are : given.config.categories ≡ paths
   pub records_are : given.records ≡ records
@@ -58,7 +58,7 @@ pub record Spends (given : Given) (kept : List Entry) (rounds : ℕ) : Type 0 wh
 -- list with these entries behind it, at this moment
 abbrev pub AnswersBehind : Kept → List ℕ → ℕ → List (List Value) → Type 0
 AnswersBehind state text moment rows =
-    (before added : List Entry) → Legal before → Stands (summary before) added state → rows ≡ meaning text (view_of (before ++ added) 0 moment)
+    (before added : List Entry) → Legal before → IsStateOf (summary before) added state → rows ≡ meaning text (view_of (before ++ added) 0 moment)
 
 -- an entry for what a source of one of these names gave
 abbrev pub IsFrom : List (List ℕ) → Entry → Type 0
@@ -67,7 +67,7 @@ IsFrom names entry = (name : List ℕ) × Contains names name × (source_in entr
 -- Whatever the keeper and the sources tell: the session began over these values, which where the keeper tells are those of its list. Behind each legal list
 -- with these values there may be the opening, and then these entries for what the sources gave, the same for each such list; and the rows are those that
 -- the text means at this moment over all live events and the tables of the list with all of that behind it.
-pub record IsMeant (tells : Type 0) (kept : List Entry) (names : List SourceName) (text : List ℕ) (moment : ℕ) (rows : List (List Value)) : Type 0 where
+pub record AnswersSomeContinuation (tells : Type 0) (kept : List Entry) (names : List SourceName) (text : List ℕ) (moment : ℕ) (rows : List (List Value)) : Type 0 where
   pub restored : Restored
   pub restored_is : tells → restored ≡ summary kept
   pub entries : List Entry

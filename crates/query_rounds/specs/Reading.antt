@@ -4,7 +4,7 @@ use Rattle.osq_value.specs.declared.reading.Category.{Category}
 use Rattle.source_feeds.specs.Feeding.{Feeding}
 use Rattle.entry_model.specs.declared.restored.Restored.{Restored}
 use Rattle.session_state.specs.Kept.{Kept}
-use Rattle.session_state.specs.Stands.{Begins}
+use Rattle.session_state.specs.StateOf.{Begins}
 use Rattle.daemon_rounds.specs.Starting.{IsStarted}
 use Rattle.osq_value.specs.declared.source.SourceName.{SourceName}
 use Rattle.query_rounds.specs.Running.{Place, RunsOut, RunsOver, place_of}

@@ -1,7 +1,7 @@
 -- How many lines of its sources a question skipped.
 use Rattle.std.specs.Prelude.{◌≡◌, ℕ, Bool, true, List, [], ◌∷◌}
 use Rattle.osq_value.specs.declared.reading.Category.{Category}
-use Rattle.publisher_core.specs.declared.record.Piece.{Piece}
+use Rattle.publisher_core.specs.declared.record.ReadRecord.{ReadRecord}
 use Rattle.publisher_core.specs.Standing.{is_at_end}
 use Rattle.source_feeds.specs.Feeding.{Fed, Feeding}
 use Rattle.source_feeds.specs.Taking.{TakesAll}
@@ -17,7 +17,7 @@ pub record IsCounted (tells : Type 0) (paths : List Category) (source : SourceNa
   pub name : feed.name ≡ source.name
   pub kind : feed.kind ≡ source.kind
   pub paths_are : feed.reader.paths ≡ paths
-  pub pieces : List Piece
+  pub pieces : List ReadRecord
   pub fed : Fed tells bytes rest feed kept pieces
   pub whole : tells → is_at_end feed.reader ≡ true → TakesAll source.kind paths kept bytes pieces feed.reader.taken
 

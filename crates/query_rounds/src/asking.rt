@@ -12,7 +12,7 @@ ghost use Rattle.entry_model.specs.declared.restored.Taken.{Taken};
 ghost use Rattle.session_model.specs.Given.{Given};
 ghost use Rattle.daemon_rounds.specs.Rounding.{FailsAt};
 ghost use Rattle.daemon_rounds.specs.Starting.{HasShrunk, source_names};
-ghost use Rattle.query_rounds.specs.Asking.{IsAnswer, IsGiven, IsMeant, Spends};
+ghost use Rattle.query_rounds.specs.Asking.{IsAnswer, IsGivenFrom, AnswersSomeContinuation, Spends};
 ghost use Rattle.query_rounds.specs.Reading.{IsOverfull};
 ghost use Rattle.query_rounds.specs.Skipping.{TellsSkipped};
 ghost use Rattle.query_rounds.specs.declared.error.AskError.{AskError};
@@ -59,7 +59,7 @@ pub fn ask_kept<S: Source, K: Keeper, C: Clock>(
     requires accepted { is_accepted text.now ≡ true }
     requires paired { length sources.old ≡ length names.now }
     requires distinct { IsDistinct bytes_eq (source_names names.now) }
-    ensures answer { IfOk result (λ asked. (moment : ℕ) × C.reads clock.old moment clock.new × (moment ≤ LAST_MOMENT) × IsMeant K.tells (K.kept keeper.old) names.now text.now moment asked.rows × (K.tells → S.tells → Legal (K.kept keeper.old) → (given : Given) → IsGiven S.left names.now sources.old paths.now records given → IsAnswer given (K.kept keeper.old) text.now rounds moment asked)) }
+    ensures answer { IfOk result (λ asked. (moment : ℕ) × C.reads clock.old moment clock.new × (moment ≤ LAST_MOMENT) × AnswersSomeContinuation K.tells (K.kept keeper.old) names.now text.now moment asked.rows × (K.tells → S.tells → Legal (K.kept keeper.old) → (given : Given) → IsGivenFrom S.left names.now sources.old paths.now records given → IsAnswer given (K.kept keeper.old) text.now rounds moment asked)) }
     ensures skipped { IfOk result (λ asked. (taken : List Taken) × (K.tells → taken ≡ (summary (K.kept keeper.old)).taken) × TellsSkipped S.tells paths.now taken names.now (map S.left sources.old) asked.is_end asked.skipped) }
     ensures same { K.tells → K.kept keeper.new ≡ K.kept keeper.old }
     ensures keeper_cause { result ≡ Err AskError.KeeperFault → Rose (K.faults keeper.old) (K.faults keeper.new) }
@@ -69,7 +69,7 @@ pub fn ask_kept<S: Source, K: Keeper, C: Clock>(
     ensures fault { (place : ℕ) → result ≡ Err (AskError.SourceFault place) → FailsAt S.faults place sources.old sources.new }
     ensures shrank { (place kept found : ℕ) → result ≡ Err (AskError.SourceShrank place kept found) → (taken : List Taken) × (K.tells → taken ≡ (summary (K.kept keeper.old)).taken) × HasShrunk S.tells S.left taken names.now place kept found sources.old }
     ensures over { result ≡ Err AskError.NumbersSpent → (restored : Restored) × (K.tells → restored ≡ summary (K.kept keeper.old)) × IsOverfull S.tells S.left S.faults names.now paths.now records rounds restored sources.old sources.new }
-    ensures spent { result ≡ Err AskError.NumbersSpent → K.tells → S.tells → Legal (K.kept keeper.old) → (given : Given) → IsGiven S.left names.now sources.old paths.now records given → Spends given (K.kept keeper.old) rounds }
+    ensures spent { result ≡ Err AskError.NumbersSpent → K.tells → S.tells → Legal (K.kept keeper.old) → (given : Given) → IsGivenFrom S.left names.now sources.old paths.now records given → Spends given (K.kept keeper.old) rounds }
     ensures later { K.faults keeper.old ≤ K.faults keeper.new }
 {
     let restored = match load_values(alloc, keeper) {

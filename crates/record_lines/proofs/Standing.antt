@@ -5,7 +5,7 @@ use Rattle.record_lines.specs.declared.line.Cut.{Cut}
 use Rattle.record_lines.specs.declared.partial.Partial.{Partial}
 use Rattle.record_lines.specs.Lines.{lines_of, rest_of, HasNoFeed, cut_of, cuts_of}
 use Rattle.record_lines.specs.Rests.{kept, IsRest}
-use Rattle.record_lines.specs.Cutting.{Cutter, Stands, TakesLine}
+use Rattle.record_lines.specs.Cutting.{Cutter, HasCut, TakesLine}
 use Rattle.record_lines.proofs.Cuts.{lines_of-nil, rest_of-nil, lines_of-plain, rest_of-plain, lines_of-ended, rest_of-ended, span, span_of, cuts_of-append, first_line, no_cuts, lines_of-first, rest_of-first}
 
 kept-nil : (limit : ℕ) → kept limit [] ≡ []
@@ -14,7 +14,7 @@ kept-nil limit = elim (nat_le 0 limit) as (λ t. cond {A = List ℕ} t [] [] ≡
 pub new_rest : (limit : ℕ) (partial : Partial) → partial.size ≡ 0 → partial.bytes ≡ [] → IsRest limit [] partial
 new_rest limit partial size bytes = record { size = size; bytes = bytes ∙ sym (kept-nil limit) }
 
-pub stands_new : (cutter : Cutter) → cutter.ready ≡ [] → IsRest cutter.limit [] cutter.partial → Stands cutter cutter.begun []
+pub stands_new : (cutter : Cutter) → cutter.ready ≡ [] → IsRest cutter.limit [] cutter.partial → HasCut cutter cutter.begun []
 stands_new cutter ready rest = record {
   ready = ready ∙ sym (ap (cuts_of cutter.limit cutter.begun) lines_of-nil);
   begun = ap (λ (r : List ℕ). cutter.begun + length r) rest_of-nil;
@@ -22,7 +22,7 @@ stands_new cutter ready rest = record {
 }
 
 -- the stream goes on without a line feed
-pub stands_plain : (old new : Cutter) (start : ℕ) (stream piece : List ℕ) → Stands old start stream → HasNoFeed piece → new.limit ≡ old.limit → new.ready ≡ old.ready → new.begun ≡ old.begun → IsRest old.limit (rest_of stream ++ piece) new.partial → Stands new start (stream ++ piece)
+pub stands_plain : (old new : Cutter) (start : ℕ) (stream piece : List ℕ) → HasCut old start stream → HasNoFeed piece → new.limit ≡ old.limit → new.ready ≡ old.ready → new.begun ≡ old.begun → IsRest old.limit (rest_of stream ++ piece) new.partial → HasCut new start (stream ++ piece)
 stands_plain old new start stream piece stands plain limit ready begun rest =
     let more = rest_of-plain stream piece plain in
     let longer = length-append (rest_of stream) piece in
@@ -36,7 +36,7 @@ stands_plain old new start stream piece stands plain limit ready begun rest =
     }
 
 -- the line that was begun ends, and more comes behind its line feed
-pub stands_ended : (old new : Cutter) (start end : ℕ) (stream front behind : List ℕ) (cut : Cut) (later : List Cut) → Stands old start stream → HasNoFeed front → end ≡ old.begun + old.partial.size + length front + 1 → cut ≡ cut_of old.limit end (rest_of stream ++ front) → later ≡ cuts_of old.limit end (lines_of behind) → new.limit ≡ old.limit → new.ready ≡ old.ready ++ cut ∷ [] ++ later → new.begun + length (rest_of behind) ≡ end + length behind → IsRest old.limit (rest_of behind) new.partial → Stands new start (stream ++ front ++ 10 ∷ behind)
+pub stands_ended : (old new : Cutter) (start end : ℕ) (stream front behind : List ℕ) (cut : Cut) (later : List Cut) → HasCut old start stream → HasNoFeed front → end ≡ old.begun + old.partial.size + length front + 1 → cut ≡ cut_of old.limit end (rest_of stream ++ front) → later ≡ cuts_of old.limit end (lines_of behind) → new.limit ≡ old.limit → new.ready ≡ old.ready ++ cut ∷ [] ++ later → new.begun + length (rest_of behind) ≡ end + length behind → IsRest old.limit (rest_of behind) new.partial → HasCut new start (stream ++ front ++ 10 ∷ behind)
 stands_ended old new start end stream front behind cut later stands plain end_is cut_is later_is limit ready begun rest =
     let lines = lines_of-ended stream front behind plain in
     let rests = rest_of-ended stream front behind plain in
@@ -63,7 +63,7 @@ no_longer : {X : Type 0} → (x : X) (xs ys : List X) → x ∷ xs ≡ ys → ys
 no_longer x xs ys longer same = let sizes = ap length (longer ∙ same) in omega arith
 
 -- the first of the ready lines is taken, or there is none
-pub taken : (old new : Cutter) (start : ℕ) (stream : List ℕ) (result : Option Cut) → Stands old start stream → old.ready ≡ option_to_list result ++ new.ready → new.ready ≡ drop 1 old.ready → new.limit ≡ old.limit → new.begun ≡ old.begun → new.partial ≡ old.partial → IfNone result (HasNoFeed stream) × IfSome result (λ cut. TakesLine old new start stream cut)
+pub taken : (old new : Cutter) (start : ℕ) (stream : List ℕ) (result : Option Cut) → HasCut old start stream → old.ready ≡ option_to_list result ++ new.ready → new.ready ≡ drop 1 old.ready → new.limit ≡ old.limit → new.begun ≡ old.begun → new.partial ≡ old.partial → IfNone result (HasNoFeed stream) × IfSome result (λ cut. TakesLine old new start stream cut)
 taken old new start stream result stands items rest limit begun partial = by_line (first_line stream) result items where
   by_plain : HasNoFeed stream → (r : Option Cut) → old.ready ≡ option_to_list r ++ new.ready → IfNone r (HasNoFeed stream) × IfSome r (λ cut. TakesLine old new start stream cut)
   by_plain plain None is = (plain, tt)
@@ -80,7 +80,7 @@ taken old new start stream result stands items rest limit begun partial = by_lin
       let sizes = ap (λ (r : List ℕ). length r) rests in
       let whole = ap (λ (r : List ℕ). length r) e ∙ length-append line (10 ∷ behind) in
       let before = stands.begun in
-      let stands_behind : Stands new (start + length line + 1) behind = record {
+      let stands_behind : HasCut new (start + length line + 1) behind = record {
         ready = others ∙ ap (λ n. cuts_of n (start + length line + 1) (lines_of behind)) (sym limit);
         begun = omega arith;
         rest = subst (λ n. IsRest n (rest_of behind) new.partial) (sym limit) (subst (λ (p : Partial). IsRest old.limit (rest_of behind) p) (sym partial) (subst (λ r. IsRest old.limit r old.partial) rests stands.rest));

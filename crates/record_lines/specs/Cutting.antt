@@ -13,7 +13,7 @@ pub record Cutter : Type 0 where
 
 -- The cutter has these bytes of its stream before it, from this offset on: the lines in them are ready, and of the rest it keeps no
 -- more than the limit.
-pub record Stands (cutter : Cutter) (start : ℕ) (stream : List ℕ) : Type 0 where
+pub record HasCut (cutter : Cutter) (start : ℕ) (stream : List ℕ) : Type 0 where
   pub ready : cutter.ready ≡ cuts_of cutter.limit start (lines_of stream)
   pub begun : cutter.begun + length (rest_of stream) ≡ start + length stream
   pub rest : IsRest cutter.limit (rest_of stream) cutter.partial
@@ -26,4 +26,4 @@ pub record TakesLine (old new : Cutter) (start : ℕ) (stream : List ℕ) (cut :
   pub plain : HasNoFeed line
   pub cut_is : cut ≡ cut_of old.limit (start + length line + 1) line
   pub limit : new.limit ≡ old.limit
-  pub stands : Stands new (start + length line + 1) behind
+  pub stands : HasCut new (start + length line + 1) behind

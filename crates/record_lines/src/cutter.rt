@@ -48,12 +48,12 @@ impl Model for LineCutter {
 }
 
 impl LineCutter {
-    ghost use Rattle.record_lines.specs.Cutting.{Stands, TakesLine};
+    ghost use Rattle.record_lines.specs.Cutting.{HasCut, TakesLine};
 
     /// A cutter of a stream that begins at this offset. It skips the lines that have more than `limit` bytes.
     pub fn new(alloc: Global, limit: u64, offset: u64) -> Self
         ensures limit { result.limit ≡ limit }
-        ensures stands { Stands result offset [] }
+        ensures stands { HasCut result offset [] }
     {
         LineCutter {
             alloc,
@@ -67,7 +67,7 @@ impl LineCutter {
     /// The stream so far grows by the piece. Where memory is wanting it stays as it was; a stream that would pass 2^63 bytes is answered
     /// so too.
     pub fn feed(&mut self, piece: &[u8]) -> Result<(), NoMemory>
-        ensures ok { (start : ℕ) → (stream : List ℕ) → Stands self.old start stream → OnOk result (Stands self.new start (stream ++ piece.now)) }
+        ensures ok { (start : ℕ) → (stream : List ℕ) → HasCut self.old start stream → OnOk result (HasCut self.new start (stream ++ piece.now)) }
         ensures limit { self.new.limit ≡ self.old.limit }
         ensures err { OnErr result (self.new ≡ self.old) }
     {
@@ -86,7 +86,7 @@ impl LineCutter {
     /// The line that was begun ends with `front`, and these bytes come behind its line feed.
     fn end_line(&mut self, front: &[u8], behind: &[u8]) -> Result<(), NoMemory>
         requires { self.old.begun + self.old.partial.size + length front.now + 1 + length behind.now < 2 ^ 64 }
-        ensures ok { (start : ℕ) → (stream : List ℕ) → Stands self.old start stream → HasNoFeed front.now → OnOk result (Stands self.new start (stream ++ front.now ++ 10 ∷ behind.now)) }
+        ensures ok { (start : ℕ) → (stream : List ℕ) → HasCut self.old start stream → HasNoFeed front.now → OnOk result (HasCut self.new start (stream ++ front.now ++ 10 ∷ behind.now)) }
         ensures limit { self.new.limit ≡ self.old.limit }
         ensures err { OnErr result (self.new ≡ self.old) }
     {
@@ -106,8 +106,8 @@ impl LineCutter {
     /// The next line of the stream that has its line feed, without it, or that it was skipped. None exactly where no further line feed was
     /// fed.
     pub fn take_line(&mut self) -> Option<Cut>
-        ensures none { (start : ℕ) → (stream : List ℕ) → Stands self.old start stream → IfNone result (HasNoFeed stream) }
-        ensures some { (start : ℕ) → (stream : List ℕ) → Stands self.old start stream → IfSome result (λ cut. TakesLine self.old self.new start stream cut) }
+        ensures none { (start : ℕ) → (stream : List ℕ) → HasCut self.old start stream → IfNone result (HasNoFeed stream) }
+        ensures some { (start : ℕ) → (stream : List ℕ) → HasCut self.old start stream → IfSome result (λ cut. TakesLine self.old self.new start stream cut) }
         ensures same { IfNone result (self.new ≡ self.old) }
         ensures ready { self.old.ready ≡ option_to_list result ++ self.new.ready }
     {

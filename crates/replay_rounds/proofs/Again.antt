@@ -13,8 +13,8 @@ use Rattle.session_model.specs.Configuring as model
 use Rattle.session_model.specs.Configuring.{ConfiguresBy, configured_in, has_discovery}
 use Rattle.session_model.specs.Given.{Given}
 use Rattle.session_state.specs.Kept.{Counts, Kept}
-use Rattle.session_state.specs.Stands.{Stands}
-use Rattle.daemon_rounds.specs.Adding.{Brings}
+use Rattle.session_state.specs.StateOf.{IsStateOf}
+use Rattle.daemon_rounds.specs.Adding.{AddsEntries}
 use Rattle.daemon_rounds.specs.Ticking.{ConfiguresAgain, asks_again, configured_last}
 use Rattle.daemon_rounds.proofs.Adding.{brings_same}
 use Rattle.replay_rounds.proofs.Nothing.{TakeNothing, configured_nothing, none_nothing}
@@ -25,9 +25,9 @@ again_entries true config documents host moment old new configures =
     Configured documents configures.schedule moment ∷ []
 again_entries false config documents host moment old new same = []
 
-pub again_brings : (asks : Bool) (config : Config) (documents : List (List ℕ)) (host : Host) (moment : ℕ) (old new : Kept) (again : ConfiguresAgain asks config documents host moment old new) → Brings old (again_entries asks config documents host moment old new again) new
+pub again_brings : (asks : Bool) (config : Config) (documents : List (List ℕ)) (host : Host) (moment : ℕ) (old new : Kept) (again : ConfiguresAgain asks config documents host moment old new) → AddsEntries old (again_entries asks config documents host moment old new again) new
 again_brings true config documents host moment old new configures = configures.brings
-again_brings false config documents host moment old new same = subst (Brings old []) (sym same) (brings_same old)
+again_brings false config documents host moment old new same = subst (AddsEntries old []) (sym same) (brings_same old)
 
 -- the moment is the tick's
 pub again_moment : (asks : Bool) (config : Config) (documents : List (List ℕ)) (host : Host) (moment : ℕ) (old new : Kept) (again : ConfiguresAgain asks config documents host moment old new) → old.counts.moment ≡ moment → new.counts.moment ≡ moment
@@ -49,7 +49,7 @@ again_nothing true config documents host moment old new configures =
     configured_nothing documents configures.schedule moment
 again_nothing false config documents host moment old new same = none_nothing
 
-module _ (given : Given) (moment : ℕ) (old new : Kept) (base : Restored) (added before : List Entry) (stands : Stands base added old) (legal : Legal before) (same : summary before ≡ base) where
+module _ (given : Given) (moment : ℕ) (old new : Kept) (base : Restored) (added before : List Entry) (stands : IsStateOf base added old) (legal : Legal before) (same : summary before ≡ base) where
   by_list : (asks : Bool) (again : ConfiguresAgain asks given.config given.documents given.host moment old new) → ConfiguresBy asks given (before ++ added) moment (again_entries asks given.config given.documents given.host moment old new again)
   by_list true configures =
       (Configured given.documents configures.schedule moment, record { schedule = configures.schedule; is = configures.of_list base added stands before legal same; are = refl }, refl)

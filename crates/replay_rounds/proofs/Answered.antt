@@ -19,12 +19,12 @@ use Rattle.query_cursors.specs.Due as cursors
 use Rattle.session_state.specs.Kept.{Counts, IsRun, IsState, Kept}
 use Rattle.session_state.specs.Expiries as state
 use Rattle.session_state.specs.Expiries.{expiries}
-use Rattle.session_state.specs.Stands.{HasValues, Stands}
+use Rattle.session_state.specs.StateOf.{HasValues, IsStateOf}
 use Rattle.session_state.specs.Ticks.{first_due}
 use Rattle.session_state.proofs.Dues.{due_queries_are, none_due, owed_is}
 use Rattle.session_model.specs.Ticking as model
 use Rattle.session_model.specs.Ticking.{Answers, expiries_of}
-use Rattle.daemon_rounds.specs.Adding.{AreFree, Brings}
+use Rattle.daemon_rounds.specs.Adding.{AreFree, AddsEntries}
 use Rattle.daemon_rounds.specs.Answering.{AnswersEach, AnswersFirst, AreOwn, committed_all}
 use Rattle.replay_rounds.specs.Spent.{AnswersFront}
 use Rattle.replay_rounds.proofs.Dues.{one_less}
@@ -67,7 +67,7 @@ known_runs s t [] each is = subst (λ (counts : Counts). All (IsRun counts.batch
 known_runs s t (batch ∷ batches) each is = each.0.is.runs
 
 -- Behind the batch of the first due query the others that were due are left.
-module _ (entries : List Entry) (s t : Kept) (batch : Batch) (first : AnswersFirst s batch) (free : AreFree s.claims) (more : Brings s (Committed batch ∷ []) t) where
+module _ (entries : List Entry) (s t : Kept) (batch : Batch) (first : AnswersFirst s batch) (free : AreFree s.claims) (more : AddsEntries s (Committed batch ∷ []) t) where
   abbrev before : List Scheduled
   before = filter (cursors.is_due_by s.counts.runs s.counts.moment) s.schedule.queries
 
@@ -112,7 +112,7 @@ module _ (entries : List Entry) (s t : Kept) (batch : Batch) (first : AnswersFir
 
 -- The batches of a tick answer the due queries of the list, in their order, each made of all that stands before it.
 module _ (base : Restored) (start : List Entry) (legal : Legal start) (same : summary start ≡ base) where
-  pub answered_are : (added : List Entry) (s t : Kept) (batches : List Batch) → Stands base added s → AreFree s.claims → AnswersEach s batches t → AreOwn s.counts.position batches → IsState t → first_due t ≡ None → Answers (start ++ added) (due_queries (start ++ added)) (committed_all batches)
+  pub answered_are : (added : List Entry) (s t : Kept) (batches : List Batch) → IsStateOf base added s → AreFree s.claims → AnswersEach s batches t → AreOwn s.counts.position batches → IsState t → first_due t ≡ None → Answers (start ++ added) (due_queries (start ++ added)) (committed_all batches)
   answered_are added s t [] stands free each own is none =
       let now = (each.stands base added stands).values start legal same in
       let over = subst (λ (entries : List Entry). HasValues (start ++ entries) t) (append-nil added) now in
@@ -161,7 +161,7 @@ one_due entries s place has is due =
 
 -- Some batches of a tick, behind which a query is still due, answer the first of the due queries of the list.
 module _ (base : Restored) (start : List Entry) (legal : Legal start) (same : summary start ≡ base) where
-  pub answered_front : (added : List Entry) (s t : Kept) (batches : List Batch) (place : ℕ) → Stands base added s → AreFree s.claims → AnswersEach s batches t → AreOwn s.counts.position batches → IsState t → first_due t ≡ Some place → AnswersFront (start ++ added) (committed_all batches)
+  pub answered_front : (added : List Entry) (s t : Kept) (batches : List Batch) (place : ℕ) → IsStateOf base added s → AreFree s.claims → AnswersEach s batches t → AreOwn s.counts.position batches → IsState t → first_due t ≡ Some place → AnswersFront (start ++ added) (committed_all batches)
   answered_front added s t [] place stands free each own is due =
       let now = (each.stands base added stands).values start legal same in
       let over = subst (λ (entries : List Entry). HasValues (start ++ entries) t) (append-nil added) now in

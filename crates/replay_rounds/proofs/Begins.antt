@@ -9,8 +9,8 @@ use Rattle.entry_model.proofs.Lasts.{last_of-append}
 use Rattle.session_model.specs.Configuring as model
 use Rattle.session_model.specs.Configuring.{configured_in}
 use Rattle.session_state.specs.Kept.{Counts, Kept}
-use Rattle.session_state.specs.Stands.{HasValues}
-use Rattle.daemon_rounds.specs.Adding.{Brings}
+use Rattle.session_state.specs.StateOf.{HasValues}
+use Rattle.daemon_rounds.specs.Adding.{AddsEntries}
 use Rattle.daemon_rounds.specs.Ticking.{ConfiguresAgain, asks_again, configured_last}
 use Rattle.daemon_rounds.proofs.Adding.{brings_then}
 use Rattle.replay_rounds.specs.Fixed.{Fixed}
@@ -24,7 +24,7 @@ use Rattle.replay_rounds.proofs.Nothing.{TakeNothing, nothing-append, nothing_be
 -- had its turn yet.
 pub record BeginsTick {S : Type 0} (left : S → List ℕ) (x : Fixed) (added : List Entry) (feeds : List Feeding) (objects : List S) (configured_at moment : ℕ) (old configured : Kept) : Type 0 where
   pub anew : List Entry
-  pub brings : Brings old (Ticked moment ∷ anew) configured
+  pub brings : AddsEntries old (Ticked moment ∷ anew) configured
   pub at : configured.counts.moment ≡ moment_of ((x.start ++ added) ++ (Ticked moment ∷ anew))
   pub last : last_of configured_in configured_at (Ticked moment ∷ anew) ≡ configured_last (asks_again x.given.config configured_at moment) configured_at moment
   pub fed : x.keeper_tells → AreFed x.source_tells left x.given.config.categories x.start ((x.start ++ added) ++ (Ticked moment ∷ anew)) x.given.sources feeds objects
@@ -32,11 +32,11 @@ pub record BeginsTick {S : Type 0} (left : S → List ℕ) (x : Fixed) (added : 
 
 module _ {S : Type 0} (left : S → List ℕ) (x : Fixed) (added kept : List Entry) (feeds : List Feeding) (objects : List S) (configured_at : ℕ) (old : Kept) (standing : Standing left x added kept feeds objects configured_at old) where
   -- the list with what a state gains has the state's values
-  pub values_behind : (es : List Entry) (s : Kept) → Brings old es s → x.keeper_tells → Legal x.start → HasValues ((x.start ++ added) ++ es) s
+  pub values_behind : (es : List Entry) (s : Kept) → AddsEntries old es s → x.keeper_tells → Legal x.start → HasValues ((x.start ++ added) ++ es) s
   values_behind es s more tells legal =
       subst (λ (list : List Entry). HasValues list s) (sym (append_assoc x.start added es)) ((more.stands standing.base added standing.stands).values x.start legal (standing.same tells))
 
-  module _ (moment : ℕ) (ticked configured : Kept) (ticks : Brings old (Ticked moment ∷ []) ticked) (again : ConfiguresAgain (asks_again x.given.config configured_at moment) x.given.config x.given.documents x.given.host moment ticked configured) where
+  module _ (moment : ℕ) (ticked configured : Kept) (ticks : AddsEntries old (Ticked moment ∷ []) ticked) (again : ConfiguresAgain (asks_again x.given.config configured_at moment) x.given.config x.given.documents x.given.host moment ticked configured) where
     abbrev asks : Bool
     asks = asks_again x.given.config configured_at moment
 
@@ -47,7 +47,7 @@ module _ {S : Type 0} (left : S → List ℕ) (x : Fixed) (added kept : List Ent
     abbrev begun : List Entry
     begun = Ticked moment ∷ anew
 
-    begins : Brings old begun configured
+    begins : AddsEntries old begun configured
     begins =
         brings_then old ticked configured (Ticked moment ∷ []) anew ticks (again_brings asks x.given.config x.given.documents x.given.host moment ticked configured again)
 

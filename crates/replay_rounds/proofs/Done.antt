@@ -7,7 +7,7 @@ use Rattle.entry_model.specs.Laws.{Coverage}
 use Rattle.std.specs.Prelude.{All}
 use Rattle.session_model.specs.Taking.{IsReadWhole}
 use Rattle.session_state.specs.Kept.{Counts, IsState, Kept}
-use Rattle.session_state.specs.Stands.{HasValues}
+use Rattle.session_state.specs.StateOf.{HasValues}
 use Rattle.session_state.proofs.Dues.{none_due, owed_is}
 use Rattle.replay_rounds.specs.Fixed.{Fixed}
 use Rattle.replay_rounds.specs.Refusals.{numbers_of}

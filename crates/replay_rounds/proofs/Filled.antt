@@ -11,7 +11,7 @@ use Rattle.entry_model.specs.declared.entry.Entry.TheVariants.{Expired, Ticked}
 use Rattle.entry_model.specs.declared.restored.Taken.{Taken}
 use Rattle.session_state.specs.Kept.{Counts, Kept}
 use Rattle.session_state.specs.Ticks.{owed_at}
-use Rattle.daemon_rounds.specs.Adding.{Brings, counts_after}
+use Rattle.daemon_rounds.specs.Adding.{AddsEntries, counts_after}
 use Rattle.daemon_rounds.specs.Answering.{committed_all}
 use Rattle.daemon_rounds.specs.Keeping.{GoesOn, Settles}
 use Rattle.daemon_rounds.specs.Rounding.{AreGoing, round_entries}
@@ -36,7 +36,7 @@ module _ {S : Type 0} (tells : Type 0) (left : S → List ℕ) (faults : S → �
   abbrev taken : List Entry
   taken = round_entries fills.configured.counts.moment fills.rounds.turns
 
-  filled : Brings old ((Ticked moment ∷ []) ++ again ++ taken) new
+  filled : AddsEntries old ((Ticked moment ∷ []) ++ again ++ taken) new
   filled =
       brings_then old fills.ticked new (Ticked moment ∷ []) (again ++ taken) fills.ticks (brings_then fills.ticked fills.configured new again taken (again_brings (asks_again config configured_at moment) config documents setup.host moment fills.ticked fills.configured fills.again) fills.rounds.brings)
 

@@ -18,7 +18,7 @@ use Rattle.daemon_rounds.specs.Opening.{opening_entries}
 use Rattle.daemon_rounds.specs.Rounding.{AreGoing}
 use Rattle.daemon_rounds.specs.Session.{IsOpen}
 use Rattle.daemon_rounds.specs.Starting.{source_names}
-use Rattle.daemon_rounds.specs.Telling.{AreTold}
+use Rattle.daemon_rounds.specs.Telling.{AreLinesOf}
 use Rattle.daemon_rounds.specs.Ticking.{asks_again, configured_last}
 use Rattle.daemon_rounds.specs.declared.setup.Setup.{Setup}
 use Rattle.daemon_rounds.proofs.Laters.{AreLater, later_then, round_later, start_later}
@@ -71,9 +71,9 @@ module _ {S C : Type 0} (keeper_tells sink_tells tells : Type 0) (left : S → L
     own_tail : (last : ℕ) (settled : Kept) (t : TakesTick left x opening kept nexts rests last opened_at old settled) → settled.tail ≡ opening ++ t.own
     own_tail last settled t = t.tail ∙ ap (λ (es : List Entry). es ++ t.own) o.tail
 
-    first_told : (last : ℕ) (settled : Kept) (t : TakesTick left x opening kept nexts rests last opened_at old settled) (lines : List ℕ) → AreTold setup.host.identifier old.schedule.form settled.tail lines → AreTold setup.host.identifier form.Event (opening ++ t.own) lines
+    first_told : (last : ℕ) (settled : Kept) (t : TakesTick left x opening kept nexts rests last opened_at old settled) (lines : List ℕ) → AreLinesOf setup.host.identifier old.schedule.form settled.tail lines → AreLinesOf setup.host.identifier form.Event (opening ++ t.own) lines
     first_told last settled t lines told =
-        from_opened setup.host.identifier old.schedule.form o.number opening t.own o.rest lines refl (subst (λ (es : List Entry). AreTold setup.host.identifier old.schedule.form es lines) (own_tail last settled t) told)
+        from_opened setup.host.identifier old.schedule.form o.number opening t.own o.rest lines refl (subst (λ (es : List Entry). AreLinesOf setup.host.identifier old.schedule.form es lines) (own_tail last settled t) told)
 
     pub looped_first : (last : ℕ) (new : Kept) → IsTick keeper_tells sink_tells tells left faults setup config documents opened_at last opened_at kept next before written feeds nexts objects rests old new → AreLater faults sources objects → IsLooping now 1 next written nexts rests last new
     unfolding first_ran first_added

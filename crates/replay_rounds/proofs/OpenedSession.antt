@@ -23,7 +23,7 @@ use Rattle.session_model.specs.Sessions as session
 use Rattle.session_model.specs.Sessions.{is_tables}
 use Rattle.session_model.specs.Taking.{TakesSteps}
 use Rattle.session_state.specs.Kept.{Counts, Kept}
-use Rattle.session_state.specs.Stands.{Stands}
+use Rattle.session_state.specs.StateOf.{IsStateOf}
 use Rattle.daemon_rounds.specs.Adding.{AreFree}
 use Rattle.daemon_rounds.specs.Moments.{IsRead}
 use Rattle.daemon_rounds.specs.Opening.{Opens}
@@ -103,9 +103,9 @@ module _ {S : Type 0} (left : S → List ℕ) (faults : S → ℕ) (x : Fixed) (
     moment_was = ap (λ (r : Restored). r.moment) (same tells)
 
     module _ (legal : Legal x.start) where
-      filled : Stands restored (opened ∷ tables) opens.filled
+      filled : IsStateOf restored (opened ∷ tables) opens.filled
       filled =
-          subst (λ (at : ℕ). Stands restored (opened ∷ round_entries at opens.tables.turns) opens.filled) (ap (λ (c : Counts). c.moment) opens.begins.counts) (opens.tables.brings.stands restored (opened ∷ []) opens.begins.stands)
+          subst (λ (at : ℕ). IsStateOf restored (opened ∷ round_entries at opens.tables.turns) opens.filled) (ap (λ (c : Counts). c.moment) opens.begins.counts) (opens.tables.brings.stands restored (opened ∷ []) opens.begins.stands)
 
       configures : configuring.Configures x.given (x.start ++ (opened ∷ tables)) moment configured
       configures =

@@ -9,7 +9,7 @@ use Rattle.osq_value.specs.declared.reading.Reading.TheVariants.{Events, Table}
 use Rattle.osq_value.specs.declared.value.Event.{Event}
 use Rattle.publisher_core.specs.declared.record.Gain.{Gain}
 use Rattle.publisher_core.specs.declared.record.Gain.TheVariants as gain
-use Rattle.publisher_core.specs.declared.record.Piece.{Piece}
+use Rattle.publisher_core.specs.declared.record.ReadRecord.{ReadRecord}
 use Rattle.osq_value.specs.declared.source.SourceKind.{SourceKind}
 use Rattle.osq_value.specs.declared.source.SourceKind.TheVariants as kind
 use Rattle.publisher_core.specs.Readings.{reading_of, readings_of}
@@ -25,8 +25,8 @@ use Rattle.session_model.specs.Given.{Given, Source}
 use Rattle.session_model.specs.Taking.{TakesStep}
 use Rattle.session_state.specs.Kept.{Counts, Kept}
 use Rattle.session_state.specs.Readings.{entry_of, event_count}
-use Rattle.session_state.specs.Stands.{HasValues}
-use Rattle.daemon_rounds.specs.Adding.{Brings}
+use Rattle.session_state.specs.StateOf.{HasValues}
+use Rattle.daemon_rounds.specs.Adding.{AddsEntries}
 use Rattle.daemon_rounds.specs.Appending.{entries_of}
 use Rattle.daemon_rounds.specs.Rounding.{Overflows, names_of, round_entries}
 use Rattle.daemon_rounds.specs.Turns.{IsTurn, Plays, Turn, takes_part, turn_entries}
@@ -120,10 +120,10 @@ module _ {S : Type 0} (tells : Type 0) (left : S → List ℕ) (faults : S → �
   abbrev pub overflow_entries : List Entry
   overflow_entries = round_entries old.counts.moment o.turns ++ entries_of o.last.feed.name old.counts.moment o.exceeds.done
 
-  pub overflow_brings : Brings old overflow_entries new
+  pub overflow_brings : AddsEntries old overflow_entries new
   overflow_brings =
       brings_then old o.between new (round_entries old.counts.moment o.turns) (entries_of o.last.feed.name old.counts.moment o.exceeds.done) o.brings
-      (subst (λ (moment : ℕ). Brings o.between (entries_of o.last.feed.name moment o.exceeds.done) new) (ap (λ (c : Counts). c.moment) o.brings.counts ∙ round_moment old.counts old.counts.moment o.turns) o.exceeds.brings)
+      (subst (λ (moment : ℕ). AddsEntries o.between (entries_of o.last.feed.name moment o.exceeds.done) new) (ap (λ (c : Counts). c.moment) o.brings.counts ∙ round_moment old.counts old.counts.moment o.turns) o.exceeds.brings)
 
   -- by the list these are steps up to one that spends the numbers
   pub overflow_spends : (start now : List Entry) → tells → old.counts.moment ≡ moment_of now → IsDistinct bytes_eq (names_of feeds) → AreFed tells left given.config.categories start now given.sources feeds objects → HasValues (now ++ overflow_entries) new → StepsSpend given now (filter (λ (source : Source). takes_part which source.kind) given.sources) overflow_entries
@@ -140,7 +140,7 @@ module _ {S : Type 0} (tells : Type 0) (left : S → List ℕ) (faults : S → �
       objects_are = o.front.sources_are ∙ push_map (λ (turn : Turn S). turn.source) o.turns o.last o.front.untouched
 
 -- a line of a source of tables gives no event
-no_event : (name : List ℕ) (moment : ℕ) (line : List ℕ) (piece : Piece) → TableGives line piece.gain → events_in (entry_of name moment (reading_of piece)) ≡ []
+no_event : (name : List ℕ) (moment : ℕ) (line : List ℕ) (piece : ReadRecord) → TableGives line piece.gain → events_in (entry_of name moment (reading_of piece)) ≡ []
 no_event name moment line piece gives = by_gain piece.gain gives
   where
     by_gain : (given : Gain) → TableGives line given → events_in (entry_of name moment (reading_of (record piece { gain = given }))) ≡ []
@@ -150,7 +150,7 @@ no_event name moment line piece gives = by_gain piece.gain gives
         ap (λ (found : Option Event). events_in (entry_of name moment (Events piece.end (option_to_list found) skipped))) none
     by_gain (gain.Table table rows) gives = refl
 
-no_events : (name : List ℕ) (moment start : ℕ) (lines : List (List ℕ)) (pieces : List Piece) → LinesGive TableGives start lines pieces → All (λ (entry : Entry). events_in entry ≡ []) (map (entry_of name moment) (map reading_of pieces))
+no_events : (name : List ℕ) (moment start : ℕ) (lines : List (List ℕ)) (pieces : List ReadRecord) → LinesGive TableGives start lines pieces → All (λ (entry : Entry). events_in entry ≡ []) (map (entry_of name moment) (map reading_of pieces))
 no_events name moment start [] [] gives = All-nil (λ (entry : Entry). events_in entry ≡ [])
 no_events name moment start [] (piece ∷ pieces) gives = absurd gives
 no_events name moment start (line ∷ lines) [] gives = absurd gives

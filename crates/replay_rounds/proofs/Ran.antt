@@ -15,8 +15,8 @@ use Rattle.entry_model.specs.Values.{moment_of, no_schedule}
 use Rattle.session_model.specs.Sessions.{IsSession, Opens}
 use Rattle.session_model.specs.Ticking.{Ticks}
 use Rattle.session_state.specs.Kept.{Counts, Kept}
-use Rattle.session_state.specs.Stands.{HasValues}
-use Rattle.daemon_rounds.specs.Telling.{AreTold}
+use Rattle.session_state.specs.StateOf.{HasValues}
+use Rattle.daemon_rounds.specs.Telling.{AreLinesOf}
 use Rattle.replay_rounds.specs.Fixed.{Fixed}
 use Rattle.replay_rounds.specs.Running.{Grows, IsKept, IsWritten, ReadsAll}
 use Rattle.replay_rounds.specs.Sources.{AreFullOrOver}
@@ -33,7 +33,7 @@ reads_more reads before between after (first ∷ readings) reading (next, one, r
 
 -- of the lines of all entries, which were written one after another
 abbrev pub IsToldAll : Fixed → List Entry → List ℕ → Type 0
-IsToldAll x entries written = (lines : List ℕ) × AreTold x.given.host.identifier form.Event entries lines × (written ≡ x.written ++ lines)
+IsToldAll x entries written = (lines : List ℕ) × AreLinesOf x.given.host.identifier form.Event entries lines × (written ≡ x.written ++ lines)
 
 -- in the last tick each source was at its end or gave a full step
 pub record IsFullTick (x : Fixed) (entries : List Entry) (feeds : List Feeding) : Type 0 where
@@ -125,9 +125,9 @@ module _ {S C : Type 0} (left : S → List ℕ) (x : Fixed) (reads : C → ℕ �
     first_ran written told = record { added = first_added; told = told }
 
 -- lines of the entries of a session that opens are the same, whatever form ran before it
-pub from_opened : (host : List ℕ) (before : Form) (number : ℕ) (added own rest : List Entry) (text : List ℕ) → added ≡ Opened number ∷ rest → AreTold host before (added ++ own) text → AreTold host form.Event (added ++ own) text
+pub from_opened : (host : List ℕ) (before : Form) (number : ℕ) (added own rest : List Entry) (text : List ℕ) → added ≡ Opened number ∷ rest → AreLinesOf host before (added ++ own) text → AreLinesOf host form.Event (added ++ own) text
 from_opened host before number added own rest text begins are =
-    subst (λ (es : List Entry). AreTold host form.Event (es ++ own) text) (sym begins) (subst (λ (es : List Entry). AreTold host before (es ++ own) text) begins are)
+    subst (λ (es : List Entry). AreLinesOf host form.Event (es ++ own) text) (sym begins) (subst (λ (es : List Entry). AreLinesOf host before (es ++ own) text) begins are)
 
 -- a further tick at the clock's next reading
 module _ {S C : Type 0} (left : S → List ℕ) (x : Fixed) (reads : C → ℕ → C → Type 0) (clock between now : C) (kept next : List Entry) (feeds nexts : List Feeding) (objects rests : List S) (configured_at last moment reading : ℕ) (old settled new : Kept) (r : IsAdded left x reads clock between kept feeds objects configured_at old) (t : TakesTick left x r.entries kept nexts rests last moment old settled) where
@@ -135,16 +135,16 @@ module _ {S C : Type 0} (left : S → List ℕ) (x : Fixed) (reads : C → ℕ �
   tail_own = t.tail ∙ ap (λ (es : List Entry). es ++ t.own) r.empty
 
   -- the lines of all entries go on with those of the tick's
-  pub told_on : (before more : List ℕ) → IsToldAll x r.entries before → AreTold x.given.host.identifier old.schedule.form settled.tail more → (lines : List ℕ) × (before ≡ x.written ++ lines) × AreTold x.given.host.identifier form.Event (r.entries ++ t.own) (lines ++ more)
+  pub told_on : (before more : List ℕ) → IsToldAll x r.entries before → AreLinesOf x.given.host.identifier old.schedule.form settled.tail more → (lines : List ℕ) × (before ≡ x.written ++ lines) × AreLinesOf x.given.host.identifier form.Event (r.entries ++ t.own) (lines ++ more)
   told_on before more (lines, are, is) ares =
       (lines, is, told_more x.given.host.identifier form.Event r.entries t.own lines more are own)
     where
       form_now : form_behind form.Event r.entries ≡ old.schedule.form
       form_now = form_is no_schedule r.entries ∙ ap (λ (d : Schedule). d.form) (r.standing.schedule no_schedule)
 
-      own : AreTold x.given.host.identifier (form_behind form.Event r.entries) t.own more
+      own : AreLinesOf x.given.host.identifier (form_behind form.Event r.entries) t.own more
       own =
-          subst (λ (f : Form). AreTold x.given.host.identifier f t.own more) (sym form_now) (subst (λ (es : List Entry). AreTold x.given.host.identifier old.schedule.form es more) tail_own ares)
+          subst (λ (f : Form). AreLinesOf x.given.host.identifier f t.own more) (sym form_now) (subst (λ (es : List Entry). AreLinesOf x.given.host.identifier old.schedule.form es more) tail_own ares)
 
   module _ (taken : new ≡ record settled { tail = [] }) (grown : x.keeper_tells → next ≡ kept ++ settled.tail) (read : reads between reading now) (at : moment ≡ max reading old.counts.moment) where
     pub standing_now : Standing left x (r.entries ++ t.own) next nexts rests last new
@@ -165,7 +165,7 @@ module _ {S C : Type 0} (left : S → List ℕ) (x : Fixed) (reads : C → ℕ �
       full = full_behind left x reads clock now kept next nexts rests last moment old settled new r.entries t taken grown;
     }
 
-    unfoldable pub ran_on : (before written : List ℕ) → (x.sink_tells → IsToldAll x r.entries before) → (x.sink_tells → (more : List ℕ) × AreTold x.given.host.identifier old.schedule.form settled.tail more × (written ≡ before ++ more)) → IsRunning left x reads clock now next written nexts rests last new
+    unfoldable pub ran_on : (before written : List ℕ) → (x.sink_tells → IsToldAll x r.entries before) → (x.sink_tells → (more : List ℕ) × AreLinesOf x.given.host.identifier old.schedule.form settled.tail more × (written ≡ before ++ more)) → IsRunning left x reads clock now next written nexts rests last new
     unfolding added_on
     ran_on before written told more = record {
       added = added_on;
@@ -223,7 +223,7 @@ all_written x kept entries written kept_are (lines, are, is) =
     record { entries = entries; kept_are = kept_are; lines = lines; told = are; count = length lines; written_is = is ∙ ap (λ (text : List ℕ). x.written ++ text) (sym (take-length lines)) }
 
 -- where behind them a front part of the lines of a tick was written
-pub partly_written : (x : Fixed) (kept entries : List Entry) (written lines more : List ℕ) (count : ℕ) → (x.keeper_tells → kept ≡ x.start ++ entries) → AreTold x.given.host.identifier form.Event entries (lines ++ more) → written ≡ (x.written ++ lines) ++ take count more → IsWritten x kept written
+pub partly_written : (x : Fixed) (kept entries : List Entry) (written lines more : List ℕ) (count : ℕ) → (x.keeper_tells → kept ≡ x.start ++ entries) → AreLinesOf x.given.host.identifier form.Event entries (lines ++ more) → written ≡ (x.written ++ lines) ++ take count more → IsWritten x kept written
 partly_written x kept entries written lines more count kept_are are is = record {
   entries = entries;
   kept_are = λ tells. ([], kept_are tells ∙ ap (λ (es : List Entry). x.start ++ es) (sym (append-nil entries)));

@@ -16,8 +16,8 @@ use Rattle.entry_model.proofs.Lasts.{last_of-append}
 use Rattle.entry_model.proofs.Summaries.{taken_is}
 use Rattle.session_model.specs.Given.{Source}
 use Rattle.session_state.specs.Kept.{Counts, Kept}
-use Rattle.session_state.specs.Stands.{HasValues}
-use Rattle.daemon_rounds.specs.Adding.{Brings}
+use Rattle.session_state.specs.StateOf.{HasValues}
+use Rattle.daemon_rounds.specs.Adding.{AddsEntries}
 use Rattle.daemon_rounds.specs.Answering.{SpendsBatches, committed_all}
 use Rattle.daemon_rounds.specs.Moments.{IsRead}
 use Rattle.daemon_rounds.specs.Rounding.{AreGoing, Overflows, Rounds, names_of, round_entries}
@@ -30,7 +30,7 @@ use Rattle.daemon_rounds.proofs.Started.{all_going}
 use Rattle.replay_rounds.specs.Fixed.{Fixed, fixed_of}
 use Rattle.replay_rounds.specs.Running.{ReadsAll}
 use Rattle.replay_rounds.specs.Sources.{AreFed}
-use Rattle.replay_rounds.specs.Spent.{AnswersFront, HasSpent, SpendsAt, StepsSpend, TickSpends}
+use Rattle.replay_rounds.specs.Spent.{AnswersFront, RanOutOfNumbers, SpendsAt, StepsSpend, TickSpends}
 use Rattle.replay_rounds.specs.Standing.{Standing}
 use Rattle.replay_rounds.specs.Ticked.{SpendsTick}
 use Rattle.replay_rounds.proofs.Answered.{answered_front}
@@ -72,7 +72,7 @@ module _ {S : Type 0} (left : S → List ℕ) (faults : S → ℕ) (x : Fixed) (
       rest : List Entry
       rest = overflow_entries x.source_tells left faults which.Every x.given feeds nexts objects rests configured new o
 
-      brings : Brings old (begun ++ rest) new
+      brings : AddsEntries old (begun ++ rest) new
       brings =
           brings_then old configured new begun rest b.brings (overflow_brings x.source_tells left faults which.Every x.given feeds nexts objects rests configured new o)
 
@@ -104,12 +104,12 @@ module _ {S : Type 0} (left : S → List ℕ) (faults : S → ℕ) (x : Fixed) (
       answered : List Entry
       answered = committed_all spent.batches
 
-      fills : Brings old (begun ++ taken) filled
+      fills : AddsEntries old (begun ++ taken) filled
       fills = brings_then old configured filled begun taken b.brings rounds.brings
 
-      brings : Brings old (begun ++ (taken ++ answered)) spent.between
+      brings : AddsEntries old (begun ++ (taken ++ answered)) spent.between
       brings =
-          subst (λ (es : List Entry). Brings old es spent.between) (append_assoc begun taken answered) (brings_then old filled spent.between (begun ++ taken) answered fills spent.brings)
+          subst (λ (es : List Entry). AddsEntries old es spent.between) (append_assoc begun taken answered) (brings_then old filled spent.between (begun ++ taken) answered fills spent.brings)
 
       has : x.keeper_tells → Legal x.start → HasValues ((x.start ++ added) ++ (begun ++ (taken ++ answered))) spent.between
       has =
@@ -128,7 +128,7 @@ module _ {S C : Type 0} (keeper_tells sink_tells tells : Type 0) (left : S → L
   x = fixed_of keeper_tells sink_tells tells left setup config documents sources start before
 
   -- An opening spends no number, since a source of tables gives no event.
-  pub spent_nowhere : (now : C) (reading : ℕ) (restored : Restored) (kept : List Entry) (rests : List S) → reads clock reading now → (keeper_tells → restored ≡ summary start) → (keeper_tells → kept ≡ start) → IsDistinct bytes_eq (source_names setup.sources) → IsOverfull tells left faults setup config restored sources rests → HasSpent x (λ readings. ReadsAll reads clock readings now) kept
+  pub spent_nowhere : (now : C) (reading : ℕ) (restored : Restored) (kept : List Entry) (rests : List S) → reads clock reading now → (keeper_tells → restored ≡ summary start) → (keeper_tells → kept ≡ start) → IsDistinct bytes_eq (source_names setup.sources) → IsOverfull tells left faults setup config restored sources rests → RanOutOfNumbers x (λ readings. ReadsAll reads clock readings now) kept
   spent_nowhere now reading restored kept rests read same kept_is distinct over = record {
     readings = [];
     reading = reading;
@@ -180,7 +180,7 @@ module _ {S C : Type 0} (keeper_tells sink_tells tells : Type 0) (left : S → L
 
   -- in the first tick
   pub spent_first : (now : C) (kept next : List Entry) (feeds nexts : List Feeding) (objects rests : List S) (opened_at : ℕ) (old new : Kept) → OpensSession left x reads clock now kept feeds objects opened_at old → IsDistinct bytes_eq (names_of feeds) → (keeper_tells → next ≡ start)
-      → SpendsTick tells left faults setup config documents opened_at opened_at feeds nexts objects rests old new → HasSpent x (λ readings. ReadsAll reads clock readings now) next
+      → SpendsTick tells left faults setup config documents opened_at opened_at feeds nexts objects rests old new → RanOutOfNumbers x (λ readings. ReadsAll reads clock readings now) next
   spent_first now kept next feeds nexts objects rests opened_at old new o distinct same spends = record {
     readings = [];
     reading = o.reading;
@@ -202,7 +202,7 @@ module _ {S C : Type 0} (keeper_tells sink_tells tells : Type 0) (left : S → L
 
   -- in a further tick
   pub spent_on : (between now : C) (kept next : List Entry) (feeds nexts : List Feeding) (objects rests : List S) (configured_at moment : ℕ) (old new : Kept) → IsAdded left x reads clock between kept feeds objects configured_at old → IsDistinct bytes_eq (names_of feeds) → IsRead reads between now old.counts.moment moment → (keeper_tells → next ≡ kept)
-      → SpendsTick tells left faults setup config documents configured_at moment feeds nexts objects rests old new → HasSpent x (λ readings. ReadsAll reads clock readings now) next
+      → SpendsTick tells left faults setup config documents configured_at moment feeds nexts objects rests old new → RanOutOfNumbers x (λ readings. ReadsAll reads clock readings now) next
   spent_on between now kept next feeds nexts objects rests configured_at moment old new r distinct read same spends = record {
     readings = r.reading ∷ r.readings;
     reading = read.reading;

@@ -5,7 +5,7 @@ use Rattle.std.proofs.lemmas.List.{append-nil}
 use Rattle.std.proofs.lemmas.List.Elements.{All-head, All-tail, filter_agree}
 use Rattle.osq_value.specs.declared.reading.Category.{Category}
 use Rattle.osq_value.specs.declared.reading.Reading.{Reading}
-use Rattle.publisher_core.specs.declared.record.Piece.{Piece}
+use Rattle.publisher_core.specs.declared.record.ReadRecord.{ReadRecord}
 use Rattle.osq_value.specs.declared.source.SourceKind.{SourceKind}
 use Rattle.osq_value.specs.declared.source.SourceKind.TheVariants as kind
 use Rattle.publisher_core.specs.Readings.{readings_of}
@@ -44,7 +44,7 @@ abbrev rests_of : {S : Type 0} → List (Turn S) → List S
 rests_of {S} turns = map (λ (turn : Turn S). turn.rest) turns
 
 -- what is taken of a source is so by whichever names its kind, its paths and its offset have
-takes_as : (bytes : List ℕ) (most : ℕ) (pieces : List Piece) (to : ℕ) {old new : SourceKind} {were paths : List Category} {before from : ℕ} → old ≡ new → were ≡ paths → before ≡ from → Takes old were before (drop before bytes) most pieces to → Takes new paths from (drop from bytes) most pieces to
+takes_as : (bytes : List ℕ) (most : ℕ) (pieces : List ReadRecord) (to : ℕ) {old new : SourceKind} {were paths : List Category} {before from : ℕ} → old ≡ new → were ≡ paths → before ≡ from → Takes old were before (drop before bytes) most pieces to → Takes new paths from (drop from bytes) most pieces to
 takes_as bytes most pieces to {old} {new} {were} {paths} {before} {from} kinds same places takes =
     subst (λ (from : ℕ). Takes new paths from (drop from bytes) most pieces to) places (subst (λ (paths : List Category). Takes new paths before (drop before bytes) most pieces to) same (subst (λ (kind : SourceKind). Takes kind were before (drop before bytes) most pieces to) kinds takes))
 

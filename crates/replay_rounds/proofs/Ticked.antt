@@ -16,7 +16,7 @@ use Rattle.session_model.specs.Configuring.{configured_in}
 use Rattle.session_model.specs.Taking.{TakesSteps}
 use Rattle.session_model.specs.Ticking.{Answers, Ticks, expiries_of}
 use Rattle.session_state.specs.Kept.{Kept}
-use Rattle.daemon_rounds.specs.Adding.{Brings}
+use Rattle.daemon_rounds.specs.Adding.{AddsEntries}
 use Rattle.daemon_rounds.specs.Answering.{committed_all}
 use Rattle.daemon_rounds.specs.Keeping.{Settles}
 use Rattle.daemon_rounds.specs.Rounding.{Rounds, names_of, round_entries}
@@ -52,15 +52,15 @@ module _ {S : Type 0} (left : S → List ℕ) (faults : S → ℕ) (x : Fixed) (
   abbrev own : List Entry
   own = begun ++ taken ++ answered ++ settles.expired
 
-  fills : Brings old (begun ++ taken) filled
+  fills : AddsEntries old (begun ++ taken) filled
   fills = brings_then old configured filled begun taken begins.brings rounds.brings
 
-  answers : Brings old (begun ++ taken ++ answered) settles.between
+  answers : AddsEntries old (begun ++ taken ++ answered) settles.between
   answers = brings_then old filled settles.between (begun ++ taken) answered fills settles.answers
 
-  brings : Brings old own settled
+  brings : AddsEntries old own settled
   brings =
-      subst (λ (es : List Entry). Brings old es settled) (sym (append_assoc (begun ++ taken) answered settles.expired)) (brings_then old filled settled (begun ++ taken) (answered ++ settles.expired) fills settles.brings)
+      subst (λ (es : List Entry). AddsEntries old es settled) (sym (append_assoc (begun ++ taken) answered settles.expired)) (brings_then old filled settled (begun ++ taken) (answered ++ settles.expired) fills settles.brings)
 
   own_is : own ≡ begun ++ (taken ++ (answered ++ settles.expired))
   own_is =

@@ -9,7 +9,7 @@ use Rattle.pack_rules.specs.declared.schedule.Form.TheVariants as form
 use Rattle.session_model.specs.Given.{Given, Source}
 use Rattle.session_model.specs.Sessions.{IsSession}
 use Rattle.session_model.specs.Taking.{IsReadWhole}
-use Rattle.daemon_rounds.specs.Telling.{AreTold}
+use Rattle.daemon_rounds.specs.Telling.{AreLinesOf}
 use Rattle.replay_rounds.specs.Fixed.{Fixed}
 use Rattle.replay_rounds.specs.Sources.{IsFull}
 use Rattle.replay_rounds.specs.declared.running.Ended.{Ended}
@@ -44,7 +44,7 @@ pub record IsWritten (x : Fixed) (kept : List Entry) (written : List ℕ) : Type
   pub entries : List Entry
   pub kept_are : x.keeper_tells → (more : List Entry) × (kept ≡ x.start ++ (entries ++ more))
   pub lines : List ℕ
-  pub told : AreTold x.given.host.identifier form.Event entries lines
+  pub told : AreLinesOf x.given.host.identifier form.Event entries lines
   pub count : ℕ
   pub written_is : written ≡ x.written ++ take count lines
 
@@ -65,7 +65,7 @@ pub record HasRun (x : Fixed) (has_read : List ℕ → Type 0) (ticks : ℕ) (ke
   pub read : has_read readings
   pub count : length readings ≡ ticks
   pub grows : Grows x kept readings entries
-  pub told : x.sink_tells → (lines : List ℕ) × AreTold x.given.host.identifier form.Event entries lines × (written ≡ x.written ++ lines)
+  pub told : x.sink_tells → (lines : List ℕ) × AreLinesOf x.given.host.identifier form.Event entries lines × (written ≡ x.written ++ lines)
   pub covered : x.keeper_tells → Legal x.start → Covered kept
   pub answered : x.keeper_tells → Legal x.start → due_queries kept ≡ []
   pub settled : x.keeper_tells → Legal x.start → (table : ℕ) → is_evented_table table ≡ true → owed_floor kept table ≡ None

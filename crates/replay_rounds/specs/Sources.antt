@@ -2,7 +2,7 @@
 use Rattle.std.specs.Prelude.{◌≡◌, ◌⊎◌, ℕ, ◌≤◌, Bool, true, false, List, [], ◌∷◌, length, drop}
 use Rattle.std.specs.List.{list_all}
 use Rattle.osq_value.specs.declared.reading.Category.{Category}
-use Rattle.publisher_core.specs.declared.record.Piece.{Piece}
+use Rattle.publisher_core.specs.declared.record.ReadRecord.{ReadRecord}
 use Rattle.publisher_core.specs.Standing.{is_at_end}
 use Rattle.publisher_core.specs.Stepping.{STEP_BYTES}
 use Rattle.source_feeds.specs.Feeding.{Fed, Feeding}
@@ -21,7 +21,7 @@ pub record IsFed {S : Type 0} (tells : Type 0) (left : S → List ℕ) (paths : 
   pub kind : feed.kind ≡ source.kind
   pub paths_are : feed.reader.paths ≡ paths
   pub place : feed.reader.taken ≡ taken_from now source.name
-  pub pieces : List Piece
+  pub pieces : List ReadRecord
   pub fed : Fed tells source.bytes (left object) feed (taken_from start source.name) pieces
   pub over : tells → is_at_end feed.reader ≡ true → IsBehindLastFeed (taken_from start source.name) source.bytes (taken_from now source.name)
 

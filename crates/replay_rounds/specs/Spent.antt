@@ -63,7 +63,7 @@ SpendsAt given kept (before ∷ readings) reading entries =
 
 -- The list has grown by the ticks at these readings of the clock, and at the next reading a number was spent: behind the list there would be
 -- these entries, up to the place at which no number is left.
-pub record HasSpent (x : Fixed) (has_read : List ℕ → Type 0) (kept : List Entry) : Type 0 where
+pub record RanOutOfNumbers (x : Fixed) (has_read : List ℕ → Type 0) (kept : List Entry) : Type 0 where
   pub readings : List ℕ
   pub reading : ℕ
   pub read : has_read (readings ++ reading ∷ [])

@@ -9,7 +9,7 @@ use Rattle.entry_model.specs.Values.{last_of, schedule_in}
 use Rattle.entry_model.specs.Views.{is_evented_table}
 use Rattle.session_model.specs.Configuring.{configured_in}
 use Rattle.session_state.specs.Kept.{Kept}
-use Rattle.session_state.specs.Stands.{Stands}
+use Rattle.session_state.specs.StateOf.{IsStateOf}
 use Rattle.session_state.specs.Ticks.{first_due, owed_at}
 use Rattle.daemon_rounds.specs.Adding.{AreFree}
 use Rattle.daemon_rounds.specs.Rounding.{AreGoing}
@@ -22,7 +22,7 @@ use Rattle.replay_rounds.specs.Sources.{AreFed}
 pub record Standing {S : Type 0} (left : S → List ℕ) (x : Fixed) (added kept : List Entry) (feeds : List Feeding) (objects : List S) (configured_at : ℕ) (s : Kept) : Type 0 where
   pub base : Restored
   pub same : x.keeper_tells → summary x.start ≡ base
-  pub stands : Stands base added s
+  pub stands : IsStateOf base added s
   pub sealed : List Entry
   pub parts : added ≡ sealed ++ s.tail
   pub list : x.keeper_tells → kept ≡ x.start ++ sealed

@@ -8,7 +8,7 @@ use Rattle.session_model.specs.Ticking.{Ticks}
 use Rattle.session_state.specs.Kept.{Kept}
 use Rattle.daemon_rounds.specs.Answering.{SpendsBatches}
 use Rattle.daemon_rounds.specs.Keeping.{Settles}
-use Rattle.daemon_rounds.specs.Telling.{AreTold}
+use Rattle.daemon_rounds.specs.Telling.{AreLinesOf}
 use Rattle.daemon_rounds.specs.Ticking.{Fills, FillsTooMuch, asks_again, configured_last}
 use Rattle.daemon_rounds.specs.declared.setup.Setup.{Setup}
 use Rattle.replay_rounds.specs.Fixed.{Fixed}
@@ -28,7 +28,7 @@ pub record IsTick {S : Type 0} (keeper_tells sink_tells tells : Type 0) (left : 
   pub taken : new ≡ record settled { tail = [] }
   pub last_is : last ≡ configured_last (asks_again config configured_at moment) configured_at moment
   pub kept : keeper_tells → kept_after ≡ kept_before ++ settled.tail
-  pub told : sink_tells → (lines : List ℕ) × AreTold setup.host.identifier old.schedule.form settled.tail lines × (written_after ≡ written_before ++ lines)
+  pub told : sink_tells → (lines : List ℕ) × AreLinesOf setup.host.identifier old.schedule.form settled.tail lines × (written_after ≡ written_before ++ lines)
 
 -- a tick that isn't done left the kept list as it was, or it kept all of its entries
 abbrev pub IsWholeTick : {S : Type 0} (tells : Type 0) (left : S → List ℕ) (faults : S → ℕ) (setup : Setup) (config : Config) (documents : List (List ℕ)) (configured_at moment : ℕ) (kept_before kept_after : List Entry) (feeds nexts : List Feeding) (objects rests : List S) (old : Kept) → Type 0
@@ -43,7 +43,7 @@ pub record IsPartlyTold {S : Type 0} (keeper_tells tells : Type 0) (left : S →
   pub kept : keeper_tells → kept_after ≡ kept_before ++ settled.tail
   pub lines : List ℕ
   pub count : ℕ
-  pub told : AreTold setup.host.identifier old.schedule.form settled.tail lines
+  pub told : AreLinesOf setup.host.identifier old.schedule.form settled.tail lines
   pub written : written_after ≡ written_before ++ take count lines
 
 -- no number was left: for a batch of a tick that was filled, or for the events that a source gave

@@ -18,7 +18,7 @@ ghost use Rattle.daemon_rounds.specs.Ticking.{asks_again};
 ghost use Rattle.replay_rounds.specs.Refusals.{numbers_of};
 ghost use Rattle.replay_rounds.specs.Running.{HasRun, IsKept, IsWritten, ReadsAll};
 ghost use Rattle.replay_rounds.specs.Sources.{all_over};
-ghost use Rattle.replay_rounds.specs.Spent.{HasSpent};
+ghost use Rattle.replay_rounds.specs.Spent.{RanOutOfNumbers};
 ghost use Rattle.replay_rounds.specs.declared.refused.Refused.{Refused};
 ghost use Rattle.replay_rounds.specs.declared.refused.RunError.{RunError};
 
@@ -143,7 +143,7 @@ pub fn run_session<S: Source, K: Keeper, O: Sink, C: Clock>(
     ensures moment { (refused : Refused) (moment : ℕ) → result ≡ Err refused → refused.error ≡ RunError.MomentTooLarge moment → (LAST_MOMENT < moment) × ((readings : List ℕ) × ReadsAll C.reads clock.old (readings ++ moment ∷ []) clock.new) }
     ensures fault { (refused : Refused) (place : ℕ) → result ≡ Err refused → refused.error ≡ RunError.SourceFault place → FailsAt S.faults place sources.old sources.new }
     ensures shrank { (refused : Refused) (place kept found : ℕ) → result ≡ Err refused → refused.error ≡ RunError.SourceShrank place kept found → (taken : List Taken) × (K.tells → taken ≡ (summary (K.kept keeper.old)).taken) × HasShrunk S.tells S.left taken setup.now.sources place kept found sources.old }
-    ensures spent { (refused : Refused) → result ≡ Err refused → refused.error ≡ RunError.NumbersSpent → HasSpent (fixed_of K.tells O.tells S.tells S.left setup.now configured.now.config configured.now.documents sources.old (K.kept keeper.old) (O.written results.old)) (λ readings. ReadsAll C.reads clock.old readings clock.new) (K.kept keeper.new) }
+    ensures spent { (refused : Refused) → result ≡ Err refused → refused.error ≡ RunError.NumbersSpent → RanOutOfNumbers (fixed_of K.tells O.tells S.tells S.left setup.now configured.now.config configured.now.documents sources.old (K.kept keeper.old) (O.written results.old)) (λ readings. ReadsAll C.reads clock.old readings clock.new) (K.kept keeper.new) }
     ensures sink_cause { (refused : Refused) → result ≡ Err refused → refused.error ≡ RunError.SinkFault → Rose (O.faults results.old) (O.faults results.new) ⊎ Rose (O.faults status.old) (O.faults status.new) }
     ensures told { O.tells → IfOk result (λ ended. HasTold configured.now.config setup.now.host configured.now.notes (O.written status.old) (O.written status.new)) }
     ensures notes { O.tells → IsGrown (O.written status.old) (O.written status.new) }

@@ -2,7 +2,7 @@
 use Rattle.std.specs.Prelude.{◌≡◌, ℕ, List, [], ◌∷◌, ◌++◌, drop, map}
 use Rattle.entry_model.specs.declared.entry.Entry.{Entry}
 use Rattle.entry_model.specs.Values.{moment_of, taken_from}
-use Rattle.publisher_core.specs.declared.record.Piece.{Piece}
+use Rattle.publisher_core.specs.declared.record.ReadRecord.{ReadRecord}
 use Rattle.publisher_core.specs.Readings.{readings_of}
 use Rattle.source_feeds.specs.Taking.{IsBehindLastFeed, Takes}
 use Rattle.session_state.specs.Readings.{entry_of}
@@ -10,7 +10,7 @@ use Rattle.session_model.specs.Given.{Given, Source}
 
 -- one step: the records behind the offset up to which the list has the source, and an entry for each of their readings
 pub record TakesStep (given : Given) (kept : List Entry) (source : Source) (entries : List Entry) : Type 0 where
-  pub pieces : List Piece
+  pub pieces : List ReadRecord
   pub to : ℕ
   pub takes : Takes source.kind given.config.categories (taken_from kept source.name) (drop (taken_from kept source.name) source.bytes) given.records pieces to
   pub are : entries ≡ map (entry_of source.name (moment_of kept)) (readings_of source.kind pieces)

@@ -17,7 +17,7 @@ use Rattle.event_store.proofs.Bridge.{keeps_up}
 use Rattle.session_state.specs.Kept.{Counts, Kept, counts_of, counts_next}
 use Rattle.session_state.specs.Marks.{mark_in, marks_from}
 use Rattle.session_state.proofs.Known.{is_told, known_next}
-use Rattle.session_state.specs.Stands.{HasValues, Stands, Moves, Adds, Begins}
+use Rattle.session_state.specs.StateOf.{HasValues, IsStateOf, Moves, Adds, Begins}
 
 counts_step : (r : Restored) (e : Entry) → counts_of (restored_next r e) ≡ counts_next (counts_of r) e
 counts_step r (Opened session) = refl
@@ -55,7 +55,7 @@ has_next K s new e image h may m = record {
 }
 
 -- the new state stands for one entry more than each list after which the entry may come
-pub stands_next : (s new : Kept) (e : Entry) → IsImage s.image → Moves s e new → (base : Restored) (added : List Entry) → Stands base added s → ((before : List Entry) → Legal before → summary before ≡ base → LegalNext (before ++ added) e) → Stands base (added ++ e ∷ []) new
+pub stands_next : (s new : Kept) (e : Entry) → IsImage s.image → Moves s e new → (base : Restored) (added : List Entry) → IsStateOf base added s → ((before : List Entry) → Legal before → summary before ≡ base → LegalNext (before ++ added) e) → IsStateOf base (added ++ e ∷ []) new
 stands_next s new e image m base added stands may = record {
   values = λ before legal same.
       let h = stands.values before legal same in

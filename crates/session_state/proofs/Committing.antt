@@ -30,7 +30,7 @@ use Rattle.session_state.specs.declared.state.CommitRefusal.TheVariants.{Superse
 use Rattle.session_state.specs.Kept.{Counts, Kept, IsRun, IsState}
 use Rattle.session_state.specs.Rooms.{all_due, is_new, all_new}
 use Rattle.session_state.specs.Marks.{mark_in, marks_from}
-use Rattle.session_state.specs.Stands.{HasValues, Stands, Moves}
+use Rattle.session_state.specs.StateOf.{HasValues, IsStateOf, Moves}
 use Rattle.session_state.specs.Cut.{CutValue, batch_of}
 use Rattle.session_state.specs.Cutting.{CutStands}
 use Rattle.session_state.specs.CutOf.{mark_from, IsCurrent, IsCutOf}
@@ -113,7 +113,7 @@ module _ (s : Kept) (cut : CutValue) (is : IsState s) (of : IsCutOf s cut) (free
   current = of.current free.unmarked
 
   -- the batch may follow each list that has the cut
-  may_follow : (rows : List (List Value)) → rows ≡ meaning cut.key.text (rows_in cut.view) → (base : Restored) (before since : List Entry) → CutStands base before cut → Stands base (before ++ since) s → (K : List Entry) → Legal K → summary K ≡ base → LegalNext (K ++ (before ++ since)) (committed s cut rows)
+  may_follow : (rows : List (List Value)) → rows ≡ meaning cut.key.text (rows_in cut.view) → (base : Restored) (before since : List Entry) → CutStands base before cut → IsStateOf base (before ++ since) s → (K : List Entry) → Legal K → summary K ≡ base → LegalNext (K ++ (before ++ since)) (committed s cut rows)
   may_follow rows answer base before since cuts stands K legal same =
       let c = cuts K legal same in
       let M = K ++ before in

@@ -21,7 +21,7 @@ use Rattle.entry_model.proofs.Lists.{Contains-filter, and_true}
 use Rattle.query_cursors.specs.Due as cursors
 use Rattle.session_state.specs.Kept.{Counts, Kept, IsRun, IsState}
 use Rattle.session_state.specs.CutOf.{IsCutOf}
-use Rattle.session_state.specs.Stands.{HasValues, Stands}
+use Rattle.session_state.specs.StateOf.{HasValues, IsStateOf}
 use Rattle.session_state.specs.Ticks.{first_due}
 use Rattle.session_state.specs.Cut.{CutValue}
 use Rattle.session_state.specs.Cutting.{next_place, lower_at, cut_of, HasCut, CutStands}
@@ -104,7 +104,7 @@ has_cut K s is h place scheduled stands next = record {
 }
 
 -- the cut of a state stands for what the state does
-pub cut_stands : (s : Kept) → IsState s → (place : ℕ) (scheduled : Scheduled) → slice_get s.schedule.queries place ≡ Some scheduled → next_place s ≡ Some place → (base : Restored) (added : List Entry) → Stands base added s → CutStands base added (cut_of s place scheduled)
+pub cut_stands : (s : Kept) → IsState s → (place : ℕ) (scheduled : Scheduled) → slice_get s.schedule.queries place ≡ Some scheduled → next_place s ≡ Some place → (base : Restored) (added : List Entry) → IsStateOf base added s → CutStands base added (cut_of s place scheduled)
 cut_stands s is place scheduled at next base added stands before legal same =
     has_cut (before ++ added) s is (stands.values before legal same) place scheduled at (is_next s is place scheduled at next)
 
@@ -179,7 +179,7 @@ module _ (s : Kept) (is : IsState s) (place : ℕ) (within : place < length s.sc
   is_cut = let k = given ∙ ap (option_map (cut_of s place)) at.stands in cc
 
   -- what is given stands for what the state does
-  pub given_stands : (base : Restored) (added : List Entry) → Stands base added s → CutStands base added cut
+  pub given_stands : (base : Restored) (added : List Entry) → IsStateOf base added s → CutStands base added cut
   given_stands base added stands =
       subst (CutStands base added) (sym is_cut) (cut_stands s is place at.scheduled at.stands next base added stands)
 

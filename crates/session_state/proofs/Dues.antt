@@ -19,7 +19,7 @@ use Rattle.entry_model.proofs.Summaries.{run_is}
 use Rattle.query_cursors.specs.Due as cursors
 use Rattle.event_store.specs.Owed.{owed_of}
 use Rattle.session_state.specs.Kept.{Counts, Kept, IsRun}
-use Rattle.session_state.specs.Stands.{HasValues}
+use Rattle.session_state.specs.StateOf.{HasValues}
 use Rattle.session_state.specs.Ticks.{first_due, first_owed, owed_at, refusal_of, held_back_by}
 use Rattle.session_state.specs.Laws as list
 use Rattle.session_state.specs.Laws.{KnowsDues, Dues}

@@ -12,12 +12,12 @@ use Rattle.event_store.specs.Owed.{owed_of}
 use Rattle.event_store.specs.Queues.{above}
 use Rattle.session_state.specs.Kept.{Counts, Kept, counts_next}
 use Rattle.session_state.specs.Marks.{mark_in}
-use Rattle.session_state.specs.Stands.{Stands, Adds}
+use Rattle.session_state.specs.StateOf.{IsStateOf, Adds}
 use Rattle.session_state.proofs.Known.{known_alike}
 use Rattle.session_state.specs.Ticks.{owed_at}
 use Rattle.session_state.specs.Expiries.{expiry_of, expiries, Stays, AddsAll, AddsSome}
 
-stays_stands : (s t : Kept) → Stays s t → (base : Restored) (added : List Entry) → Stands base added s → Stands base added t
+stays_stands : (s t : Kept) → Stays s t → (base : Restored) (added : List Entry) → IsStateOf base added s → IsStateOf base added t
 stays_stands s t same base added stands = record {
   values = λ before legal is.
       let h = stands.values before legal is in

@@ -17,7 +17,7 @@ use Rattle.query_cursors.specs.Due.{run_of, is_due, is_due_by, number_of}
 use Rattle.session_state.specs.Kept.{Counts, Kept}
 use Rattle.session_state.specs.Cut.{CutValue}
 use Rattle.session_state.specs.CutOf.{IsCurrent, IsCutOf}
-use Rattle.session_state.specs.Stands.{Moves}
+use Rattle.session_state.specs.StateOf.{Moves}
 use Rattle.session_state.proofs.Rooms.{noted_run, other_run}
 
 -- two states that agree on what is known of cuts

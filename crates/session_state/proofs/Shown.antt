@@ -17,7 +17,7 @@ use Rattle.event_store.specs.Laws.{with_computed}
 use Rattle.event_store.proofs.Showing as image
 use Rattle.query_cursors.specs.Due.{run_of}
 use Rattle.session_state.specs.Kept.{Counts, Kept}
-use Rattle.session_state.specs.Stands.{HasValues}
+use Rattle.session_state.specs.StateOf.{HasValues}
 use Rattle.session_state.specs.Computed.{time_shown, query_shown, live_shown, shown_by}
 use Rattle.session_state.specs.Laws.{Shows}
 

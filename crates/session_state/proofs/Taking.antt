@@ -13,7 +13,7 @@ use Rattle.entry_model.specs.Views.{is_recorded_table}
 use Rattle.entry_model.proofs.Summaries.{taken_is}
 use Rattle.event_store.specs.Contents.{AreWide}
 use Rattle.session_state.specs.Kept.{Counts, Kept}
-use Rattle.session_state.specs.Stands.{HasValues}
+use Rattle.session_state.specs.StateOf.{HasValues}
 
 -- the state's offset of a source is the list's
 offset_is : (K : List Entry) (s : Kept) → HasValues K s → (source : List ℕ) → offset_at s.counts.taken source ≡ taken_from K source

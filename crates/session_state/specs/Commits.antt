@@ -11,7 +11,7 @@ use Rattle.session_state.specs.Kept.{Kept}
 use Rattle.session_state.specs.Cut.{CutValue, batch_of}
 use Rattle.session_state.specs.CutOf.{mark_from, IsCutOf}
 use Rattle.session_state.specs.Cutting.{CutStands}
-use Rattle.session_state.specs.Stands.{Moves, Stands}
+use Rattle.session_state.specs.StateOf.{Moves, IsStateOf}
 
 -- a later batch of the query first, then an entry that outdates the cut, then the numbers
 abbrev pub refusal_by : Kept → CutValue → Option ℕ → Option CommitRefusal
@@ -31,5 +31,5 @@ committed s cut rows = Committed (batch_of cut (s.counts.batches + 1) rows)
 -- old one knew
 pub record Commits (old : Kept) (cut : CutValue) (rows : List (List Value)) (new : Kept) : Type 0 where
   pub moves : Moves old (committed old cut rows) new
-  pub stands : (base : Restored) (before since : List Entry) → CutStands base before cut → Stands base (before ++ since) old → Stands base ((before ++ since) ++ committed old cut rows ∷ []) new
+  pub stands : (base : Restored) (before since : List Entry) → CutStands base before cut → IsStateOf base (before ++ since) old → IsStateOf base ((before ++ since) ++ committed old cut rows ∷ []) new
   pub cuts : (other : CutValue) → IsCutOf old other → IsCutOf new other

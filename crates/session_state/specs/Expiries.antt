@@ -4,7 +4,7 @@ use Rattle.osq_value.specs.Catalogue.{evented_ids}
 use Rattle.entry_model.specs.declared.entry.Entry.{Entry}
 use Rattle.entry_model.specs.declared.entry.Entry.TheVariants.{Expired}
 use Rattle.session_state.specs.Kept.{Kept}
-use Rattle.session_state.specs.Stands.{Adds}
+use Rattle.session_state.specs.StateOf.{Adds}
 use Rattle.session_state.specs.Ticks.{owed_at}
 
 -- the expiry of a table, if events of it are to expire

@@ -6,7 +6,7 @@ use Rattle.entry_model.specs.Values.{schedule_of, has_ticked}
 use Rattle.entry_model.specs.Views.{is_evented_table, is_due, owed_floor, view_of}
 use Rattle.event_store.specs.Contents.{rows_in}
 use Rattle.session_state.specs.Kept.{Kept, IsState}
-use Rattle.session_state.specs.Stands.{HasValues}
+use Rattle.session_state.specs.StateOf.{HasValues}
 use Rattle.session_state.specs.Ticks as ticks
 use Rattle.session_state.specs.Computed.{shown_by}
 

@@ -6,7 +6,7 @@ pub mod CutOf
 pub mod Marks
 pub mod Readings
 pub mod Ticks
-pub mod Stands
+pub mod StateOf
 pub mod Expiries
 pub mod Computed
 pub mod Cutting

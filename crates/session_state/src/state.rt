@@ -10,7 +10,7 @@ ghost use Rattle.entry_model.specs.Legal.{IsEvent, width_of};
 ghost use Rattle.entry_model.specs.Next.{offset_at};
 ghost use Rattle.event_store.specs.Contents.{AreWide};
 ghost use Rattle.session_state.specs.Kept.{due_count, IsState};
-ghost use Rattle.session_state.specs.Stands.{Adds, Begins, Stands};
+ghost use Rattle.session_state.specs.StateOf.{Adds, Begins, IsStateOf};
 ghost use Rattle.entry_model.specs.Views.{is_evented_table, is_recorded_table};
 ghost use Rattle.session_state.specs.Ticks.{held_back_by, first_due, owed_at};
 ghost use Rattle.std.specs.List.{cons_option};
@@ -705,7 +705,7 @@ impl State {
         ensures none { (result ≡ Ok None) ↔ (first_due self.old ≡ None) }
         ensures claimed { OnOk result (self.new ≡ claimed_at self.old (next_place self.old)) }
         ensures own { IfOk result (λ given. IfSome given (IsCutOf self.new)) }
-        ensures stands { IfOk result (λ given. IfSome given (λ cut. (base : Restored) (added : List Entry) → Stands base added self.old → CutStands base added cut)) }
+        ensures stands { IfOk result (λ given. IfSome given (λ cut. (base : Restored) (added : List Entry) → IsStateOf base added self.old → CutStands base added cut)) }
         ensures cuts { (cut : CutValue) → IsCutOf self.old cut → IsCutOf self.new cut }
         ensures err { OnErr result (self.new ≡ self.old) }
     {

@@ -12,7 +12,7 @@ use Rattle.session_state.specs.Kept.{Counts, Kept, counts_of, counts_next}
 use Rattle.session_state.specs.Cut.{CutValue}
 use Rattle.session_state.specs.CutOf.{IsCutOf}
 use Rattle.session_state.specs.Expiries.{Stays, AddsAll}
-use Rattle.session_state.specs.Stands.{Stands, Moves, Adds}
+use Rattle.session_state.specs.StateOf.{IsStateOf, Moves, Adds}
 use Rattle.session_state.proofs.Known.{known_alike}
 use Rattle.shared_store.specs.Values.{counts_after, FollowsAll, ComesBy}
 
@@ -45,7 +45,7 @@ comes_stays start es was now same c = record {
 }
 
 -- a state with the values of another stands for what that one does
-pub stands_alike : (was now : Kept) → now.counts ≡ was.counts → now.image ≡ was.image → now.schedule ≡ was.schedule → now.ticked ≡ was.ticked → now.marks ≡ was.marks → (start : Restored) (added : List Entry) → Stands start added was → Stands start added now
+pub stands_alike : (was now : Kept) → now.counts ≡ was.counts → now.image ≡ was.image → now.schedule ≡ was.schedule → now.ticked ≡ was.ticked → now.marks ≡ was.marks → (start : Restored) (added : List Entry) → IsStateOf start added was → IsStateOf start added now
 stands_alike was now counts image schedule ticked marks start added stands = record {
   values = λ before legal is.
       let h = stands.values before legal is in
@@ -63,7 +63,7 @@ stands_alike was now counts image schedule ticked marks start added stands = rec
 -- behind the entry that opens the session and these, the state goes on by those
 pub record Goes (start : Restored) (added : List Entry) (was now : Kept) (es : List Entry) : Type 0 where
   pub tail : now.tail ≡ was.tail ++ es
-  pub stands : Stands start (Opened (start.sessions + 1) ∷ added) was → Stands start (Opened (start.sessions + 1) ∷ (added ++ es)) now
+  pub stands : IsStateOf start (Opened (start.sessions + 1) ∷ added) was → IsStateOf start (Opened (start.sessions + 1) ∷ (added ++ es)) now
   pub comes : ComesBy start added was → ComesBy start (added ++ es) now
   pub cuts : (cut : CutValue) → IsCutOf was cut → IsCutOf now cut
 
@@ -71,7 +71,7 @@ module _ (start : Restored) (added : List Entry) where
   pub goes_stays : (was now : Kept) → Stays was now → Goes start added was now []
   goes_stays was now same = record {
     tail = same.tail ∙ sym (append-nil was.tail);
-    stands = λ stands. subst (λ (es : List Entry). Stands start (Opened (start.sessions + 1) ∷ es) now) (sym (append-nil added)) (stands_alike was now same.counts same.image same.schedule same.ticked same.marks start (Opened (start.sessions + 1) ∷ added) stands);
+    stands = λ stands. subst (λ (es : List Entry). IsStateOf start (Opened (start.sessions + 1) ∷ es) now) (sym (append-nil added)) (stands_alike was now same.counts same.image same.schedule same.ticked same.marks start (Opened (start.sessions + 1) ∷ added) stands);
     comes = λ comes. subst (λ (es : List Entry). ComesBy start es now) (sym (append-nil added)) (comes_stays start added was now same comes);
     cuts = known_alike was now (record {
       position = (let p = ap (λ (c : Counts). c.position) same.counts in omega (arith, p));
@@ -99,7 +99,7 @@ module _ (start : Restored) (added : List Entry) where
 goes_more : (start : Restored) (added : List Entry) (was mid now : Kept) (e : Entry) (es : List Entry) → Goes start added was mid (e ∷ []) → Goes start (added ++ e ∷ []) mid now es → Goes start added was now (e ∷ es)
 goes_more start added was mid now e es g h = record {
   tail = h.tail ∙ ap (λ (t : List Entry). t ++ es) g.tail ∙ append_assoc was.tail (e ∷ []) es;
-  stands = λ stands. subst (λ (all : List Entry). Stands start (Opened (start.sessions + 1) ∷ all) now) (append_assoc added (e ∷ []) es) (h.stands (g.stands stands));
+  stands = λ stands. subst (λ (all : List Entry). IsStateOf start (Opened (start.sessions + 1) ∷ all) now) (append_assoc added (e ∷ []) es) (h.stands (g.stands stands));
   comes = λ comes. subst (λ (all : List Entry). ComesBy start all now) (append_assoc added (e ∷ []) es) (h.comes (g.comes comes));
   cuts = λ cut of. h.cuts cut (g.cuts cut of);
 }

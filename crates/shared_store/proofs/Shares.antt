@@ -14,12 +14,12 @@ use Rattle.session_state.specs.Cutting.{CutStands, cut_of, cut_at, next_cut, nex
 use Rattle.session_state.specs.Commits.{Commits, committed}
 use Rattle.session_state.specs.declared.state.CommitRefusal.{CommitRefusal}
 use Rattle.session_state.specs.Expiries.{AddsAll}
-use Rattle.session_state.specs.Stands.{Stands, Adds, Begins}
+use Rattle.session_state.specs.StateOf.{IsStateOf, Adds, Begins}
 use Rattle.session_state.proofs.Known.{known_alike}
 use Rattle.session_state.proofs.Cutting.{claims_alike}
 use Rattle.shared_store.specs.declared.noted.Noted.{Noted}
 use Rattle.shared_store.specs.declared.noted.Noted.TheVariants.{Added, Taken, Given}
-use Rattle.shared_store.specs.Notes.{entries_in, session_of, tail_of, IsGiven, grown, taken_by, given_by}
+use Rattle.shared_store.specs.Notes.{entries_in, session_of, tail_of, WasGiven, grown, taken_by, given_by}
 use Rattle.shared_store.specs.Values.{ComesBy}
 use Rattle.shared_store.specs.Shares.{KnowsCut, StandsFor, IsMadeFrom}
 use Rattle.shared_store.specs.Answers.{Notes}
@@ -34,7 +34,7 @@ module _ (start : Restored) (notes : List Noted) where
   goes_stands was now es g s =
       let entries : entries_in (notes ++ map Added es) ≡ entries_in notes ++ es = entries_in-append notes (map Added es) ∙ ap (λ (l : List Entry). entries_in notes ++ l) (entries_in-added es) in
       record {
-        stands = subst (λ (l : List Entry). Stands start (Opened (start.sessions + 1) ∷ l) now) (sym entries) (g.stands s.stands);
+        stands = subst (λ (l : List Entry). IsStateOf start (Opened (start.sessions + 1) ∷ l) now) (sym entries) (g.stands s.stands);
         comes = subst (λ (l : List Entry). ComesBy start l now) (sym entries) (g.comes s.comes);
         tail = g.tail ∙ ap (λ (t : List Entry). t ++ es) s.tail ∙ sym (untaken-append (Opened (start.sessions + 1) ∷ []) notes (map Added es) ∙ untaken-added (tail_of start notes) es);
         cuts = λ before after cut e. elim (cut_among before after notes (map Added es) cut e) [
@@ -74,7 +74,7 @@ mark_stands start notes was s =
     let entries : entries_in (notes ++ Taken ∷ []) ≡ entries_in notes = entries_in-append notes (Taken ∷ []) ∙ append-nil (entries_in notes) in
     let o = Opened (start.sessions + 1) in
     record {
-      stands = subst (λ (l : List Entry). Stands start (o ∷ l) (record was { tail = [] })) (sym entries) (stands_alike was (record was { tail = [] }) refl refl refl refl refl start (o ∷ entries_in notes) s.stands);
+      stands = subst (λ (l : List Entry). IsStateOf start (o ∷ l) (record was { tail = [] })) (sym entries) (stands_alike was (record was { tail = [] }) refl refl refl refl refl start (o ∷ entries_in notes) s.stands);
       comes = subst (λ (l : List Entry). ComesBy start l (record was { tail = [] })) (sym entries) (record { opened = s.comes.opened; holds = s.comes.holds; image = s.comes.image; counts = s.comes.counts; schedule = s.comes.schedule; ticked = s.comes.ticked });
       tail = sym (untaken-append (o ∷ []) notes (Taken ∷ []));
       cuts = λ before after cut e. elim (cut_among before after notes (Taken ∷ []) cut e) [
@@ -121,7 +121,7 @@ cut_noted start notes now cut s made own =
     let entries : entries_in (notes ++ Given cut ∷ []) ≡ entries_in notes = entries_in-append notes (Given cut ∷ []) ∙ append-nil (entries_in notes) in
     let o = Opened (start.sessions + 1) in
     record {
-      stands = subst (λ (l : List Entry). Stands start (o ∷ l) now) (sym entries) s.stands;
+      stands = subst (λ (l : List Entry). IsStateOf start (o ∷ l) now) (sym entries) s.stands;
       comes = subst (λ (l : List Entry). ComesBy start l now) (sym entries) s.comes;
       tail = s.tail ∙ sym (untaken-append (o ∷ []) notes (Given cut ∷ []));
       cuts = λ before after other e. elim (cut_among before after notes (Given cut ∷ []) other e) [
@@ -134,7 +134,7 @@ cut_noted start notes now cut s made own =
     }
 
 -- a cut that was given is one of the state
-pub knows_given : (start : Restored) (notes : List Noted) (was : Kept) (cut : CutValue) → IsGiven cut notes → StandsFor start notes was → IsCutOf was cut
+pub knows_given : (start : Restored) (notes : List Noted) (was : Kept) (cut : CutValue) → WasGiven cut notes → StandsFor start notes was → IsCutOf was cut
 knows_given start notes was cut given s = (s.cuts given.0 given.1 cut given.2).own
 
 -- what a turn leaves, by what the call answered
@@ -155,20 +155,20 @@ module _ (start : Restored) (notes : List Noted) (was now : Kept) where
   by_all (Err y) es added same s = grown_stands start notes was now [] (goes_same start (entries_in notes) was now same) s
 
   -- a commit of a cut that was given
-  goes_commits : (cut : CutValue) (rows : List (List Value)) → IsGiven cut notes → StandsFor start notes was → Commits was cut rows now → Goes start (entries_in notes) was now (committed was cut rows ∷ [])
+  goes_commits : (cut : CutValue) (rows : List (List Value)) → WasGiven cut notes → StandsFor start notes was → Commits was cut rows now → Goes start (entries_in notes) was now (committed was cut rows ∷ [])
   goes_commits cut rows given s c =
       let made = (s.cuts given.0 given.1 cut given.2).made in
       let all : entries_in notes ≡ entries_in given.0 ++ entries_in given.1 = ap entries_in given.2 ∙ entries_in-append given.0 (Given cut ∷ given.1) in
       let o = Opened (start.sessions + 1) in
       record {
         tail = c.moves.tail;
-        stands = λ stands. subst (λ (l : List Entry). Stands start (o ∷ (l ++ committed was cut rows ∷ [])) now) (sym all)
-            (c.stands start (o ∷ entries_in given.0) (entries_in given.1) made.stands (subst (λ (l : List Entry). Stands start (o ∷ l) was) all stands));
+        stands = λ stands. subst (λ (l : List Entry). IsStateOf start (o ∷ (l ++ committed was cut rows ∷ [])) now) (sym all)
+            (c.stands start (o ∷ entries_in given.0) (entries_in given.1) made.stands (subst (λ (l : List Entry). IsStateOf start (o ∷ l) was) all stands));
         comes = λ comes. comes_moves start (entries_in notes) was now (committed was cut rows) c.moves comes;
         cuts = c.cuts;
       }
 
-  pub by_commit : (result : Result ℕ CommitRefusal) (cut : CutValue) (rows : List (List Value)) → IsGiven cut notes → OnOk result (Commits was cut rows now) → OnErr result (now ≡ was) → StandsFor start notes was → StandsFor start (notes ++ grown was.tail now.tail) now
+  pub by_commit : (result : Result ℕ CommitRefusal) (cut : CutValue) (rows : List (List Value)) → WasGiven cut notes → OnOk result (Commits was cut rows now) → OnErr result (now ≡ was) → StandsFor start notes was → StandsFor start (notes ++ grown was.tail now.tail) now
   by_commit (Ok n) cut rows given commits same s = grown_stands start notes was now (committed was cut rows ∷ []) (goes_commits cut rows given s commits) s
   by_commit (Err y) cut rows given commits same s = grown_stands start notes was now [] (goes_same start (entries_in notes) was now same) s
 
@@ -178,7 +178,7 @@ module _ (start : Restored) (notes : List Noted) (was now : Kept) where
   by_take (Err y) new same s = same_stands start notes was now same s
 
   -- a cut that was given
-  pub by_cut : (result : Result (Option CutValue) NoMemory) → IfOk result (λ given. given ≡ next_cut was) → OnOk result (now ≡ claimed_at was (next_place was)) → IfOk result (λ given. IfSome given (IsCutOf now)) → IfOk result (λ given. IfSome given (λ cut. (base : Restored) (added : List Entry) → Stands base added was → CutStands base added cut)) → OnErr result (now ≡ was) → StandsFor start notes was → StandsFor start (notes ++ given_by result) now
+  pub by_cut : (result : Result (Option CutValue) NoMemory) → IfOk result (λ given. given ≡ next_cut was) → OnOk result (now ≡ claimed_at was (next_place was)) → IfOk result (λ given. IfSome given (IsCutOf now)) → IfOk result (λ given. IfSome given (λ cut. (base : Restored) (added : List Entry) → IsStateOf base added was → CutStands base added cut)) → OnErr result (now ≡ was) → StandsFor start notes was → StandsFor start (notes ++ given_by result) now
   by_cut (Ok (Some cut)) is claimed own stands same s =
       cut_noted start notes now cut (claims_stand start notes was now (next_place was) claimed s) (made_at start notes was (next_place was) cut (sym is) (stands start (session_of start notes) s.stands) s) own
   by_cut (Ok None) is claimed own stands same s =

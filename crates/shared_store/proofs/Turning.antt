@@ -15,23 +15,23 @@ use Rattle.turn_lock.specs.Words.{number, seen, IsOther, IsSame, Overhears}
 use Rattle.turn_lock.proofs.Lists.{entries-stamp}
 use Rattle.shared_store.specs.declared.noted.Noted.{Noted}
 use Rattle.shared_store.specs.declared.noted.Noted.TheVariants.{Given}
-use Rattle.shared_store.specs.Notes.{entries_in, session_of, IsGiven, given_by, grown}
+use Rattle.shared_store.specs.Notes.{entries_in, session_of, WasGiven, given_by, grown}
 use Rattle.shared_store.specs.Shares.{StandsFor, IsMadeFrom, IsNoOlder}
 use Rattle.shared_store.specs.Turns.{notes_of, EndsTurn}
 use Rattle.shared_store.proofs.Lists.{entries_in-append}
 
 -- what was given stays given
-pub given_more : (cut : CutValue) (notes more : List Noted) → IsGiven cut notes → IsGiven cut (notes ++ more)
+pub given_more : (cut : CutValue) (notes more : List Noted) → WasGiven cut notes → WasGiven cut (notes ++ more)
 given_more cut notes more is =
     (is.0, is.1 ++ more, ap (λ (l : List Noted). l ++ more) is.2 ∙ append_assoc is.0 (Given cut ∷ is.1) more)
 
 entries-grows : (P : ℕ → Type 0) (xs ys : List (ℕ × Noted)) → Grows P xs ys → (more : List Noted) × (entries ys ≡ entries xs ++ more)
 entries-grows P xs ys grows = (entries grows.0, ap (λ (l : List (ℕ × Noted)). entries l) grows.1 ∙ map-append (λ (x : ℕ × Noted). x.1) xs grows.0)
 
-pub given_grows : (cut : CutValue) (P : ℕ → Type 0) (xs ys : List (ℕ × Noted)) → Grows P xs ys → IsGiven cut (entries xs) → IsGiven cut (entries ys)
+pub given_grows : (cut : CutValue) (P : ℕ → Type 0) (xs ys : List (ℕ × Noted)) → Grows P xs ys → WasGiven cut (entries xs) → WasGiven cut (entries ys)
 given_grows cut P xs ys grows is =
     let more = entries-grows P xs ys grows in
-    subst (IsGiven cut) (sym more.1) (given_more cut (entries xs) more.0 is)
+    subst (WasGiven cut) (sym more.1) (given_more cut (entries xs) more.0 is)
 
 no_older_by : (start : Restored) (cut : CutValue) (P : ℕ → Type 0) (xs ys : List (ℕ × Noted)) → Grows P xs ys → IsMadeFrom start (session_of start (entries ys)) cut → IsNoOlder start (entries xs) cut
 no_older_by start cut P xs ys grows made =
@@ -65,12 +65,12 @@ ends_said notes_by start mid new now said result same seat sees stands = record 
 
 module _ {T : Type 0} {g : Ghosts T Restored Noted} (start : Restored) (old mid new : TurnSeat T Restored Noted g) where
   -- the cut of a turn is given in it, and is no older than what the seat had seen
-  gives : (now : Kept) (result : Result (Option CutValue) NoMemory) → seen new ≡ seen mid ++ stamp (number mid) (given_by result) → IfOk result (λ given. IfSome given (λ cut. IsGiven cut (notes_of new)))
+  gives : (now : Kept) (result : Result (Option CutValue) NoMemory) → seen new ≡ seen mid ++ stamp (number mid) (given_by result) → IfOk result (λ given. IfSome given (λ cut. WasGiven cut (notes_of new)))
   gives now (Ok None) sees = tt
   gives now (Ok (Some cut)) sees = (notes_of mid, [], ap (λ (l : List (ℕ × Noted)). entries l) sees ∙ entries-stamp (seen mid) (number mid) (Given cut ∷ []))
   gives now (Err y) sees = tt
 
-  pub gives_said : (now : Kept) (said result : Result (Option CutValue) NoMemory) → said ≡ result → seen new ≡ seen mid ++ stamp (number mid) (given_by said) → IfOk result (λ given. IfSome given (λ cut. IsGiven cut (notes_of new)))
+  pub gives_said : (now : Kept) (said result : Result (Option CutValue) NoMemory) → said ≡ result → seen new ≡ seen mid ++ stamp (number mid) (given_by said) → IfOk result (λ given. IfSome given (λ cut. WasGiven cut (notes_of new)))
   gives_said now said result same sees =
       gives now result (sees ∙ ap (λ (x : Result (Option CutValue) NoMemory). seen mid ++ stamp (number mid) (given_by x)) same)
 

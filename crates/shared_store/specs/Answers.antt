@@ -15,7 +15,7 @@ use Rattle.session_state.specs.declared.state.AppendError.TheVariants as append
 use Rattle.session_state.specs.declared.state.CommitRefusal.{CommitRefusal}
 use Rattle.session_state.specs.Kept.{Kept}
 use Rattle.session_state.specs.Cut.{CutValue}
-use Rattle.session_state.specs.Stands.{Adds}
+use Rattle.session_state.specs.StateOf.{Adds}
 use Rattle.session_state.specs.Ticks.{held_back_by, first_due}
 use Rattle.session_state.specs.Readings.{entry_of, taken_of, event_count}
 use Rattle.session_state.specs.Expiries.{expiries, AddsAll}

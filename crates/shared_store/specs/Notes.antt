@@ -31,8 +31,8 @@ abbrev pub tail_of : Restored → List Noted → List Entry
 tail_of start notes = untaken (Opened (start.sessions + 1) ∷ []) notes
 
 -- the cut was given
-abbrev pub IsGiven : CutValue → List Noted → Type 0
-IsGiven cut notes = (before : List Noted) × (after : List Noted) × (notes ≡ before ++ Given cut ∷ after)
+abbrev pub WasGiven : CutValue → List Noted → Type 0
+WasGiven cut notes = (before : List Noted) × (after : List Noted) × (notes ≡ before ++ Given cut ∷ after)
 
 -- the entries behind those of an earlier tail
 abbrev pub grown : List Entry → List Entry → List Noted

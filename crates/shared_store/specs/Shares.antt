@@ -6,7 +6,7 @@ use Rattle.session_state.specs.Kept.{Kept}
 use Rattle.session_state.specs.Cut.{CutValue}
 use Rattle.session_state.specs.CutOf.{IsCutOf}
 use Rattle.session_state.specs.Cutting.{CutStands}
-use Rattle.session_state.specs.Stands.{Stands}
+use Rattle.session_state.specs.StateOf.{IsStateOf}
 use Rattle.shared_store.specs.declared.noted.Noted.{Noted}
 use Rattle.shared_store.specs.declared.noted.Noted.TheVariants.{Given}
 use Rattle.shared_store.specs.Notes.{entries_in, session_of, tail_of}
@@ -24,7 +24,7 @@ pub record KnowsCut (start : Restored) (before : List Noted) (cut : CutValue) (s
 
 -- the state stands for the session's entries, its tail is what was not taken, and it knows each cut that was given
 pub record StandsFor (start : Restored) (notes : List Noted) (state : Kept) : Type 0 where
-  pub stands : Stands start (session_of start notes) state
+  pub stands : IsStateOf start (session_of start notes) state
   pub comes : ComesBy start (entries_in notes) state
   pub tail : state.tail ≡ tail_of start notes
   pub cuts : (before after : List Noted) (cut : CutValue) → notes ≡ before ++ Given cut ∷ after → KnowsCut start before cut state

@@ -14,7 +14,7 @@ ghost use Rattle.entry_model.specs.Schedules.{IsSound};
 ghost use Rattle.event_store.specs.Contents.{rows_in};
 ghost use Rattle.session_state.specs.Readings.{IsReading};
 ghost use Rattle.turn_lock.specs.Turns.{Grows, stamp};
-ghost use Rattle.shared_store.specs.Notes.{IsGiven, grown};
+ghost use Rattle.shared_store.specs.Notes.{WasGiven, grown};
 ghost use Rattle.shared_store.specs.Shares.{StandsFor, IsNoOlder};
 ghost use Rattle.shared_store.specs.Turns.{notes_of, BeginsTurn, InTurn};
 
@@ -234,7 +234,7 @@ impl Store {
         requires { IsSeatOf self.now seat.old × IsAtRest seat.old }
         ensures seat { IsSame seat.old seat.new × IsAtRest seat.new }
         ensures turn { InTurn (start_of self.now) seat.old seat.new (Cuts result) }
-        ensures given { IfOk result (λ given. IfSome given (λ cut. IsGiven cut (notes_of seat.new))) }
+        ensures given { IfOk result (λ given. IfSome given (λ cut. WasGiven cut (notes_of seat.new))) }
         ensures no_older { IfOk result (λ given. IfSome given (IsNoOlder (start_of self.now) (notes_of seat.old))) }
     {
         let mut turn = self.turn(rt, seat);
@@ -255,7 +255,7 @@ impl Store {
         rows: RowList,
     ) -> Result<u64, CommitRefusal>
         requires seat { IsSeatOf self.now seat.old × IsAtRest seat.old }
-        requires given { IsGiven cut (notes_of seat.old) }
+        requires given { WasGiven cut (notes_of seat.old) }
         requires rows { rows ≡ meaning cut.key.text (rows_in cut.view) }
         ensures seat { IsSame seat.old seat.new × IsAtRest seat.new }
         ensures turn { InTurn (start_of self.now) seat.old seat.new (CommitsAt cut rows result) }

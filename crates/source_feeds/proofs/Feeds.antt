@@ -5,10 +5,10 @@ use Rattle.std.proofs.lemmas.Bool.{true≢false}
 use Rattle.osq_value.specs.declared.reading.Category.{Category}
 use Rattle.osq_value.specs.declared.reading.Reading.{Reading}
 use Rattle.publisher_core.specs.declared.error.StepError.{StepError}
-use Rattle.publisher_core.specs.declared.record.Piece.{Piece}
+use Rattle.publisher_core.specs.declared.record.ReadRecord.{ReadRecord}
 use Rattle.osq_value.specs.declared.source.SourceKind.{SourceKind}
 use Rattle.publisher_core.specs.Readings.{readings_of, skipped_of}
-use Rattle.publisher_core.specs.Standing.{Reader, Stands}
+use Rattle.publisher_core.specs.Standing.{Reader, HasPublished}
 use Rattle.publisher_core.specs.Stepping.{GrowsBy, SameSource, Steps}
 use Rattle.source_feeds.specs.Feeding.{Fed, Feeding, HasRead, IsLeft, IsOpen, counted}
 use Rattle.source_feeds.specs.Joining.{Rise, skipped_told}
@@ -21,12 +21,12 @@ use Rattle.source_feeds.proofs.Steps.{behind, reads_to, still_full, takes_all, t
 
 -- a feed that was started, or is spent
 pub started : {T : Type 0} (result : Result T StepError) (kind : SourceKind) (old new : Reader) → HasRead kind old → OnOk result (new ≡ record old { is_begun = true }) → IfErr result (λ error. new ≡ record old { is_begun = true; is_spent = true })
-    → OnOk result (Stands new [] old.taken []) → new.is_spent ≡ false → HasRead kind new
+    → OnOk result (HasPublished new [] old.taken []) → new.is_spent ≡ false → HasRead kind new
 started (Ok x) kind old new read begun spent stands unspent = record { kind_is = ap (λ (r : Reader). r.kind) begun ∙ read.kind_is; pieces = []; kept = old.taken; stream = []; stands = stands }
 started (Err error) kind old new read begun spent stands unspent = absurd (true≢false (sym (ap (λ (r : Reader). r.is_spent) spent) ∙ unspent))
 
 pub started_fed : {T : Type 0} (result : Result T StepError) (tells : Type 0) (before after name : List ℕ) (kind : SourceKind) (skipped : ℕ) (old new : Reader) (feed : Feeding) → feed ≡ record { name = name; kind = kind; skipped = skipped; reader = old } → IsOpen feed
-    → OnOk result (new ≡ record old { is_begun = true }) → OnOk result (tells → (front : List ℕ) × (length front ≡ old.taken) × (before ≡ front ++ after)) → OnOk result (Stands new [] old.taken [])
+    → OnOk result (new ≡ record old { is_begun = true }) → OnOk result (tells → (front : List ℕ) × (length front ≡ old.taken) × (before ≡ front ++ after)) → OnOk result (HasPublished new [] old.taken [])
     → OnOk result (Fed tells before after (record { name = name; kind = kind; skipped = skipped; reader = new }) feed.reader.taken [])
 started_fed (Err error) tells before after name kind skipped old new feed is fresh begun dropped stands = tt
 started_fed (Ok x) tells before after name kind skipped old new feed is fresh begun dropped stands =
@@ -37,7 +37,7 @@ started_fed (Ok x) tells before after name kind skipped old new feed is fresh be
     record {
       kind = ap (λ (r : Reader). r.kind) begun ∙ kinds;
       stream = [];
-      stands = subst (λ (n : ℕ). Stands new [] n []) taken stands;
+      stands = subst (λ (n : ℕ). HasPublished new [] n []) taken stands;
       left = λ told. let front = dropped told in record { dropped = front.0; size = front.1 ∙ taken; bytes = front.2 };
       end = λ told over. absurd (true≢false (sym over ∙ still));
       skipped = omega (arith, none);
@@ -55,7 +55,7 @@ pub record Shaped (kind : SourceKind) (old new : Reader) (readings : List Readin
   pub read : HasRead kind new
 
 pub shaped : (tells : Type 0) (middle after : List ℕ) (kind : SourceKind) (old new : Reader) (most : ℕ) (readings : List Reading) (h : HasRead kind old)
-    → ((pieces : List Piece) × (readings ≡ readings_of old.kind pieces) × Steps tells middle after new h.pieces h.kept h.stream pieces most) → GrowsBy old.taken new.taken readings → SameSource old new
+    → ((pieces : List ReadRecord) × (readings ≡ readings_of old.kind pieces) × Steps tells middle after new h.pieces h.kept h.stream pieces most) → GrowsBy old.taken new.taken readings → SameSource old new
     → Shaped kind old new readings
 shaped tells middle after kind old new most readings h (pieces, read, steps) grown same =
     let b = behind old new h.kept h.pieces pieces h.stream steps.fresh h.stands steps.stands same.kind same.paths (goes_up old.taken new.taken readings grown) in
@@ -71,8 +71,8 @@ skips_add : (before more now sum first last : ℕ) → before ≡ counted first 
 skips_add before more now sum first last old new is same = omega (arith, old, new, is, same)
 
 -- one more step
-pub stepped : (tells : Type 0) (before middle after : List ℕ) (old new : Feeding) (kept : ℕ) (given : List Piece) (most : ℕ) (readings : List Reading) (f : Fed tells before middle old kept given)
-    → ((pieces : List Piece) × (readings ≡ readings_of old.reader.kind pieces) × Steps tells middle after new.reader given kept f.stream pieces most) → GrowsBy old.reader.taken new.reader.taken readings → SameSource old.reader new.reader
+pub stepped : (tells : Type 0) (before middle after : List ℕ) (old new : Feeding) (kept : ℕ) (given : List ReadRecord) (most : ℕ) (readings : List Reading) (f : Fed tells before middle old kept given)
+    → ((pieces : List ReadRecord) × (readings ≡ readings_of old.reader.kind pieces) × Steps tells middle after new.reader given kept f.stream pieces most) → GrowsBy old.reader.taken new.reader.taken readings → SameSource old.reader new.reader
     → (tells → new.reader.is_ended ≡ true → after ≡ []) → new.skipped ≡ counted (old.skipped + skipped_told readings) → new.kind ≡ old.kind
     → IsStep tells before after old new kept given most readings
 stepped tells before middle after old new kept given most readings f (pieces, read, steps) grown same end skipped kind =

@@ -9,7 +9,7 @@ use Rattle.audit_records.specs.Groups.{groups_of, whole}
 use Rattle.audit_records.specs.Runs.{AreWholeRuns, BeginsAnew, IsRun}
 use Rattle.audit_records.proofs.Runs.{groups_of-runs}
 use Rattle.publisher_core.specs.declared.gathering.AuditRecord.{AuditRecord}
-use Rattle.publisher_core.specs.declared.record.Piece.{Piece}
+use Rattle.publisher_core.specs.declared.record.ReadRecord.{ReadRecord}
 use Rattle.osq_value.specs.declared.source.SourceKind.TheVariants.{Audit}
 use Rattle.publisher_core.specs.Audit.{items_of}
 use Rattle.publisher_core.specs.AuditParts.{Item, AreRecordsOf, BeginsWithLine, lines_in}
@@ -85,7 +85,7 @@ short_groups from taken front behind before all groups begins =
       append_nil_is (l ∷ ls) = ap (λ (more : List AuditLine). l ∷ more) (append_nil_is ls)
 
 -- the groups of all lines, where the last ones are held
-pub held_groups : (start : ℕ) (lines more held : List (List ℕ)) (pieces : List Piece) → (split : AuditBehind start lines more pieces) → HoldsLast Audit start (lines ++ more) held
+pub held_groups : (start : ℕ) (lines more held : List (List ℕ)) (pieces : List ReadRecord) → (split : AuditBehind start lines more pieces) → HoldsLast Audit start (lines ++ more) held
     → groups_of (lines_in (items_of start ((lines ++ more) ++ held)))
     ≡ split.before ++ (groups_of (lines_in (items_of (start + length (ended lines)) more)) ++ whole (lines_in (items_of (start + length (ended (lines ++ more))) held)))
 held_groups start lines more held pieces split last =
@@ -96,10 +96,10 @@ held_groups start lines more held pieces split last =
     ∙ append_assoc split.before own tail
 
 -- lines are held only from a first one of the grammar on
-pub held_begins : (reader : Reader) (given : List Piece) (start : ℕ) (lines held : List (List ℕ)) → AuditWaits reader given start lines held → reader.ready ≡ [] → reader.is_ended ≡ false
+pub held_begins : (reader : Reader) (given : List ReadRecord) (start : ℕ) (lines held : List (List ℕ)) → AuditWaits reader given start lines held → reader.ready ≡ [] → reader.is_ended ≡ false
     → (held ≡ []) ⊎ BeginsWithLine (items_of (start + length (ended lines)) held)
 held_begins reader given start lines held waits ready open_is =
-    let stands : gathered.Stands (waits.records ++ reader.ready) (items_of start (lines ++ held)) reader.gathering =
+    let stands : gathered.HasGathered (waits.records ++ reader.ready) (items_of start (lines ++ held)) reader.gathering =
     subst (λ (b : Bool). HasGathered b (waits.records ++ reader.ready) start (lines ++ held) reader.gathering) open_is waits.gathered in
     let records : waits.records ++ reader.ready ≡ waits.records = ap (λ (rs : List AuditRecord). waits.records ++ rs) ready ∙ no_more waits.records in
     let keeps = stands.keeps in

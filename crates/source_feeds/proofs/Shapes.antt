@@ -23,7 +23,7 @@ use Rattle.change_records.specs.Events.{IsEventOf}
 use Rattle.publisher_core.specs.declared.gathering.AuditRecord.{AuditRecord}
 use Rattle.publisher_core.specs.declared.record.Gain.{Gain}
 use Rattle.publisher_core.specs.declared.record.Gain.TheVariants as gain
-use Rattle.publisher_core.specs.declared.record.Piece.{Piece}
+use Rattle.publisher_core.specs.declared.record.ReadRecord.{ReadRecord}
 use Rattle.osq_value.specs.declared.source.SourceKind.{SourceKind}
 use Rattle.osq_value.specs.declared.source.SourceKind.TheVariants.{Audit, Changes, Tables}
 use Rattle.publisher_core.specs.Audit.{IsPieceOf, event_in}
@@ -97,23 +97,23 @@ good_list : (event : Option Event) → IsGood event → All IsEvent (option_to_l
 good_list None good = All-nil IsEvent
 good_list (Some event) good = All-cons IsEvent event [] good (All-nil IsEvent)
 
-abbrev HasGood : Piece → Type 0
+abbrev HasGood : ReadRecord → Type 0
 HasGood piece = All IsEvent (events_in piece.gain)
 
-all_good : (piece : Piece) (pieces : List Piece) → HasGood piece → All IsEvent (events_of pieces) → All IsEvent (events_of (piece ∷ pieces))
+all_good : (piece : ReadRecord) (pieces : List ReadRecord) → HasGood piece → All IsEvent (events_of pieces) → All IsEvent (events_of (piece ∷ pieces))
 all_good piece pieces good rest = All-append IsEvent (events_in piece.gain) (events_of pieces) good rest
 
-good_gain : (paths : List Category) (line : List ℕ) (piece : Piece) → ChangeGives paths line piece.gain → HasGood piece
+good_gain : (paths : List Category) (line : List ℕ) (piece : ReadRecord) → ChangeGives paths line piece.gain → HasGood piece
 good_gain paths line piece (inl given) = subst (λ (g : Gain). All IsEvent (events_in g)) (sym given.4) (good_list given.1 (good_change given.0 paths given.1 given.3))
 good_gain paths line piece (inr skipped) = subst (λ (g : Gain). All IsEvent (events_in g)) (sym skipped.1) (All-nil IsEvent)
 
-good_changes : (paths : List Category) (start : ℕ) (lines : List (List ℕ)) (pieces : List Piece) → LinesGive (ChangeGives paths) start lines pieces → All IsEvent (events_of pieces)
+good_changes : (paths : List Category) (start : ℕ) (lines : List (List ℕ)) (pieces : List ReadRecord) → LinesGive (ChangeGives paths) start lines pieces → All IsEvent (events_of pieces)
 good_changes paths start [] [] gives = All-nil IsEvent
 good_changes paths start [] (piece ∷ pieces) gives = absurd gives
 good_changes paths start (line ∷ lines) [] gives = absurd gives
 good_changes paths start (line ∷ lines) (piece ∷ pieces) gives = all_good piece pieces (good_gain paths line piece gives.0) (good_changes paths (start + length line + 1) lines pieces gives.2)
 
-good_records : (records : List AuditRecord) (pieces : List Piece) → AllZip IsPieceOf records pieces → All IsEvent (events_of pieces)
+good_records : (records : List AuditRecord) (pieces : List ReadRecord) → AllZip IsPieceOf records pieces → All IsEvent (events_of pieces)
 good_records [] [] zip = All-nil IsEvent
 good_records [] (piece ∷ pieces) zip = absurd zip
 good_records (made ∷ records) [] zip = absurd zip
@@ -121,7 +121,7 @@ good_records (made ∷ records) (piece ∷ pieces) zip =
     all_good piece pieces (subst HasGood (sym zip.0) (good_list (event_in made.group) (good_in made.group))) (good_records records pieces zip.1)
 
 -- each record of table lines gives a good reading
-good_table : (line : List ℕ) (piece : Piece) → TableGives line piece.gain → IsReading (reading_of piece)
+good_table : (line : List ℕ) (piece : ReadRecord) → TableGives line piece.gain → IsReading (reading_of piece)
 good_table line piece gives = by_gain piece.gain refl gives where
   by_gain : (given : Gain) → piece.gain ≡ given → TableGives line given → IsReading (reading_of (record piece { gain = given }))
   by_gain (gain.Event event skipped) is (inl table_gives) = absurd (let no : ⊥ = (let e = table_gives.3 in cc) in no)
@@ -138,7 +138,7 @@ good_table line piece gives = by_gain piece.gain refl gives where
       (subst (λ (rs : List (List Value)). IsReading (reading.Table piece.end table_gives.0 rs)) same_rows good)
   by_gain (gain.Table table rows) is (inr skipped) = absurd (let no : ⊥ = (let e = skipped.1 in cc) in no)
 
-good_tables : (start : ℕ) (lines : List (List ℕ)) (pieces : List Piece) → LinesGive TableGives start lines pieces → All IsReading (map reading_of pieces)
+good_tables : (start : ℕ) (lines : List (List ℕ)) (pieces : List ReadRecord) → LinesGive TableGives start lines pieces → All IsReading (map reading_of pieces)
 good_tables start [] [] gives = All-nil IsReading
 good_tables start [] (piece ∷ pieces) gives = absurd gives
 good_tables start (line ∷ lines) [] gives = absurd gives
@@ -146,15 +146,15 @@ good_tables start (line ∷ lines) (piece ∷ pieces) gives =
     All-cons IsReading (reading_of piece) (map reading_of pieces) (good_table line piece gives.0) (good_tables (start + length line + 1) lines pieces gives.2)
 
 -- the one reading of some records is good where their events are
-good_joined : (pieces : List Piece) → All IsEvent (events_of pieces) → All IsReading (joined pieces)
+good_joined : (pieces : List ReadRecord) → All IsEvent (events_of pieces) → All IsReading (joined pieces)
 good_joined [] all = All-nil IsReading
 good_joined (first ∷ pieces) all =
     let last = has_last first pieces in
     let one = ap joined last.2 ∙ joined_last last.0 last.1 in
-    subst (All IsReading) (sym one) (All-cons IsReading _ [] (subst (λ (ps : List Piece). All IsEvent (events_of ps)) last.2 all) (All-nil IsReading))
+    subst (All IsReading) (sym one) (All-cons IsReading _ [] (subst (λ (ps : List ReadRecord). All IsEvent (events_of ps)) last.2 all) (All-nil IsReading))
 
 -- the readings of lines are good ones
-pub good_readings : (kind : SourceKind) (paths : List Category) (start : ℕ) (lines : List (List ℕ)) (pieces : List Piece) → Gives kind paths start lines pieces → All IsReading (readings_of kind pieces)
+pub good_readings : (kind : SourceKind) (paths : List Category) (start : ℕ) (lines : List (List ℕ)) (pieces : List ReadRecord) → Gives kind paths start lines pieces → All IsReading (readings_of kind pieces)
 good_readings Audit paths start lines pieces gives = good_joined pieces (good_records gives.records pieces gives.each)
 good_readings Changes paths start lines pieces gives = good_joined pieces (good_changes paths start lines pieces gives)
 good_readings Tables paths start lines pieces gives = good_tables start lines pieces gives

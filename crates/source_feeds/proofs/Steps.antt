@@ -5,13 +5,13 @@ use Rattle.std.proofs.Math.Seq.{drop-append_seam}
 use Rattle.osq_value.specs.declared.reading.Category.{Category}
 use Rattle.audit_records.specs.Groups.{groups_of, whole}
 use Rattle.record_lines.specs.Lines.{lines_of}
-use Rattle.publisher_core.specs.declared.record.Piece.{Piece}
+use Rattle.publisher_core.specs.declared.record.ReadRecord.{ReadRecord}
 use Rattle.osq_value.specs.declared.source.SourceKind.{SourceKind}
 use Rattle.osq_value.specs.declared.source.SourceKind.TheVariants.{Audit, Changes, Tables}
 use Rattle.publisher_core.specs.Audit.{items_of}
 use Rattle.publisher_core.specs.AuditParts.{BeginsWithLine, lines_in}
 use Rattle.publisher_core.specs.Records.{ended, HaveNoFeed}
-use Rattle.publisher_core.specs.Standing.{Gives, Reader, Stands, Waits, is_at_end}
+use Rattle.publisher_core.specs.Standing.{Gives, Reader, HasPublished, Waits, is_at_end}
 use Rattle.publisher_core.specs.Stepping.{HoldsLast, IsDry, Steps, STEP_BYTES}
 use Rattle.publisher_core.proofs.Given.{ended-append}
 use Rattle.publisher_core.proofs.Standing.{over_dry}
@@ -29,7 +29,7 @@ size_spelt : (lines held : List (List ℕ)) → length (ended (lines ++ held)) �
 size_spelt lines held = ap length (ended-append lines held) ∙ length-append (ended lines) (ended held)
 
 -- what a publisher that went on has taken since
-pub record Behind (old new : Reader) (kept : ℕ) (given pieces : List Piece) (stream fresh : List ℕ) (s : Stands old given kept stream) (t : Stands new (given ++ pieces) kept (stream ++ fresh)) : Type 0 where
+pub record Behind (old new : Reader) (kept : ℕ) (given pieces : List ReadRecord) (stream fresh : List ℕ) (s : HasPublished old given kept stream) (t : HasPublished new (given ++ pieces) kept (stream ++ fresh)) : Type 0 where
   pub more : List (List ℕ)
   pub lines_are : t.lines ≡ s.lines ++ more
   pub bytes : stream ++ fresh ≡ ended s.lines ++ (ended (more ++ t.held) ++ t.rest)
@@ -38,7 +38,7 @@ pub record Behind (old new : Reader) (kept : ℕ) (given pieces : List Piece) (s
   pub gives : Gives old.kind old.paths old.taken more pieces
   pub place : new.taken ≡ old.taken + length (ended more)
 
-pub behind : (old new : Reader) (kept : ℕ) (given pieces : List Piece) (stream fresh : List ℕ) (s : Stands old given kept stream) (t : Stands new (given ++ pieces) kept (stream ++ fresh))
+pub behind : (old new : Reader) (kept : ℕ) (given pieces : List ReadRecord) (stream fresh : List ℕ) (s : HasPublished old given kept stream) (t : HasPublished new (given ++ pieces) kept (stream ++ fresh))
     → new.kind ≡ old.kind → new.paths ≡ old.paths → old.taken ≤ new.taken → Behind old new kept given pieces stream fresh s t
 behind old new kept given pieces stream fresh s t kind paths grown =
     let old_place = s.taken in
@@ -81,7 +81,7 @@ not_some : (held more others : List (List ℕ)) (line : List ℕ) → held ≡ [
 not_some held more others line none some = let size = ap length (sym none ∙ some) in omega (arith, size)
 
 -- of an audit log the last group may be left
-takes_groups : (old new : Reader) (kept : ℕ) (given pieces : List Piece) (stream fresh bytes : List ℕ) (s : Stands old given kept stream) (d : IsDry new (given ++ pieces) kept (stream ++ fresh))
+takes_groups : (old new : Reader) (kept : ℕ) (given pieces : List ReadRecord) (stream fresh bytes : List ℕ) (s : HasPublished old given kept stream) (d : IsDry new (given ++ pieces) kept (stream ++ fresh))
     → (b : Behind old new kept given pieces stream fresh s d.stands) → (others : List (List ℕ)) → (longer : Longer (front_lines bytes) b.more others d.stands.held) → new.kind ≡ old.kind → old.kind ≡ Audit
     → STEP_BYTES ≤ length bytes → TakesGroups (kept + length (ended s.lines)) bytes b.more
 takes_groups old new kept given pieces stream fresh bytes s d b others longer kind is enough =
@@ -117,7 +117,7 @@ takes_groups old new kept given pieces stream fresh bytes s d b others longer ki
     ]
 
 -- as many bytes were read behind the offset as the step read
-size_read : (old new : Reader) (kept : ℕ) (given pieces : List Piece) (stream fresh : List ℕ) (s : Stands old given kept stream) (t : Stands new (given ++ pieces) kept (stream ++ fresh)) → (b : Behind old new kept given pieces stream fresh s t)
+size_read : (old new : Reader) (kept : ℕ) (given pieces : List ReadRecord) (stream fresh : List ℕ) (s : HasPublished old given kept stream) (t : HasPublished new (given ++ pieces) kept (stream ++ fresh)) → (b : Behind old new kept given pieces stream fresh s t)
     → length fresh ≤ length (ended (b.more ++ t.held) ++ t.rest)
 size_read old new kept given pieces stream fresh s t b =
     let read = ap length b.bytes in
@@ -128,7 +128,7 @@ size_read old new kept given pieces stream fresh s t b =
     omega (arith, read, sum, whole_size, cut, front)
 
 -- a step that is not full takes the lines of the first bytes
-pub takes_front : (old new : Reader) (kept : ℕ) (given pieces : List Piece) (stream fresh after bytes : List ℕ) (s : Stands old given kept stream) (d : IsDry new (given ++ pieces) kept (stream ++ fresh))
+pub takes_front : (old new : Reader) (kept : ℕ) (given pieces : List ReadRecord) (stream fresh after bytes : List ℕ) (s : HasPublished old given kept stream) (d : IsDry new (given ++ pieces) kept (stream ++ fresh))
     → (b : Behind old new kept given pieces stream fresh s d.stands) → new.kind ≡ old.kind → bytes ≡ (ended (b.more ++ d.stands.held) ++ d.stands.rest) ++ after → ReadEnough new fresh after
     → TakesFront old.kind (kept + length (ended s.lines)) bytes b.more
 takes_front old new kept given pieces stream fresh after bytes s d b kind is why = by_kind old.kind refl front where
@@ -168,7 +168,7 @@ takes_front old new kept given pieces stream fresh after bytes s d b kind is why
   by_kind Tables tables begins = by_none (subst (λ (k : SourceKind). HoldsLast k kept d.stands.lines held) tables lasts) begins
 
 -- what a step takes of a source that tells its bytes
-takes_by : (old new : Reader) (kept : ℕ) (given pieces : List Piece) (stream fresh before after : List ℕ) (most : ℕ) (s : Stands old given kept stream) (t : Stands new (given ++ pieces) kept (stream ++ fresh))
+takes_by : (old new : Reader) (kept : ℕ) (given pieces : List ReadRecord) (stream fresh before after : List ℕ) (most : ℕ) (s : HasPublished old given kept stream) (t : HasPublished new (given ++ pieces) kept (stream ++ fresh))
     → (b : Behind old new kept given pieces stream fresh s t) → (left : IsLeft before after kept (stream ++ fresh)) → length pieces ≤ most
     → ((drop old.taken before ≡ (ended (b.more ++ t.held) ++ t.rest) ++ after) → (length pieces ≡ most) ⊎ TakesFront old.kind (kept + length (ended s.lines)) (drop old.taken before) b.more)
     → Takes old.kind old.paths old.taken (drop old.taken before) most pieces new.taken
@@ -191,7 +191,7 @@ takes_by old new kept given pieces stream fresh before after most s t b left few
     by_all (inl full) = inl full
     by_all (inr front) = inr (subst (λ (n : ℕ). TakesFront old.kind n (drop old.taken before) b.more) (sym s.taken) front)
 
-pub takes_of : (tells : Type 0) (old new : Reader) (kept : ℕ) (given pieces : List Piece) (stream before middle after : List ℕ) (most : ℕ) (s : Stands old given kept stream) (steps : Steps tells middle after new given kept stream pieces most)
+pub takes_of : (tells : Type 0) (old new : Reader) (kept : ℕ) (given pieces : List ReadRecord) (stream before middle after : List ℕ) (most : ℕ) (s : HasPublished old given kept stream) (steps : Steps tells middle after new given kept stream pieces most)
     → new.kind ≡ old.kind → new.paths ≡ old.paths → old.taken ≤ new.taken → IsLeft before after kept (stream ++ steps.fresh) → (new.is_ended ≡ true → after ≡ [])
     → Takes old.kind old.paths old.taken (drop old.taken before) most pieces new.taken
 takes_of tells old new kept given pieces stream before middle after most s steps kind paths grown left end = by_full steps.full where
@@ -218,7 +218,7 @@ not_over reader over none still =
     true≢false (sym both ∙ still)
 
 -- a step that did not come to the end was full, or much stood before it
-pub still_full : (tells : Type 0) (old new : Reader) (kept : ℕ) (given pieces : List Piece) (stream before middle after : List ℕ) (most : ℕ) (s : Stands old given kept stream) (steps : Steps tells middle after new given kept stream pieces most)
+pub still_full : (tells : Type 0) (old new : Reader) (kept : ℕ) (given pieces : List ReadRecord) (stream before middle after : List ℕ) (most : ℕ) (s : HasPublished old given kept stream) (steps : Steps tells middle after new given kept stream pieces most)
     → new.kind ≡ old.kind → new.paths ≡ old.paths → old.taken ≤ new.taken → IsLeft before after kept (stream ++ steps.fresh) → is_at_end new ≡ false
     → (length pieces ≡ most) ⊎ (STEP_BYTES ≤ length (drop old.taken before))
 still_full tells old new kept given pieces stream before middle after most s steps kind paths grown left still = by_full steps.full where
@@ -233,7 +233,7 @@ still_full tells old new kept given pieces stream before middle after most s ste
       inr (omega (arith, enough, bytes, sum, read))
 
 -- what a session has taken so far of a source that tells its bytes
-pub reads_to : (new : Reader) (kept : ℕ) (pieces : List Piece) (stream before after : List ℕ) → Stands new pieces kept stream → IsLeft before after kept stream → ReadsTo new.kind new.paths kept (drop kept before) pieces new.taken
+pub reads_to : (new : Reader) (kept : ℕ) (pieces : List ReadRecord) (stream before after : List ℕ) → HasPublished new pieces kept stream → IsLeft before after kept stream → ReadsTo new.kind new.paths kept (drop kept before) pieces new.taken
 reads_to new kept pieces stream before after t left =
     let tail : drop kept before ≡ stream ++ after = ap (λ (n : ℕ). drop n before) (sym left.size) ∙ ap (drop (length left.dropped)) left.bytes ∙ drop-append_seam left.dropped (stream ++ after) in
     record {
@@ -260,7 +260,7 @@ last_feed dropped (line ∷ lines) kept place is =
     inr (omega (arith, is, size), dropped ++ end.0, ap (λ (bytes : List ℕ). dropped ++ bytes) end.1 ∙ sym (append_assoc dropped end.0 (10 ∷ [])))
 
 -- at the source's end every line is taken
-pub takes_all : (new : Reader) (kept : ℕ) (pieces : List Piece) (stream before after : List ℕ) → Stands new pieces kept stream → is_at_end new ≡ true → IsLeft before after kept stream → (new.is_ended ≡ true → after ≡ [])
+pub takes_all : (new : Reader) (kept : ℕ) (pieces : List ReadRecord) (stream before after : List ℕ) → HasPublished new pieces kept stream → is_at_end new ≡ true → IsLeft before after kept stream → (new.is_ended ≡ true → after ≡ [])
     → TakesAll new.kind new.paths kept before pieces new.taken
 takes_all new kept pieces stream before after stands over left end =
     let d = over_dry new pieces kept stream over stands in

@@ -1,9 +1,9 @@
 -- What a session has taken of a source.
 use Rattle.std.specs.Prelude.{◌≡◌, ℕ, ◌-◌, ◌^◌, min, true, false, List, [], ◌++◌, length}
-use Rattle.publisher_core.specs.declared.record.Piece.{Piece}
+use Rattle.publisher_core.specs.declared.record.ReadRecord.{ReadRecord}
 use Rattle.osq_value.specs.declared.source.SourceKind.{SourceKind}
 use Rattle.publisher_core.specs.Readings.{skipped_of}
-use Rattle.publisher_core.specs.Standing.{Reader, Stands}
+use Rattle.publisher_core.specs.Standing.{Reader, HasPublished}
 
 -- what contracts see of a feed: the source's name, what its lines are, how many were skipped in this session, and what its publisher has read
 pub record Feeding : Type 0 where
@@ -23,15 +23,15 @@ pub record IsOpen (feed : Feeding) : Type 0 where
   pub unended : feed.reader.is_ended ≡ false
   pub unspent : feed.reader.is_spent ≡ false
   pub none_skipped : feed.skipped ≡ 0
-  pub stands : Stands feed.reader [] feed.reader.taken []
+  pub stands : HasPublished feed.reader [] feed.reader.taken []
 
 -- the publisher has read some stream of a source of this kind, and given the records of its first lines
 pub record HasRead (kind : SourceKind) (reader : Reader) : Type 0 where
   pub kind_is : reader.kind ≡ kind
-  pub pieces : List Piece
+  pub pieces : List ReadRecord
   pub kept : ℕ
   pub stream : List ℕ
-  pub stands : Stands reader pieces kept stream
+  pub stands : HasPublished reader pieces kept stream
 
 -- the source had the bytes `before`, and has `after` behind those that were dropped and those that were read
 pub record IsLeft (before after : List ℕ) (kept : ℕ) (stream : List ℕ) : Type 0 where
@@ -42,10 +42,10 @@ pub record IsLeft (before after : List ℕ) (kept : ℕ) (stream : List ℕ) : T
 -- Of a source that had the bytes `before` to give when the session began and has `after` now, this session dropped the first `kept`, read a
 -- stream behind them, and took exactly these records: they are those of the stream's first lines, up to the feed's offset. Where a read
 -- gave nothing, the source has nothing left.
-pub record Fed (tells : Type 0) (before after : List ℕ) (feed : Feeding) (kept : ℕ) (pieces : List Piece) : Type 0 where
+pub record Fed (tells : Type 0) (before after : List ℕ) (feed : Feeding) (kept : ℕ) (pieces : List ReadRecord) : Type 0 where
   pub kind : feed.reader.kind ≡ feed.kind
   pub stream : List ℕ
-  pub stands : Stands feed.reader pieces kept stream
+  pub stands : HasPublished feed.reader pieces kept stream
   pub left : tells → IsLeft before after kept stream
   pub end : tells → feed.reader.is_ended ≡ true → after ≡ []
   pub skipped : feed.skipped ≡ counted (skipped_of pieces)

@@ -3,7 +3,7 @@ use Rattle.std.specs.Prelude.{◌≡◌, ◌<◌, ℕ, ◌+◌, List, [], ◌∷
 use Rattle.osq_value.specs.declared.reading.Reading.{Reading}
 use Rattle.osq_value.specs.declared.reading.Reading.TheVariants.{Events, Table}
 use Rattle.osq_value.specs.declared.value.Event.{Event}
-use Rattle.publisher_core.specs.declared.record.Piece.{Piece}
+use Rattle.publisher_core.specs.declared.record.ReadRecord.{ReadRecord}
 use Rattle.osq_value.specs.declared.source.SourceKind.{SourceKind}
 use Rattle.osq_value.specs.declared.source.SourceKind.TheVariants.{Audit, Changes, Tables}
 use Rattle.publisher_core.specs.Readings.{events_of, skipped_of, reading_of}
@@ -37,11 +37,11 @@ skipped_told [] = 0
 skipped_told (reading ∷ readings) = skipped_in reading + skipped_told readings
 
 -- They have all the events of these records, in order, and count all the lines that were skipped.
-abbrev pub Join : List Piece → List Reading → Type 0
+abbrev pub Join : List ReadRecord → List Reading → Type 0
 Join pieces readings = (events_told readings ≡ events_of pieces) × (skipped_told readings ≡ skipped_of pieces)
 
 -- These readings, joined where they have events, are the reading of these records: of a source of tables there is one for each record.
-abbrev pub AreReadingsOf : SourceKind → List Piece → List Reading → Type 0
+abbrev pub AreReadingsOf : SourceKind → List ReadRecord → List Reading → Type 0
 AreReadingsOf Audit pieces readings = Join pieces readings
 AreReadingsOf Changes pieces readings = Join pieces readings
 AreReadingsOf Tables pieces readings = readings ≡ map reading_of pieces

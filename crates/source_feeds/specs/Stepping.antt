@@ -1,7 +1,7 @@
 -- What a step of a feed does.
 use Rattle.std.specs.Prelude.{◌≡◌, ◌⊎◌, ℕ, ◌≤◌, true, false, List, ◌++◌, length, drop}
 use Rattle.osq_value.specs.declared.reading.Reading.{Reading}
-use Rattle.publisher_core.specs.declared.record.Piece.{Piece}
+use Rattle.publisher_core.specs.declared.record.ReadRecord.{ReadRecord}
 use Rattle.publisher_core.specs.Readings.{readings_of}
 use Rattle.publisher_core.specs.Standing.{is_at_end}
 use Rattle.publisher_core.specs.Stepping.{STEP_BYTES}
@@ -12,8 +12,8 @@ use Rattle.source_feeds.specs.Taking.{ReadsTo, Takes, TakesAll}
 -- the session are those of the lines between the kept offset and the new one; the step took what a step takes of the bytes behind the offset
 -- at which it began; at the source's end all lines of the session are taken; and before its end the step was full, or at least 16777216 bytes
 -- stood behind that offset.
-pub record IsStep (tells : Type 0) (before after : List ℕ) (old new : Feeding) (kept : ℕ) (given : List Piece) (most : ℕ) (readings : List Reading) : Type 0 where
-  pub pieces : List Piece
+pub record IsStep (tells : Type 0) (before after : List ℕ) (old new : Feeding) (kept : ℕ) (given : List ReadRecord) (most : ℕ) (readings : List Reading) : Type 0 where
+  pub pieces : List ReadRecord
   pub read : readings ≡ readings_of old.kind pieces
   pub fed : Fed tells before after new kept (given ++ pieces)
   pub few : length pieces ≤ most

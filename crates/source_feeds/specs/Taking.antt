@@ -3,7 +3,7 @@ use Rattle.std.specs.Prelude.{◌≡◌, ◌⊎◌, ℕ, ◌+◌, ◌≤◌, ◌
 use Rattle.osq_value.specs.declared.reading.Category.{Category}
 use Rattle.record_lines.specs.Lines.{HasNoFeed, lines_of}
 use Rattle.audit_records.specs.Groups.{groups_of}
-use Rattle.publisher_core.specs.declared.record.Piece.{Piece}
+use Rattle.publisher_core.specs.declared.record.ReadRecord.{ReadRecord}
 use Rattle.osq_value.specs.declared.source.SourceKind.{SourceKind}
 use Rattle.osq_value.specs.declared.source.SourceKind.TheVariants.{Audit, Changes, Tables}
 use Rattle.publisher_core.specs.Audit.{items_of}
@@ -38,7 +38,7 @@ TakesFront Changes from bytes lines = BeginWith (front_lines bytes) lines
 TakesFront Tables from bytes lines = BeginWith (front_lines bytes) lines
 
 -- of a source that has these bytes behind the offset `from` these are the records of the lines between `from` and `to`
-pub record ReadsTo (kind : SourceKind) (paths : List Category) (from : ℕ) (bytes : List ℕ) (pieces : List Piece) (to : ℕ) : Type 0 where
+pub record ReadsTo (kind : SourceKind) (paths : List Category) (from : ℕ) (bytes : List ℕ) (pieces : List ReadRecord) (to : ℕ) : Type 0 where
   pub lines : List (List ℕ)
   pub rest : List ℕ
   pub cut : bytes ≡ ended lines ++ rest
@@ -48,7 +48,7 @@ pub record ReadsTo (kind : SourceKind) (paths : List Category) (from : ℕ) (byt
 
 -- What a step takes of a source that has these bytes behind the offset `from`, where it may take `most` records: as many records of the
 -- first lines, or all lines of the first 16777216 bytes.
-pub record Takes (kind : SourceKind) (paths : List Category) (from : ℕ) (bytes : List ℕ) (most : ℕ) (pieces : List Piece) (to : ℕ) : Type 0 where
+pub record Takes (kind : SourceKind) (paths : List Category) (from : ℕ) (bytes : List ℕ) (most : ℕ) (pieces : List ReadRecord) (to : ℕ) : Type 0 where
   pub reads : ReadsTo kind paths from bytes pieces to
   pub few : length pieces ≤ most
   pub all : (length pieces ≡ most) ⊎ TakesFront kind from bytes reads.lines
@@ -63,7 +63,7 @@ pub record IsBehindLastFeed (kept : ℕ) (bytes : List ℕ) (place : ℕ) : Type
   pub last : (place ≡ kept) ⊎ ((kept < place) × (begun : List ℕ) × (front ≡ begun ++ 10 ∷ []))
 
 -- every line of these bytes behind the offset `kept` was taken: these are the records of all of them
-pub record TakesAll (kind : SourceKind) (paths : List Category) (kept : ℕ) (bytes : List ℕ) (pieces : List Piece) (to : ℕ) : Type 0 where
+pub record TakesAll (kind : SourceKind) (paths : List Category) (kept : ℕ) (bytes : List ℕ) (pieces : List ReadRecord) (to : ℕ) : Type 0 where
   pub within : kept ≤ length bytes
   pub gives : Gives kind paths kept (lines_of (drop kept bytes)) pieces
   pub size : to ≡ kept + length (ended (lines_of (drop kept bytes)))

@@ -3,7 +3,7 @@
 ghost use Rattle.std.specs.Prelude.{◌≡◌, ◌≢◌, ◌<◌, ℕ, [], length, List, true, false, All, Err, IfOk, OnOk, IfErr};
 ghost use Rattle.osq_outside.specs.Causes.{FaultHasCause};
 ghost use Rattle.publisher_core.specs.declared.error.StepError.{StepError};
-ghost use Rattle.publisher_core.specs.declared.record.Piece.{Piece};
+ghost use Rattle.publisher_core.specs.declared.record.ReadRecord.{ReadRecord};
 ghost use Rattle.publisher_core.specs.Standing.{is_at_end};
 ghost use Rattle.publisher_core.specs.Stepping.{GrowsBy};
 ghost use Rattle.source_feeds.specs.Feeding.{Fed, IsOpen, SameFeed};
@@ -117,7 +117,7 @@ impl Feed {
     /// where the source failed, or memory was wanting.
     pub fn step<S: Source>(&mut self, source: &mut S, most: u64) -> Result<ReadingList, StepError>
         requires begun { (self.old.reader.is_begun ≡ true) × (self.old.reader.is_spent ≡ false) }
-        ensures steps { (before : List ℕ) → (kept : ℕ) → (given : List Piece) → Fed S.tells before (S.left source.old) self.old kept given
+        ensures steps { (before : List ℕ) → (kept : ℕ) → (given : List ReadRecord) → Fed S.tells before (S.left source.old) self.old kept given
             → IfOk result (λ readings. IsStep S.tells before (S.left source.new) self.old self.new kept given most readings) }
         ensures each { IfOk result (λ readings. All IsReading readings) }
         ensures rise { IfOk result (λ readings. Rise self.old.reader.taken readings self.new.reader.taken) }

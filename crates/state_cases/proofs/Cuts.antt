@@ -7,7 +7,7 @@ use Rattle.entry_model.specs.declared.entry.Entry.TheVariants.{Acked}
 use Rattle.session_state.specs.Kept.{Counts, Kept}
 use Rattle.session_state.specs.Cut.{CutValue}
 use Rattle.session_state.specs.CutOf.{IsCutOf}
-use Rattle.session_state.specs.Stands.{Adds}
+use Rattle.session_state.specs.StateOf.{Adds}
 use Rattle.session_state.specs.Expiries.{expiries, AddsAll}
 use Rattle.session_state.proofs.Known.{known_alike}
 

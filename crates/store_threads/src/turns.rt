@@ -6,7 +6,7 @@ ghost use Rattle.event_store.specs.Contents.{rows_in};
 ghost use Rattle.turn_lock.specs.Words.{IsAtRest, IsSame};
 ghost use Rattle.shared_store.specs.Words.{IsSeatOf};
 ghost use Rattle.shared_store.specs.Seats.{own_count};
-ghost use Rattle.shared_store.specs.Notes.{IsGiven};
+ghost use Rattle.shared_store.specs.Notes.{WasGiven};
 ghost use Rattle.shared_store.specs.Turns.{notes_of};
 
 use crate::given::reading;
@@ -50,7 +50,7 @@ pub(crate) fn claimed<R: Wait>(
 ) -> Result<Cut, NoMemory>
     requires { IsSeatOf store.now seat.old × IsAtRest seat.old }
     ensures seat { IsSame seat.old seat.new × IsAtRest seat.new }
-    ensures given { IfOk result (λ cut. IsGiven cut (notes_of seat.new)) }
+    ensures given { IfOk result (λ cut. WasGiven cut (notes_of seat.new)) }
 {
     match store.claim_cut(rt, alloc, seat)? {
         None => Err(NoMemory),
@@ -97,7 +97,7 @@ pub(crate) fn commit<R: Wait>(
     cut: Cut,
 ) -> Result<Outcome, NoMemory>
     requires seat { IsSeatOf store.now seat.old × IsAtRest seat.old }
-    requires given { IsGiven cut (notes_of seat.old) }
+    requires given { WasGiven cut (notes_of seat.old) }
     ensures { IsSame seat.old seat.new × IsAtRest seat.new }
 {
     let rows = answer(alloc, &cut)?;

@@ -1,5 +1,5 @@
 use Rattle.std.proofs.Common.{List, ℕ, subst, ◌∙◌}
-use Rattle.daemon_rounds.specs.Adding.{Brings}
+use Rattle.daemon_rounds.specs.Adding.{AddsEntries}
 use Rattle.daemon_rounds.specs.Appending.{entries_of}
 use Rattle.daemon_rounds.proofs.Turned.{going_on, rising_on}
 use Rattle.daemon_rounds.proofs.turning.take_step.Goals as goal
@@ -12,7 +12,7 @@ pub returns-in-Ok-append_all-clause-gave : goal.returns-in-Ok-append_all-clause-
 returns-in-Ok-append_all-clause-gave g c = (
   c.in-Ok.readings,
   record { steps = c.in-Ok.ensures.steps; each = c.in-Ok.ensures.each; rise = c.in-Ok.ensures.rise; same = c.in-Ok.ensures.same },
-  subst (λ (source : List ℕ). Brings c.args.state.now (entries_of source c.args.state.now.counts.moment c.in-Ok.readings) c.append_all.new.state) (c.name.ensures ∙ c.in-Ok.ensures.source.0) c.in-Ok-append_all.ensures.appended,
+  subst (λ (source : List ℕ). AddsEntries c.args.state.now (entries_of source c.args.state.now.counts.moment c.in-Ok.readings) c.append_all.new.state) (c.name.ensures ∙ c.in-Ok.ensures.source.0) c.in-Ok-append_all.ensures.appended,
 )
 
 pub returns-in-Ok-append_all-clause-going : goal.returns-in-Ok-append_all-clause-going

@@ -4,15 +4,15 @@ use Rattle.osq_program.proofs.Explainings.{explained_partly, explained_whole, pl
 use Rattle.osq_program.proofs.explain.run_explain.Goals as goal
 
 pub returns-in-Err-clause-does : goal.returns-in-Err-clause-does
-returns-in-Err-clause-does g c = unexplained _ _ c.in-Err.status _ c.refuse.ensures c.in-Err.ensures.cause (λ told. refl)
+returns-in-Err-clause-does g c = unexplained _ _ c.in-Err.status _ c.refuse.ensures c.in-Err.ensures.cause (λ seen. refl)
 
 pub returns-in-Ok-write_all-clause-does : goal.returns-in-Ok-write_all-clause-does
 returns-in-Ok-write_all-clause-does g c =
     explained_whole _ _ c.in-Ok-shown.shown (plan_shown _ (query_of c.in-Ok.query) c.in-Ok-shown.shown c.in-Ok.ensures.accepted c.in-Ok.ensures.query c.in-Ok-shown.ensures)
-    (λ told. c.in-Ok-write_all.ensures.bytes told ∙ ap (λ (l : List ℕ). g.O.Sink.written c.args.outside.now.results ++ l) c.as_slice.ensures) (λ told. refl)
+    (λ seen. c.in-Ok-write_all.ensures.bytes seen ∙ ap (λ (l : List ℕ). g.O.Sink.written c.args.outside.now.results ++ l) c.as_slice.ensures) (λ seen. refl)
 
 pub returns-clause-does : goal.returns-clause-does
 returns-clause-does g c =
     explained_partly _ _ c.in-Ok-shown.shown (plan_shown _ (query_of c.in-Ok.query) c.in-Ok-shown.shown c.in-Ok.ensures.accepted c.in-Ok.ensures.query c.in-Ok-shown.ensures)
-    (λ told. let f = c.in-Err-write_all.ensures.bytes told in (f.0, f.1 ∙ ap (λ (l : List ℕ). g.O.Sink.written c.args.outside.now.results ++ take f.0 l) c.as_slice.ensures))
+    (λ seen. let f = c.in-Err-write_all.ensures.bytes seen in (f.0, f.1 ∙ ap (λ (l : List ℕ). g.O.Sink.written c.args.outside.now.results ++ take f.0 l) c.as_slice.ensures))
     c.in-Err-write_all.ensures.cause.failed _ c.refuse-in-Err-write_all.ensures

@@ -1,7 +1,7 @@
 use Rattle.std.proofs.Common.{◌≡◌, ℕ, List, Err, refl, ap, sym, ◌∙◌, subst, inl, inr, arith}
 use Rattle.pack_rules.specs.declared.schedule.Form.{Form}
 use Rattle.daemon_rounds.specs.Keeping.{IsWhole}
-use Rattle.daemon_rounds.specs.Telling.{AreTold}
+use Rattle.daemon_rounds.specs.Telling.{AreLinesOf}
 use Rattle.daemon_rounds.specs.Ticking.{asks_again}
 use Rattle.daemon_rounds.specs.declared.error.FinishError.{FinishError}
 use Rattle.daemon_rounds.specs.declared.error.FinishError.TheVariants as finish
@@ -64,7 +64,7 @@ returns-in-Ok-finish_tick-clause-done g c =
       kept = finished.kept;
       told = λ told.
           let (lines, are, is) = finished.told told in
-          (lines, subst (λ (before : Form). AreTold c.args.setup.now.host.identifier before finished.settled.tail lines) c.form-form.ensures (subst (λ (host : List ℕ). AreTold host c.form-form.result finished.settled.tail lines) c.as_str-host.ensures are), is);
+          (lines, subst (λ (before : Form). AreLinesOf c.args.setup.now.host.identifier before finished.settled.tail lines) c.form-form.ensures (subst (λ (host : List ℕ). AreLinesOf host c.form-form.result finished.settled.tail lines) c.as_str-host.ensures are), is);
     }
 
 pub returns-in-Ok-finish_tick-clause-ready : goal.returns-in-Ok-finish_tick-clause-ready
@@ -105,7 +105,7 @@ returns-in-Err-finish_tick-clause-partly g c told refused is error =
       kept = partly.kept;
       lines = lines;
       count = count;
-      told = subst (λ (before : Form). AreTold c.args.setup.now.host.identifier before partly.settled.tail lines) c.form-form.ensures (subst (λ (host : List ℕ). AreTold host c.form-form.result partly.settled.tail lines) c.as_str-host.ensures are);
+      told = subst (λ (before : Form). AreLinesOf c.args.setup.now.host.identifier before partly.settled.tail lines) c.form-form.ensures (subst (λ (host : List ℕ). AreLinesOf host c.form-form.result partly.settled.tail lines) c.as_str-host.ensures are);
       written = written;
     }
 

@@ -2,10 +2,10 @@ use Rattle.std.proofs.Common.{◌≡◌, Bool, cond, List, [], ◌∷◌, ◌++�
 use Rattle.std.proofs.lemmas.List.{append-nil}
 use Rattle.std.proofs.lemmas.Bool.{true≢false}
 use Rattle.audit_records.specs.declared.line.AuditLine.{AuditLine}
-use Rattle.audit_records.specs.Groups.{is_ended, Stands as StandsForGroups}
+use Rattle.audit_records.specs.Groups.{is_ended, HasGrouped as StandsForGroups}
 use Rattle.publisher_core.specs.declared.gathering.AuditRecord.{AuditRecord}
 use Rattle.publisher_core.specs.AuditParts.{Item, lines_in, groups_in}
-use Rattle.publisher_core.specs.Gathered.{ended_records, HoldsNothing, Keeps, Stands}
+use Rattle.publisher_core.specs.Gathered.{ended_records, HoldsNothing, Keeps, HasGathered}
 use Rattle.publisher_core.proofs.Steps.{own_some, own_none, lines_hold, parts_ended, groups_ended, all_given, on_ok, on_both, gave_all}
 use Rattle.publisher_core.proofs.gathering.Gathering.end_own.Goals as goal
 
@@ -31,6 +31,6 @@ returns-in-None-clause-ok c given items keeps =
     let old = c.args.self.now in
     let unended = own_none old.builder c.in-None.ensures.own in
     let same : c.finish_own.new.self ≡ old.builder = c.finish_own.ensures.held ∙ ap (λ (b : Bool). cond b [] old.builder) unended in
-    let stands : Stands given items old = record { keeps = keeps; unended = unended } in
-    let at_new = subst (λ (ls : List AuditLine). Stands given items (record { builder = ls; holds = old.holds; last = old.last; inside = old.inside; behind = old.behind })) (sym same) stands in
-    ([], (sym (append-nil c.args.records.now.items), subst (λ (rs : List AuditRecord). Stands rs items (record { builder = c.finish_own.new.self; holds = old.holds; last = old.last; inside = old.inside; behind = old.behind })) (sym (append-nil given)) at_new))
+    let stands : HasGathered given items old = record { keeps = keeps; unended = unended } in
+    let at_new = subst (λ (ls : List AuditLine). HasGathered given items (record { builder = ls; holds = old.holds; last = old.last; inside = old.inside; behind = old.behind })) (sym same) stands in
+    ([], (sym (append-nil c.args.records.now.items), subst (λ (rs : List AuditRecord). HasGathered rs items (record { builder = c.finish_own.new.self; holds = old.holds; last = old.last; inside = old.inside; behind = old.behind })) (sym (append-nil given)) at_new))

@@ -4,7 +4,7 @@ use Rattle.audit_records.specs.Runs.{AreWholeRuns}
 use Rattle.publisher_core.specs.declared.gathering.AuditRecord.{AuditRecord}
 use Rattle.publisher_core.specs.declared.gathering.Gathering.{Gathering}
 use Rattle.publisher_core.specs.AuditParts.{Item, AreRecordsOf, lines_in, groups_in}
-use Rattle.publisher_core.specs.Gathered.{ended_records, HoldsNothing, Stands}
+use Rattle.publisher_core.specs.Gathered.{ended_records, HoldsNothing, HasGathered}
 use Rattle.publisher_core.proofs.Steps.{lines_hold, no_lines_hold, nothing_kept, nothing_stands, parts_ended, groups_ended, on_ok, on_both, gave_all, whole_some, whole_none}
 use Rattle.publisher_core.proofs.gathering.Gathering.finish.Goals as goal
 
@@ -14,7 +14,7 @@ returns-in-Some-clause-ok c =
     let gained : List AuditRecord = ended_records old c.in-Some.group in
     let group = whole_some old.builder c.in-Some.group c.in-Some.ensures.group in
     let nothing = gave_all c.give.result c.give.new.self c.give.ensures.behind c.give.ensures.inside c.give.ensures.holds (c.give.ensures.builder ∙ c.finish.ensures.empty) in
-    on_ok c.give.result (λ (p : (c.give.new.records.items ≡ c.args.records.now.items ++ gained) × HoldsNothing c.give.new.self) (given : List AuditRecord) (items : List Item) (stands : Stands given items old).
+    on_ok c.give.result (λ (p : (c.give.new.records.items ≡ c.args.records.now.items ++ gained) × HoldsNothing c.give.new.self) (given : List AuditRecord) (items : List Item) (stands : HasGathered given items old).
     let held = lines_hold given items old stands.keeps group.1 in
     let cut = parts_ended given items old c.in-Some.group stands.keeps held group.0 in
     let runs = c.in-Some.ensures.runs (groups_in given) (lines_in items) stands.keeps.groups in

@@ -1,16 +1,16 @@
 use Rattle.std.proofs.Common.{List, [], ◌∷◌, ◌++◌, Some, sym, subst, ◌∙◌}
 use Rattle.std.specs.Option.{option_to_list}
 use Rattle.audit_records.specs.declared.line.AuditLine.{AuditLine}
-use Rattle.audit_records.specs.Groups.{Stands as StandsForGroups}
+use Rattle.audit_records.specs.Groups.{HasGrouped as StandsForGroups}
 use Rattle.publisher_core.specs.declared.gathering.AuditRecord.{AuditRecord}
 use Rattle.publisher_core.specs.AuditParts.{Item, lines_in, groups_in}
-use Rattle.publisher_core.specs.Gathered.{Stands, Closes}
+use Rattle.publisher_core.specs.Gathered.{HasGathered, Closes}
 use Rattle.publisher_core.proofs.Steps.{settled, on_ok, gains_more}
 use Rattle.publisher_core.proofs.gathering.Gathering.take_line.Goals as goal
 
 pub returns-clause-ok : goal.returns-clause-ok
 returns-clause-ok c =
-    on_ok c.end_own.result (λ (ends : Closes c.settle.new.self c.end_own.new.self c.settle.new.records.items c.end_own.new.records.items) (given : List AuditRecord) (items : List Item) (stands : Stands given items c.args.self.now).
+    on_ok c.end_own.result (λ (ends : Closes c.settle.new.self c.end_own.new.self c.settle.new.records.items c.end_own.new.records.items) (given : List AuditRecord) (items : List Item) (stands : HasGathered given items c.args.self.now).
     let item : Item = record { line = Some c.args.line; end = c.args.end } in
     let lines = c.settle.ensures.builder ∙ c.in-Ok.ensures.held in
     let groups = subst (λ (ls : List AuditLine). StandsForGroups (groups_in given ++ option_to_list c.in-Ok.before) (lines_in items ++ c.args.line ∷ []) ls) (sym c.settle.ensures.builder)

@@ -3,13 +3,13 @@ use Rattle.record_lines.specs.declared.line.Cut.{Cut}
 use Rattle.record_lines.specs.declared.partial.Partial.{Partial}
 use Rattle.record_lines.specs.Lines.{rest_of}
 use Rattle.record_lines.specs.Rests.{IsRest}
-use Rattle.record_lines.specs.Cutting.{Cutter, Stands}
+use Rattle.record_lines.specs.Cutting.{Cutter, HasCut}
 use Rattle.record_lines.proofs.Standing.{stands_ended}
 use Rattle.record_lines.proofs.cutter.LineCutter.end_line.Goals as goal
 
 pub returns-clause-ok : goal.returns-clause-ok
 returns-clause-ok c start stream stands plain =
-    let at_view = subst (λ (v : Cutter). Stands v start stream) (sym c.self.view_is) stands in
+    let at_view = subst (λ (v : Cutter). HasCut v start stream) (sym c.self.view_is) stands in
     let rest = c.in_ok-grow.ensures.ok _ at_view.rest in
     let line = c.into_cut.ensures _ (subst (λ (p : Partial). IsRest c.self.inside.limit (rest_of stream ++ c.args.front.now) p) (sym c.replace-line.ensures.value) rest) in
     let full : is_ok c.append.result ≡ true = c.append.ensures.succeeds (

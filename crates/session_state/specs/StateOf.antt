@@ -22,7 +22,7 @@ pub record HasValues (entries : List Entry) (state : Kept) : Type 0 where
   pub ticked : has_ticked entries ≡ state.ticked
 
 -- the state stands for these entries, added to any legal list with this summary
-pub record Stands (base : Restored) (added : List Entry) (state : Kept) : Type 0 where
+pub record IsStateOf (base : Restored) (added : List Entry) (state : Kept) : Type 0 where
   pub values : (before : List Entry) → Legal before → summary before ≡ base → HasValues (before ++ added) state
   pub marks : state.marks ≡ marks_from base.position added
   pub position : state.counts.position ≡ base.position + length added
@@ -39,12 +39,12 @@ pub record Moves (old : Kept) (entry : Entry) (new : Kept) : Type 0 where
 -- the new state stands for one entry more, and knows each cut that the old one knew
 pub record Adds (old : Kept) (entry : Entry) (new : Kept) : Type 0 where
   pub moves : Moves old entry new
-  pub stands : (base : Restored) (added : List Entry) → Stands base added old → Stands base (added ++ entry ∷ []) new
+  pub stands : (base : Restored) (added : List Entry) → IsStateOf base added old → IsStateOf base (added ++ entry ∷ []) new
   pub cuts : (cut : CutValue) → IsCutOf old cut → IsCutOf new cut
 
 -- the state of a session that opens over these values
 pub record Begins (restored : Restored) (state : Kept) : Type 0 where
-  pub stands : Stands restored (Opened (restored.sessions + 1) ∷ []) state
+  pub stands : IsStateOf restored (Opened (restored.sessions + 1) ∷ []) state
   pub counts : state.counts ≡ counts_next (counts_of restored) (Opened (restored.sessions + 1))
   pub image : Holds restored state.image
   pub schedule : state.schedule ≡ no_schedule

@@ -3,7 +3,7 @@ use Rattle.std.specs.Prelude.{ℕ, List, Option}
 use Rattle.entry_model.specs.declared.entry.Entry.{Entry}
 
 -- Of each object whether it tells what it holds, what that was before the run and is behind it, and whether it failed in between.
-pub record Told : Type 1 where
+pub record Observed : Type 1 where
   pub files_tell : Type 0
   pub file : List ℕ → Option (List ℕ)  -- the bytes of each file
   pub files_failed : Type 0
