@@ -2,16 +2,13 @@
 
 ghost use Rattle.std.specs.Prelude.{◌≡◌, ℕ, ◌∷◌, [], true, map, length, IfOk};
 ghost use Rattle.osq_config.specs.declared.config.Pack.{Pack};
-ghost use Rattle.osq_outside.specs.Causes.{Rose};
-ghost use Rattle.daemon_rounds.specs.Rounding.{FailsAt};
-ghost use Rattle.replay_rounds.specs.Running.{ReadsAll};
 ghost use Rattle.osq_program.specs.Answers.{IsUsageStatus};
 ghost use Rattle.osq_program.specs.Checking.{IsCheck, IsListing, all_found, checked_host};
 ghost use Rattle.schedule_notes.specs.Notes.{AreNotes};
 
 use crate::configuration::configured;
 use crate::link::Link;
-use crate::outside::Outside;
+use crate::outside::{Observes, Outside};
 use crate::schedule_lines::lines_of;
 use crate::setup::host_of;
 use crate::status::Status;
@@ -82,27 +79,7 @@ pub(crate) fn run_check<S: Source, O: Sink, F: Files, C: Clock, K: Keeper, L: Li
     ensures sources { outside.new.sources ≡ outside.old.sources }
     ensures clock { outside.new.clock ≡ outside.old.clock }
     ensures keeper { outside.new.keeper ≡ outside.old.keeper }
-    ensures does { IsCheck (words.now) (record {
-      files_tell = F.tells;
-      file = F.file outside.old.files;
-      files_failed = Rose (F.faults outside.old.files) (F.faults outside.new.files);
-      keeper_tells = K.tells;
-      kept_before = K.kept outside.old.keeper;
-      kept_after = K.kept outside.new.keeper;
-      keeper_failed = Rose (K.faults outside.old.keeper) (K.faults outside.new.keeper);
-      reads = λ moment. C.reads outside.old.clock moment outside.new.clock;
-      has_read = λ readings. ReadsAll C.reads outside.old.clock readings outside.new.clock;
-      source_tells = S.tells;
-      all_bytes = map S.left outside.old.sources.items;
-      failed_at = λ place. FailsAt S.faults place outside.old.sources.items outside.new.sources.items;
-      sink_tells = O.tells;
-      results_before = O.written outside.old.results;
-      results_after = O.written outside.new.results;
-      results_failed = Rose (O.faults outside.old.results) (O.faults outside.new.results);
-      status_before = O.written outside.old.status;
-      status_after = O.written outside.new.status;
-      status_failed = Rose (O.faults outside.old.status) (O.faults outside.new.status);
-    }) result }
+    ensures does { IsCheck (words.now) (⟦<Outside<S, O, F, C, K, L> as Observes>⟧.observed outside.old outside.new) result }
 {
     let made = match configured(alloc, &mut outside.files, &words.config) {
         Ok(made) => made,

@@ -1,9 +1,6 @@
 //! What is done for the words of each command.
 
-ghost use Rattle.std.specs.Prelude.{◌≡◌, ℕ, List, [], ◌∷◌, true, None, vec_len, map, length};
-ghost use Rattle.osq_outside.specs.Causes.{Rose};
-ghost use Rattle.daemon_rounds.specs.Rounding.{FailsAt};
-ghost use Rattle.replay_rounds.specs.Running.{ReadsAll};
+ghost use Rattle.std.specs.Prelude.{◌≡◌, ℕ, List, [], ◌∷◌, true, None, vec_len, length};
 ghost use Rattle.program_words.specs.Bounds.{IsBounded, RunBounds};
 ghost use Rattle.program_words.specs.declared.command.CheckWords.{CheckWords};
 ghost use Rattle.program_words.specs.declared.command.QueryWords.{QueryWords};
@@ -15,7 +12,7 @@ ghost use Rattle.osq_program.specs.Doing.{MeetsCommand, DoesQuery};
 use crate::check::run_check;
 use crate::explain::run_explain;
 use crate::link::Link;
-use crate::outside::Outside;
+use crate::outside::{Observes, Outside};
 use crate::query::run_query;
 use crate::replay::run_replay;
 use crate::status::Status;
@@ -38,27 +35,7 @@ fn do_query<S: Source, O: Sink, F: Files, C: Clock, K: Keeper, L: Link>(
     ensures sources { vec_len outside.new.sources ≡ vec_len outside.old.sources }
     ensures files { words.now.config ≡ None → outside.new.files ≡ outside.old.files }
     ensures unread { words.now.explain ≡ true → outside.new ≡ record outside.old { results = outside.new.results; status = outside.new.status } }
-    ensures does { DoesQuery words.now (record {
-      files_tell = F.tells;
-      file = F.file outside.old.files;
-      files_failed = Rose (F.faults outside.old.files) (F.faults outside.new.files);
-      keeper_tells = K.tells;
-      kept_before = K.kept outside.old.keeper;
-      kept_after = K.kept outside.new.keeper;
-      keeper_failed = Rose (K.faults outside.old.keeper) (K.faults outside.new.keeper);
-      reads = λ moment. C.reads outside.old.clock moment outside.new.clock;
-      has_read = λ readings. ReadsAll C.reads outside.old.clock readings outside.new.clock;
-      source_tells = S.tells;
-      all_bytes = map S.left outside.old.sources.items;
-      failed_at = λ place. FailsAt S.faults place outside.old.sources.items outside.new.sources.items;
-      sink_tells = O.tells;
-      results_before = O.written outside.old.results;
-      results_after = O.written outside.new.results;
-      results_failed = Rose (O.faults outside.old.results) (O.faults outside.new.results);
-      status_before = O.written outside.old.status;
-      status_after = O.written outside.new.status;
-      status_failed = Rose (O.faults outside.old.status) (O.faults outside.new.status);
-    }) result }
+    ensures does { DoesQuery words.now (⟦<Outside<S, O, F, C, K, L> as Observes>⟧.observed outside.old outside.new) result }
 {
     if words.explain {
         return run_explain(alloc, words.text.as_str(), outside);
@@ -83,27 +60,7 @@ pub(crate) fn run_command<S: Source, O: Sink, F: Files, C: Clock, K: Keeper, L: 
         → outside.new ≡ record outside.old { results = outside.new.results; status = outside.new.status } }
     ensures check_unread { (check : CheckWords) → words.now ≡ AsksCheck check
         → (outside.new.sources ≡ outside.old.sources) × (outside.new.clock ≡ outside.old.clock) × (outside.new.keeper ≡ outside.old.keeper) }
-    ensures does { MeetsCommand words.now (record {
-      files_tell = F.tells;
-      file = F.file outside.old.files;
-      files_failed = Rose (F.faults outside.old.files) (F.faults outside.new.files);
-      keeper_tells = K.tells;
-      kept_before = K.kept outside.old.keeper;
-      kept_after = K.kept outside.new.keeper;
-      keeper_failed = Rose (K.faults outside.old.keeper) (K.faults outside.new.keeper);
-      reads = λ moment. C.reads outside.old.clock moment outside.new.clock;
-      has_read = λ readings. ReadsAll C.reads outside.old.clock readings outside.new.clock;
-      source_tells = S.tells;
-      all_bytes = map S.left outside.old.sources.items;
-      failed_at = λ place. FailsAt S.faults place outside.old.sources.items outside.new.sources.items;
-      sink_tells = O.tells;
-      results_before = O.written outside.old.results;
-      results_after = O.written outside.new.results;
-      results_failed = Rose (O.faults outside.old.results) (O.faults outside.new.results);
-      status_before = O.written outside.old.status;
-      status_after = O.written outside.new.status;
-      status_failed = Rose (O.faults outside.old.status) (O.faults outside.new.status);
-    }) result }
+    ensures does { MeetsCommand words.now (⟦<Outside<S, O, F, C, K, L> as Observes>⟧.observed outside.old outside.new) result }
 {
     match words {
         CommandWords::Replay(words) => run_replay(alloc, words, outside),

@@ -1,9 +1,6 @@
 //! The flag `--explain` of `query`: the text that shows the plan of a query.
 
-ghost use Rattle.std.specs.Prelude.{◌≡◌, ℕ, List, [], ◌∷◌, map, IfOk};
-ghost use Rattle.osq_outside.specs.Causes.{Rose};
-ghost use Rattle.daemon_rounds.specs.Rounding.{FailsAt};
-ghost use Rattle.replay_rounds.specs.Running.{ReadsAll};
+ghost use Rattle.std.specs.Prelude.{◌≡◌, ℕ, List, [], ◌∷◌, IfOk};
 ghost use Rattle.osq_program.specs.Answers.{IsUsageStatus};
 ghost use Rattle.osq_program.specs.Explaining.{IsExplain};
 ghost use Rattle.sql_query.specs.Resolved.{query_of};
@@ -11,7 +8,7 @@ ghost use Rattle.sql_planner.specs.Explained.{explained};
 ghost use Rattle.sql_planner.specs.Plans.{planned};
 
 use crate::link::Link;
-use crate::outside::Outside;
+use crate::outside::{Observes, Outside};
 use crate::query::asked;
 use crate::status::Status;
 use crate::stop::refuse;
@@ -38,27 +35,7 @@ pub(crate) fn run_explain<S: Source, O: Sink, F: Files, C: Clock, K: Keeper, L: 
 ) -> Status
     ensures usage { ¬ IsUsageStatus result }
     ensures unread { outside.new ≡ record outside.old { results = outside.new.results; status = outside.new.status } }
-    ensures does { IsExplain (record { text = text.now }) (record {
-      files_tell = F.tells;
-      file = F.file outside.old.files;
-      files_failed = Rose (F.faults outside.old.files) (F.faults outside.new.files);
-      keeper_tells = K.tells;
-      kept_before = K.kept outside.old.keeper;
-      kept_after = K.kept outside.new.keeper;
-      keeper_failed = Rose (K.faults outside.old.keeper) (K.faults outside.new.keeper);
-      reads = λ moment. C.reads outside.old.clock moment outside.new.clock;
-      has_read = λ readings. ReadsAll C.reads outside.old.clock readings outside.new.clock;
-      source_tells = S.tells;
-      all_bytes = map S.left outside.old.sources.items;
-      failed_at = λ place. FailsAt S.faults place outside.old.sources.items outside.new.sources.items;
-      sink_tells = O.tells;
-      results_before = O.written outside.old.results;
-      results_after = O.written outside.new.results;
-      results_failed = Rose (O.faults outside.old.results) (O.faults outside.new.results);
-      status_before = O.written outside.old.status;
-      status_after = O.written outside.new.status;
-      status_failed = Rose (O.faults outside.old.status) (O.faults outside.new.status);
-    }) result }
+    ensures does { IsExplain (record { text = text.now }) (⟦<Outside<S, O, F, C, K, L> as Observes>⟧.observed outside.old outside.new) result }
 {
     let query = match asked(alloc, text) {
         Ok(query) => query,

@@ -1,10 +1,8 @@
 //! The command `query`: the answer to one text over the kept list and what its sources have behind it.
 
-ghost use Rattle.std.specs.Prelude.{◌≡◌, List, ◌∷◌, [], ◌++◌, ℕ, vec_len, length, map, None, Some, IfOk, IfErr, OnOk};
+ghost use Rattle.std.specs.Prelude.{◌≡◌, List, ◌∷◌, [], ◌++◌, ℕ, vec_len, length, None, Some, IfOk, IfErr, OnOk};
 ghost use Rattle.osq_outside.specs.Causes.{Rose};
 ghost use Rattle.program_words.specs.Bounds.{RunBounds};
-ghost use Rattle.daemon_rounds.specs.Rounding.{FailsAt};
-ghost use Rattle.replay_rounds.specs.Running.{ReadsAll};
 ghost use Rattle.osq_program.specs.Answers.{no_causes, IsCaused, IsDoneStatus, IsUsageStatus};
 ghost use Rattle.osq_program.specs.Querying.{IsQuery, IsRefusedAt, Writes, labelled_lines, row_lines};
 ghost use Rattle.sql_query.specs.Answers.{result_names};
@@ -14,7 +12,7 @@ ghost use Rattle.sql_texts.specs.Texts.{query_in};
 
 use crate::ending::{answer_to, ended};
 use crate::link::Link;
-use crate::outside::Outside;
+use crate::outside::{Observes, Outside};
 use crate::status::Status;
 use crate::stop::{refuse, refuse_unconfigured};
 use crate::watching::watched_by;
@@ -112,27 +110,7 @@ pub(crate) fn run_query<S: Source, O: Sink, F: Files, C: Clock, K: Keeper, L: Li
     ensures ledger { outside.new.ledger ≡ outside.old.ledger }
     ensures sources { vec_len outside.new.sources ≡ vec_len outside.old.sources }
     ensures files { words.now.config ≡ None → outside.new.files ≡ outside.old.files }
-    ensures does { IsQuery words.now (record {
-      files_tell = F.tells;
-      file = F.file outside.old.files;
-      files_failed = Rose (F.faults outside.old.files) (F.faults outside.new.files);
-      keeper_tells = K.tells;
-      kept_before = K.kept outside.old.keeper;
-      kept_after = K.kept outside.new.keeper;
-      keeper_failed = Rose (K.faults outside.old.keeper) (K.faults outside.new.keeper);
-      reads = λ moment. C.reads outside.old.clock moment outside.new.clock;
-      has_read = λ readings. ReadsAll C.reads outside.old.clock readings outside.new.clock;
-      source_tells = S.tells;
-      all_bytes = map S.left outside.old.sources.items;
-      failed_at = λ place. FailsAt S.faults place outside.old.sources.items outside.new.sources.items;
-      sink_tells = O.tells;
-      results_before = O.written outside.old.results;
-      results_after = O.written outside.new.results;
-      results_failed = Rose (O.faults outside.old.results) (O.faults outside.new.results);
-      status_before = O.written outside.old.status;
-      status_after = O.written outside.new.status;
-      status_failed = Rose (O.faults outside.old.status) (O.faults outside.new.status);
-    }) result }
+    ensures does { IsQuery words.now (⟦<Outside<S, O, F, C, K, L> as Observes>⟧.observed outside.old outside.new) result }
 {
     let text = words.text.as_str();
     let query = match asked(alloc, text) {
