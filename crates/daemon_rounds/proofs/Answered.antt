@@ -14,7 +14,7 @@ use Rattle.entry_model.specs.declared.entry.Entry.{Entry}
 use Rattle.entry_model.specs.declared.entry.Entry.TheVariants.{Committed}
 use Rattle.entry_model.specs.declared.restored.Restored.{Restored}
 use Rattle.entry_model.specs.Runs.{with_batch}
-use Rattle.entry_model.specs.Schedules.{IsRunnable}
+use Rattle.pack_rules.specs.Sound.{IsRunnable}
 use Rattle.query_cursors.specs.Due as cursors
 use Rattle.session_state.specs.declared.state.CommitRefusal.{CommitRefusal}
 use Rattle.session_state.specs.declared.state.CommitRefusal.TheVariants.{Superseded, NumbersSpent}

@@ -11,7 +11,7 @@ use Rattle.sql_texts.specs.Meaning.{is_accepted, names_evented}
 use Rattle.pack_rules.specs.declared.schedule.QueryKey.{QueryKey}
 use Rattle.entry_model.specs.declared.entry.Entry.TheVariants.{Opened, Configured, Ticked, Appended, TableSet, Expired, Committed, Acked}
 use Rattle.entry_model.specs.Views.{is_evented_table, owed_floor}
-use Rattle.entry_model.specs.Schedules.{IsRunnable, IsSound}
+use Rattle.pack_rules.specs.Sound.{IsRunnable, IsSound}
 use Rattle.entry_model.proofs.Follows.{Legal-push}
 use Rattle.entry_model.specs.Legal.{IsEvent, Legal}
 use Rattle.entry_model.specs.Verdicts.{change, log, bare, started, one_change, five_changes, PlainVerdicts, asked, asking, before_batch, answer, answered, second, AskedVerdicts, Verdicts}

@@ -1,5 +1,5 @@
 -- Every schedule of a configuration whose numbers are within their bounds is sound.
-use Rattle.std.proofs.Common.{◌≡◌, ℕ, refl, sym, ap, ◌∙◌, subst, Bool, true, false, cond, List, [], ◌∷◌, flat_map, All, Option, Some, None, is_some, find, arith}
+use Rattle.std.proofs.Common.{◌≡◌, ℕ, refl, sym, ap, ◌∙◌, subst, Bool, true, false, cond, List, [], ◌∷◌, flat_map, All, Option, Some, None, find, arith}
 use Rattle.std.proofs.lemmas.List.Elements.{All-nil, All-cons, All-head, All-tail, All-append}
 use Rattle.std.proofs.lemmas.Slice.Eq.{bytes_eq-Decides}
 use Rattle.osq_config.specs.declared.config.Config.{Config}
@@ -9,6 +9,7 @@ use Rattle.osq_config.specs.Bounds.{IsBoundedEntry, IsBoundedPack, IsBounded}
 use Rattle.sql_query.specs.Resolved.{QueryTree}
 use Rattle.sql_query.specs.Answers.{is_evented_query}
 use Rattle.sql_texts.specs.Texts.{query_in}
+use Rattle.sql_texts.specs.Meaning.{is_accepted, is_evented_if, is_query, names_evented}
 use Rattle.pack_rules.specs.declared.host.Host.{Host}
 use Rattle.pack_rules.specs.declared.schedule.Mode.TheVariants.{Evented}
 use Rattle.pack_rules.specs.declared.schedule.Scheduled.{Scheduled}
@@ -17,7 +18,7 @@ use Rattle.pack_rules.specs.ByName.{names_rise, has_name}
 use Rattle.pack_rules.specs.Hosts.{rules_hold}
 use Rattle.pack_rules.specs.Offers.{mode_of, mode_in, taken_mode, named, own_query, pack_query, own_queries, entries_in_pack, pack_queries, all_pack_queries, name_in_pack, offered}
 use Rattle.pack_rules.specs.Schedules.{IsScheduleOf}
-use Rattle.pack_rules.specs.Sound.{is_evented_in, IsRunnable, IsSound}
+use Rattle.pack_rules.specs.Sound.{IsRunnable, IsSound}
 use Rattle.pack_rules.proofs.Counted.{offered_count, rising_count}
 use Rattle.pack_rules.proofs.Rising.{behind_first, other_name, tail_rises}
 
@@ -33,12 +34,13 @@ evented_names false false h = absurd (let no : ⊥ = cc in no)
 
 named_runnable : (name : List ℕ) (entry : QueryEntry) → IsBoundedEntry entry → (query : Option QueryTree) → query_in entry.text ≡ query
     → All IsRunnable (named name entry (mode_in entry.is_snapshot query))
+unfolding is_accepted names_evented
 named_runnable name entry ranged None is = All-nil IsRunnable
 named_runnable name entry ranged (Some query) is =
     All-cons IsRunnable _ []
     (record {
-      accepted = ap is_some is;
-      evented = λ mode. ap is_evented_in is ∙ evented_names entry.is_snapshot (is_evented_query query) mode;
+      accepted = ap is_query is;
+      evented = λ mode. ap is_evented_if is ∙ evented_names entry.is_snapshot (is_evented_query query) mode;
       at_least = ranged.interval.0;
       at_most = ranged.interval.1;
     })
@@ -96,7 +98,7 @@ schedule_sound config host found schedule ranged is = record {
       let all = offered_count config host found in
       let most = ranged.count in
       omega (arith, offers, all, most);
-  rise = is.queries.rise;
+  order = is.queries.rise;
   runnable =
       all_found IsRunnable schedule.queries is.queries.rise
       (λ q there. found_holds IsRunnable (has_name q.key.name) (offered config host found) q (offered_runnable config host found ranged) (sym (is.queries.first q.key.name) ∙ there));

@@ -14,7 +14,7 @@ use Rattle.pack_rules.specs.Keys.{same_key}
 use Rattle.entry_model.specs.declared.restored.Run.{Run}
 use Rattle.entry_model.specs.Reserved.{has_run}
 use Rattle.entry_model.specs.Runs.{changed_run, with_batch}
-use Rattle.entry_model.specs.Schedules.{names_rise}
+use Rattle.pack_rules.specs.ByName.{names_rise}
 use Rattle.entry_model.proofs.Lists.{and_true}
 use Rattle.entry_model.proofs.Lasts.{same_key_is}
 use Rattle.entry_model.proofs.Summaries.{same_key-Decides}

@@ -13,7 +13,8 @@ use Rattle.pack_rules.specs.declared.schedule.Scheduled.{Scheduled}
 use Rattle.pack_rules.specs.Keys.{same_key, same_mode}
 use Rattle.entry_model.specs.declared.restored.Run.{Run}
 use Rattle.entry_model.specs.Runs.{with_batch}
-use Rattle.entry_model.specs.Schedules.{IsRunnable, names_rise}
+use Rattle.pack_rules.specs.ByName.{names_rise}
+use Rattle.pack_rules.specs.Sound.{IsRunnable}
 use Rattle.entry_model.proofs.Lasts.{same_key_is}
 use Rattle.entry_model.proofs.Lists.{and_true}
 use Rattle.query_cursors.specs.Due.{is_due, is_due_by, run_of}

@@ -9,7 +9,7 @@ use Rattle.pack_rules.specs.declared.schedule.Schedule.{Schedule}
 use Rattle.entry_model.specs.declared.entry.Entry.{Entry}
 use Rattle.entry_model.specs.declared.entry.Entry.TheVariants.{Opened, Configured, Ticked}
 use Rattle.entry_model.specs.Legal.{Legal, LegalNext, MayCome}
-use Rattle.entry_model.specs.Schedules.{IsRunnable, IsSound}
+use Rattle.pack_rules.specs.Sound.{IsRunnable, IsSound}
 use Rattle.session_model.specs.Given.{Given}
 use Rattle.session_model.specs.Sessions.{IsSession}
 

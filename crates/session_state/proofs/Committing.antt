@@ -16,7 +16,7 @@ use Rattle.entry_model.specs.Values.{last_of, tick_in, has_ticked, last_number, 
 use Rattle.entry_model.specs.Views.{view_of}
 use Rattle.entry_model.specs.Legal.{Legal, LegalNext, MayCommit, is_mark, begins_at}
 use Rattle.entry_model.specs.Summary.{summary}
-use Rattle.entry_model.specs.Schedules.{IsRunnable}
+use Rattle.pack_rules.specs.Sound.{IsRunnable}
 use Rattle.entry_model.specs.Runs.{with_batch}
 use Rattle.entry_model.specs.Reserved.{has_run}
 use Rattle.entry_model.proofs.Commits.{may_commit, current_from, none_later}

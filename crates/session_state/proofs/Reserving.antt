@@ -3,7 +3,7 @@ use Rattle.std.proofs.Common.{◌≡◌, ℕ, ◌+◌, ◌<◌, ◌≤◌, ◌^�
 use Rattle.std.specs.Prelude.{All}
 use Rattle.osq_value.specs.declared.moment.TheConstants.{LAST_MOMENT}
 use Rattle.entry_model.specs.declared.restored.Run.{Run}
-use Rattle.entry_model.specs.Schedules.{IsSound}
+use Rattle.pack_rules.specs.Sound.{IsSound}
 use Rattle.event_store.specs.Contents.{IsImage}
 use Rattle.session_state.specs.Kept.{Kept, IsRun, IsState, due_count}
 use Rattle.query_cursors.specs.Places.{places_of}

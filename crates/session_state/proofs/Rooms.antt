@@ -10,7 +10,7 @@ use Rattle.pack_rules.specs.declared.schedule.Scheduled.{Scheduled}
 use Rattle.pack_rules.specs.Keys.{same_key}
 use Rattle.entry_model.specs.declared.restored.Run.{Run}
 use Rattle.entry_model.specs.Runs.{changed_run, with_batch}
-use Rattle.entry_model.specs.Schedules.{IsRunnable}
+use Rattle.pack_rules.specs.Sound.{IsRunnable}
 use Rattle.entry_model.proofs.Lasts.{same_key_is}
 use Rattle.entry_model.proofs.Summaries.{same_key-Decides}
 use Rattle.query_cursors.specs.Due.{run_of, is_due, is_due_by}

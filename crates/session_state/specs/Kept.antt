@@ -8,7 +8,7 @@ use Rattle.entry_model.specs.declared.restored.Restored.{Restored}
 use Rattle.entry_model.specs.declared.restored.Run.{Run}
 use Rattle.entry_model.specs.declared.restored.Taken.{Taken}
 use Rattle.entry_model.specs.Next.{with_offset, with_batch}
-use Rattle.entry_model.specs.Schedules.{IsSound}
+use Rattle.pack_rules.specs.Sound.{IsSound}
 use Rattle.event_store.specs.Contents.{Contents, IsImage}
 use Rattle.query_cursors.specs.Places.{places_of}
 use Rattle.session_state.specs.Marks.{IsRising, behind_marks}

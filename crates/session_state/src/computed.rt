@@ -3,7 +3,7 @@
 ghost use Rattle.std.specs.Prelude.{◌≡◌, ◌≤◌, ◌<◌, ◌^◌, All, IfOk, IfSome, length, option_copied, true};
 ghost use Rattle.osq_value.specs.declared.moment.TheConstants.{LAST_MOMENT};
 ghost use Rattle.osq_value.specs.Catalogue.{width_of, table_name};
-ghost use Rattle.entry_model.specs.Schedules.{IsRunnable};
+ghost use Rattle.pack_rules.specs.Sound.{IsRunnable};
 ghost use Rattle.entry_model.specs.Views.{is_evented_table};
 ghost use Rattle.event_store.specs.Contents.{AreWide, IsImage};
 ghost use Rattle.query_cursors.specs.Places.{places_of};

@@ -4,7 +4,7 @@ ghost use Rattle.std.specs.Prelude.{◌≡◌, ℕ, ◌+◌, ◌<◌, ◌≤◌,
 ghost use Rattle.entry_model.specs.declared.entry.Entry.{Entry};
 ghost use Rattle.entry_model.specs.declared.restored.Restored.{Restored};
 ghost use Rattle.entry_model.specs.Fits.{Fits};
-ghost use Rattle.entry_model.specs.Schedules.{IsSound};
+ghost use Rattle.pack_rules.specs.Sound.{IsSound};
 ghost use Rattle.entry_model.specs.declared.entry.Entry.TheVariants.{Acked, Ticked, Configured, Appended, TableSet};
 ghost use Rattle.entry_model.specs.Legal.{IsEvent, width_of};
 ghost use Rattle.entry_model.specs.Next.{offset_at};

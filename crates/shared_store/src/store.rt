@@ -10,7 +10,7 @@ ghost use Rattle.std.specs.List.{All};
 ghost use Rattle.osq_value.specs.declared.moment.TheConstants.{LAST_MOMENT};
 ghost use Rattle.sql_texts.specs.Meaning.{meaning};
 ghost use Rattle.entry_model.specs.Fits.{Fits};
-ghost use Rattle.entry_model.specs.Schedules.{IsSound};
+ghost use Rattle.pack_rules.specs.Sound.{IsSound};
 ghost use Rattle.event_store.specs.Contents.{rows_in};
 ghost use Rattle.session_state.specs.Readings.{IsReading};
 ghost use Rattle.turn_lock.specs.Turns.{Grows, stamp};

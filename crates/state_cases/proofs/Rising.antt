@@ -1,7 +1,7 @@
 -- Where names end, they rise.
 use Rattle.std.proofs.Common.{◌≡◌, ℕ, zero, suc, ◌≤◌, true, List, [], ◌∷◌, length, drop, refl, arith}
 use Rattle.pack_rules.specs.declared.schedule.Scheduled.{Scheduled}
-use Rattle.entry_model.specs.Schedules.{names_rise}
+use Rattle.pack_rules.specs.ByName.{names_rise}
 
 -- of at most one behind a place
 pub end_rises : (xs : List Scheduled) (i : ℕ) → length xs ≤ suc i → names_rise (drop i xs) ≡ true

@@ -9,7 +9,8 @@ ghost use Rattle.sql_texts.specs.Meaning.{meaning};
 ghost use Rattle.pack_rules.specs.declared.schedule.Mode.TheVariants.{Evented};
 ghost use Rattle.entry_model.specs.Fits.{Fits};
 ghost use Rattle.entry_model.specs.Legal.{IsEvent};
-ghost use Rattle.entry_model.specs.Schedules.{IsRunnable, IsSound, names_rise};
+ghost use Rattle.pack_rules.specs.ByName.{names_rise};
+ghost use Rattle.pack_rules.specs.Sound.{IsRunnable, IsSound};
 ghost use Rattle.event_store.specs.Contents.{AreWide, rows_in};
 ghost use Rattle.session_state.specs.Readings.{IsReading};
 

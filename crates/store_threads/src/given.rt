@@ -2,7 +2,7 @@
 
 ghost use Rattle.std.specs.Prelude.{◌≡◌, ◌≤◌, IfOk};
 ghost use Rattle.entry_model.specs.Legal.{IsEvent};
-ghost use Rattle.entry_model.specs.Schedules.{IsRunnable, IsSound};
+ghost use Rattle.pack_rules.specs.Sound.{IsRunnable, IsSound};
 ghost use Rattle.session_state.specs.Readings.{IsReading};
 ghost use Rattle.turn_lock.specs.Words.{seats_out, split_off, IsAtRest, IsFirst};
 ghost use Rattle.shared_store.specs.Words.{most_seats, IsSeatOf};

@@ -1,4 +1,4 @@
-use Rattle.entry_model.proofs.Sound.{schedule_sound}
+use Rattle.pack_rules.proofs.Soundness.{schedule_sound}
 use Rattle.daemon_rounds.proofs.Configured.{configures}
 use Rattle.daemon_rounds.proofs.configuring.configure.Goals as goal
 

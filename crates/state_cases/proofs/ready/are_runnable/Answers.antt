@@ -1,5 +1,5 @@
 use Rattle.std.proofs.Common.{subst}
-use Rattle.entry_model.specs.Schedules.{IsRunnable}
+use Rattle.pack_rules.specs.Sound.{IsRunnable}
 use Rattle.state_cases.proofs.Kept.{one_more, all_taken}
 use Rattle.state_cases.proofs.ready.are_runnable.Goals as goal
 

@@ -1,5 +1,5 @@
 use Rattle.std.proofs.Common.{All, take}
-use Rattle.entry_model.specs.Schedules.{IsRunnable}
+use Rattle.pack_rules.specs.Sound.{IsRunnable}
 use Rattle.state_cases.proofs.ready.are_runnable.Given as goal
 
 abbrev pub invariant-loop-query : goal.invariant-loop-query

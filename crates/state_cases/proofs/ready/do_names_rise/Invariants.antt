@@ -1,5 +1,5 @@
 use Rattle.std.proofs.Common.{◌≡◌, ◌-◌, drop}
-use Rattle.entry_model.specs.Schedules.{names_rise}
+use Rattle.pack_rules.specs.ByName.{names_rise}
 use Rattle.state_cases.proofs.ready.do_names_rise.Given as goal
 
 abbrev pub invariant-loop-at : goal.invariant-loop-at

@@ -3,7 +3,7 @@ use Rattle.std.proofs.lemmas.List.{length-replicate}
 use Rattle.pack_rules.specs.declared.schedule.Schedule.{Schedule}
 use Rattle.entry_model.specs.declared.entry.Entry.TheVariants.{Configured}
 use Rattle.query_cursors.specs.Places.{Indexed, places_of}
-use Rattle.entry_model.specs.Schedules.{IsSound}
+use Rattle.pack_rules.specs.Sound.{IsSound}
 use Rattle.session_state.specs.Inside.{kept}
 use Rattle.session_state.specs.Kept.{Counts}
 use Rattle.session_state.specs.Tails.{EntriesAndRoom}
