@@ -14,7 +14,7 @@ use Rattle.osq_config.specs.declared.error.ConfigError.TheVariants.{TooManyQueri
 use Rattle.osq_config.specs.Bounds.{IsFromTo, IsBoundedEntry, IsBoundedPack, IsBounded}
 use Rattle.osq_config.specs.Counts.{packed_count, query_count, fault_of_count, fault_of_config}
 use Rattle.osq_config.specs.Faults.{fault_of, number_of, within}
-use Rattle.osq_config.specs.Files.{file_pack, filled, left_out, refilled, fault_of_file}
+use Rattle.osq_config.specs.Files.{file_pack, filled, left_out, refilled, fault_beside, fault_of_file}
 use Rattle.osq_config.specs.Kinds.{config_kind, pack_kind}
 use Rattle.osq_config.specs.Reads.{Answers}
 use Rattle.osq_config.specs.Values.{number_in, entry_of, entries_of, entries_in, pack_with, pack_by_path, pack_of, packs_of, packs_in, config_of}
@@ -144,7 +144,7 @@ with_packs config packs old all count = record {
 }
 
 pub filled_bounded : (config : Config) (name : List ℕ) (d : Data) → fault_of_file config d ≡ None → IsBounded config → IsBounded (record config { packs = filled name (file_pack d) config.packs })
-unfolding fault_of_file file_pack
+unfolding fault_beside file_pack
 filled_bounded config name d none old =
     let read = pack_with [] None d in
     let allowed = count_allowed (query_count config.schedule config.packs + length (entries_in (get (codes "queries") d))) (fault_of pack_kind [] d) none in

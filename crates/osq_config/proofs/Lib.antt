@@ -1,4 +1,7 @@
 pub mod Answered
+pub mod Beside
 pub mod Bounded
 pub mod Lines
+pub mod Names
 pub mod Places
+pub mod Rising

@@ -1,5 +1,5 @@
 -- Packs whose files are read on their own.
-use Rattle.std.specs.Prelude.{◌≡◌, ℕ, ◌+◌, bytes_eq, List, [], ◌∷◌, codes, length, if◌then◌else◌, Option, None, option_map}
+use Rattle.std.specs.Prelude.{◌≡◌, ℕ, ◌+◌, bytes_eq, List, [], ◌∷◌, codes, length, if◌then◌else◌, Option, None, option_map, map}
 use Rattle.std.specs.List.{filter_map}
 use Rattle.std.specs.Option.{option_or}
 use Rattle.serde_json.specs.Data.{Data}
@@ -21,6 +21,9 @@ file_of pack = option_map (λ (path : List ℕ). record { name = pack.name; path
 abbrev pub files_of : List Pack → List PackFile
 files_of packs = filter_map file_of packs
 
+abbrev pub file_names : List PackFile → List (List ℕ)
+file_names files = map (λ (file : PackFile). file.name) files
+
 -- what a pack's file says, under the name and the path that the pack has
 abbrev pub refilled : Pack → Pack → Pack
 refilled pack read = record { name = pack.name; path = pack.path; discovery = read.discovery; queries = read.queries; rules = read.rules }
@@ -35,10 +38,13 @@ abbrev pub left_out : List ℕ → List Pack → List Pack
 left_out name [] = []
 left_out name (pack ∷ packs) = if bytes_eq pack.name name then packs else pack ∷ left_out name packs
 
--- the first fault of a pack's file: its queries are tried last, with all those that the configuration holds
-unfoldable pub fault_of_file : Config → Data → Option ConfigError
-fault_of_file config d =
-    option_or (fault_of pack_kind [] d) (fault_of_count (query_count config.schedule config.packs + length (entries_in (get (codes "queries") d))))
+-- the first fault of a pack's file beside so many queries: its own are tried last, with those
+unfoldable pub fault_beside : ℕ → Data → Option ConfigError
+fault_beside count d = option_or (fault_of pack_kind [] d) (fault_of_count (count + length (entries_in (get (codes "queries") d))))
+
+-- the same, beside all queries that the configuration holds
+abbrev pub fault_of_file : Config → Data → Option ConfigError
+fault_of_file config d = fault_beside (query_count config.schedule config.packs) d
 
 -- the pack that a file holds, before it has the name and the path of the configuration's
 unfoldable pub file_pack : Data → Pack

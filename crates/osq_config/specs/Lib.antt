@@ -4,5 +4,6 @@ pub mod Documents
 pub mod Faults
 pub mod Files
 pub mod Kinds
+pub mod Names
 pub mod Reads
 pub mod Values

@@ -46,6 +46,20 @@ pub struct Pack {
     pub rules: Rules,
 }
 
+impl Pack {
+    ghost use Rattle.std.specs.Prelude.{◌≡◌};
+    ghost use Rattle.osq_config.specs.Files.{refilled};
+
+    /// Takes what its file says. It keeps its name and its path.
+    pub fn refill(&mut self, read: Pack)
+        ensures { self.new ≡ refilled self.old read }
+    {
+        self.discovery = read.discovery;
+        self.queries = read.queries;
+        self.rules = read.rules;
+    }
+}
+
 /// Packs in byte order of their names.
 pub type PackList = Sequence<Pack>;
 

@@ -1,12 +1,12 @@
 //! Packs that stand in files of their own.
 
-ghost use Rattle.std.specs.Prelude.{◌≡◌, ◌+◌, ◌++◌, IfOk, OnErr, OnOk, length, nat_lt};
+ghost use Rattle.std.specs.Prelude.{◌≡◌, ◌+◌, ◌≤◌, ◌++◌, IfOk, OnErr, OnOk, length, true};
 ghost use Rattle.std.specs.List.{filter_map};
 ghost use Rattle.std.specs.Option.{option_to_list};
 ghost use Rattle.serde_json.specs.View.{view};
 ghost use Rattle.osq_config.specs.Bounds.{IsBounded};
-ghost use Rattle.osq_config.specs.Counts.{query_count};
-ghost use Rattle.osq_config.specs.Files.{Fills, fault_of_file, file_of, file_pack, files_of, left_out};
+ghost use Rattle.osq_config.specs.Files.{Fills, fault_beside, fault_of_file, file_names, file_of, file_pack, files_of, left_out};
+ghost use Rattle.osq_config.specs.Names.{NamesRise, names_rise};
 ghost use Rattle.osq_config.specs.Reads.{Answers, Reads};
 
 use crate::config::{Config, Pack};
@@ -14,7 +14,7 @@ use crate::document::parse;
 use crate::error::ConfigError;
 use crate::pack::pack_with;
 use crate::place::{fill, leave_out};
-use crate::read::{QUERIES, holds_more};
+use crate::read::{exceeds, held_queries};
 use osq_value::{Copied, NoMemory, Sequence, Str};
 use serde_json::Value as Json;
 use std::alloc::Global;
@@ -33,7 +33,8 @@ pub type PackFileList = Sequence<PackFile>;
 
 /// The packs that are given as a path.
 pub fn pack_files(alloc: Global, config: &Config) -> Result<PackFileList, NoMemory>
-    ensures { IfOk result (λ files. files ≡ files_of config.now.packs) }
+    ensures files { IfOk result (λ files. files ≡ files_of config.now.packs) }
+    ensures named { NamesRise config.now → IfOk result (λ files. names_rise (file_names files) ≡ true) }
 {
     let mut files = PackFileList::new(alloc);
     for pack in config.packs.as_slice() {
@@ -70,8 +71,10 @@ pub fn add_pack(
     ensures err { OnErr result
         (config.new ≡ record config.old { packs = left_out name.now config.old.packs }) }
     ensures bounded { IsBounded config.old → IsBounded config.new }
+    ensures named { NamesRise config.old → NamesRise config.new }
 {
-    match read_file(alloc, config, document) {
+    let count = held_queries(&config.schedule, &config.packs);
+    match read_file(alloc, count, document) {
         Ok(pack) => {
             fill(&mut config.packs, name, pack);
             Ok(())
@@ -83,32 +86,24 @@ pub fn add_pack(
     }
 }
 
-fn read_file(alloc: Global, config: &Config, document: &[u8]) -> Result<Pack, ConfigError>
-    ensures { Answers (fault_of_file config.now) file_pack document.now result }
+/// Reads the file of a pack of a configuration that holds so many queries; with those of the file they are at most 10000. The pack has
+/// neither a name nor a path. The errors are those of `add_pack`.
+pub fn read_file(alloc: Global, count: usize, document: &[u8]) -> Result<Pack, ConfigError>
+    ensures answer { Answers (fault_beside count) file_pack document.now result }
+    ensures count { IfOk result (λ pack. count + length pack.queries ≤ 10000) }
 {
     let json = parse(alloc, document)?;
-    read_pack(alloc, config, &json)
+    read_pack(alloc, count, &json)
 }
 
-#[tactic(auto, unfolding(crate::specs::Files::fault_of_file, crate::specs::Files::file_pack))]
-fn read_pack(alloc: Global, config: &Config, document: &Json) -> Result<Pack, ConfigError>
-    ensures { Reads (fault_of_file config.now (view document.now))
-        (file_pack (view document.now)) result }
+#[tactic(auto, unfolding(crate::specs::Files::fault_beside, crate::specs::Files::file_pack))]
+fn read_pack(alloc: Global, count: usize, document: &Json) -> Result<Pack, ConfigError>
+    ensures answer { Reads (fault_beside count (view document.now)) (file_pack (view document.now)) result }
+    ensures count { IfOk result (λ pack. count + length pack.queries ≤ 10000) }
 {
     let pack = pack_with(alloc, "", Str::empty(), None, document)?;
-    if exceeds(config, pack.queries.len()) {
+    if exceeds(count, pack.queries.len()) {
         return Err(ConfigError::TooManyQueries);
     }
     Ok(pack)
-}
-
-/// Whether a configuration would hold too many queries with these.
-fn exceeds(config: &Config, added: usize) -> bool
-    ensures { result
-        ≡ nat_lt 10000 (query_count config.now.schedule config.now.packs + added) }
-{
-    if QUERIES < added {
-        return true;
-    }
-    holds_more(QUERIES - added, &config.schedule, &config.packs)
 }

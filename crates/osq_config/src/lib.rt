@@ -15,5 +15,5 @@ pub mod read;
 
 pub use config::{Config, Pack, PackList, QueryEntry, QueryEntryList, Rules};
 pub use error::ConfigError;
-pub use file::{PackFile, PackFileList, add_pack, pack_files};
-pub use read::read_config;
+pub use file::{PackFile, PackFileList, add_pack, pack_files, read_file};
+pub use read::{held_queries, read_config};

@@ -22,10 +22,7 @@ fn refill(packs: &mut [Pack], at: usize, read: Pack)
     ensures { (pack : Pack) → slice_get packs.old at ≡ Some pack
         → packs.new ≡ slice_set packs.old at (refilled pack read) }
 {
-    let pack = &mut packs[at];
-    pack.discovery = read.discovery;
-    pack.queries = read.queries;
-    pack.rules = read.rules;
+    packs[at].refill(read);
 }
 
 /// Leaves the pack of a name out. It takes no memory.

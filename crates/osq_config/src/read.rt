@@ -1,14 +1,15 @@
 //! Reads a configuration.
 
-ghost use Rattle.std.specs.Prelude.{◌≡◌, IfOk, nat_lt};
+ghost use Rattle.std.specs.Prelude.{◌≡◌, ◌+◌, ◌≤◌, IfOk, nat_lt};
 ghost use Rattle.serde_json.specs.View.{view};
 ghost use Rattle.osq_config.specs.Bounds.{IsBounded};
-ghost use Rattle.osq_config.specs.Counts.{fault_of_config, packed_count, query_count};
+ghost use Rattle.osq_config.specs.Counts.{fault_of_config, query_count};
+ghost use Rattle.osq_config.specs.Names.{NamesRise};
 ghost use Rattle.osq_config.specs.Reads.{Answers, Reads};
 ghost use Rattle.osq_config.specs.Values.{config_of};
 
 use crate::category::{categories_of, check_excluded};
-use crate::config::{Config, Pack, PackList, QueryEntryList};
+use crate::config::{Config, PackList, QueryEntryList};
 use crate::document::parse;
 use crate::entry::entries_at;
 use crate::error::ConfigError;
@@ -28,6 +29,7 @@ pub const QUERIES: usize = 10000;
 /// The errors: NotJson where the document isn't UTF-8, or is no JSON (RFC 8259) behind these steps; WrongShape with the path of a key
 /// whose value has another kind, or that is missing; OutOfRange with the path of a key whose number or word isn't allowed;
 /// TooManyQueries for more than 10000 queries. The keys are those of osquery; docs/CONFIGURATION.md says where their meaning differs.
+/// The names of what is read rise by their bytes, so no name stands twice in a list.
 ///
 /// ```
 /// let config = read_config(alloc, b"{\"schedule\": {\"who\": {\"query\": \"SELECT uid FROM users\", \"interval\": 60}}}")?;
@@ -39,6 +41,7 @@ pub const QUERIES: usize = 10000;
 pub fn read_config(alloc: Global, document: &[u8]) -> Result<Config, ConfigError>
     ensures answer { Answers fault_of_config config_of document.now result }
     ensures bounded { IfOk result IsBounded }
+    ensures named { IfOk result NamesRise }
 {
     let json = parse(alloc, document)?;
     config(alloc, &json)
@@ -54,7 +57,7 @@ fn config(alloc: Global, document: &Json) -> Result<Config, ConfigError>
     let options = Options::of(alloc, document)?;
     let packs = packs_of(alloc, document)?;
     let schedule = entries_at(alloc, "", document, "schedule")?;
-    if holds_more(QUERIES, &schedule, &packs) {
+    if QUERIES < held_queries(&schedule, &packs) {
         return Err(ConfigError::TooManyQueries);
     }
     Ok(Config {
@@ -67,27 +70,25 @@ fn config(alloc: Global, document: &Json) -> Result<Config, ConfigError>
     })
 }
 
-/// Whether a schedule and packs hold more queries than these.
-pub fn holds_more(limit: usize, schedule: &QueryEntryList, packs: &PackList) -> bool
-    ensures { result ≡ nat_lt limit (query_count schedule.now packs.now) }
+/// The number of queries that a schedule and packs hold together; where they are more than 10000, some number above 10000.
+pub fn held_queries(schedule: &QueryEntryList, packs: &PackList) -> usize
+    ensures exact { query_count schedule.now packs.now ≤ 10000 → result ≡ query_count schedule.now packs.now }
+    ensures over { nat_lt 10000 result ≡ nat_lt 10000 (query_count schedule.now packs.now) }
 {
-    if limit < schedule.len() {
-        return true;
+    let mut count = schedule.len();
+    for pack in packs.as_slice() {
+        let added = pack.queries.len();
+        if exceeds(count, added) {
+            return QUERIES + 1;
+        }
+        count += added;
     }
-    packs_hold_more(limit - schedule.len(), packs.as_slice())
+    count
 }
 
-/// Whether packs hold more queries than these.
-fn packs_hold_more(limit: usize, packs: &[Pack]) -> bool
-    ensures { result ≡ nat_lt limit (packed_count packs.now) }
+/// Whether so many queries and those that are added are more than 10000.
+pub fn exceeds(count: usize, added: usize) -> bool
+    ensures { result ≡ nat_lt 10000 (count + added) }
 {
-    let mut left = limit;
-    for pack in packs {
-        let count = pack.queries.len();
-        if left < count {
-            return true;
-        }
-        left -= count;
-    }
-    false
+    QUERIES < count || QUERIES - count < added
 }
