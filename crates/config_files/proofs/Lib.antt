@@ -1,3 +1,4 @@
 pub mod Packs
 pub mod Texts
 pub mod Unread
+pub mod Walk

@@ -1,13 +1,15 @@
 -- The packs of a configuration that stand in files of their own.
-use Rattle.std.specs.Prelude.{◌≡◌, ◌≢◌, ◌⊎◌, ℕ, List, [], ◌∷◌, ◌++◌, Option, Ok, Err}
+use Rattle.std.specs.Prelude.{◌≡◌, ◌≢◌, ◌⊎◌, ℕ, true, List, [], ◌∷◌, ◌++◌, Ok, Err}
 use Rattle.osq_config.specs.declared.config.Config.{Config}
+use Rattle.osq_config.specs.declared.config.Pack.{Pack}
 use Rattle.osq_config.specs.declared.error.ConfigError.{ConfigError}
 use Rattle.osq_config.specs.declared.error.ConfigError.TheVariants.{NoMemory}
 use Rattle.osq_config.specs.declared.file.PackFile.{PackFile}
+use Rattle.osq_config.specs.Counts.{query_count}
 use Rattle.osq_config.specs.Files.{Fills, fault_of_file, left_out}
+use Rattle.osq_config.specs.Names.{names_rise, pack_names}
 use Rattle.osq_config.specs.Reads.{Answers}
 use Rattle.config_files.specs.Naming.{kind_of_error, left_out_line}
-use Rattle.config_files.specs.Texts.{text_in}
 
 -- this text's pack goes in and no line tells of it, or by its fault the pack is left out and a line tells so
 abbrev pub AddsPack : List ℕ → List ℕ → Config → Config → List ℕ → Type 0
@@ -24,7 +26,11 @@ AddsPacks (pack ∷ packs) [] before after lines = ⊥
 AddsPacks (pack ∷ packs) (text ∷ texts) before after lines =
     (next : Config) × (line rest : List ℕ) × AddsPack text pack.name before next line × AddsPacks packs texts next after rest × (lines ≡ line ++ rest)
 
--- a pack is added by this text, which its file holds
-pub record AddsFile (files_tell : Type 0) (file : List ℕ → Option (List ℕ)) (pack : PackFile) (before after : Config) (text line : List ℕ) : Type 0 where
-  pub told : files_tell → text ≡ text_in (file pack.path)
-  pub adds : AddsPack text pack.name before after line
+-- the configuration with these packs behind its own
+abbrev pub with_packs : Config → List Pack → Config
+with_packs config packs = record config { packs = config.packs ++ packs }
+
+-- with these packs behind its own the configuration's names rise, and it holds so many queries
+pub record HoldsWith (config : Config) (packs : List Pack) (count : ℕ) : Type 0 where
+  pub names : names_rise (pack_names (config.packs ++ packs)) ≡ true
+  pub held : count ≡ query_count config.schedule (config.packs ++ packs)

@@ -1,7 +1,9 @@
 //! What stands in a file: a configuration, or the text of a pack.
 
 ghost use Rattle.std.specs.Prelude.{◌≡◌, ◌≤◌, ℕ, List, [], ◌∷◌, Some, Ok, IfOk, IfErr};
+ghost use Rattle.osq_config.specs.Bounds.{IsBounded};
 ghost use Rattle.osq_config.specs.Counts.{fault_of_config};
+ghost use Rattle.osq_config.specs.Names.{NamesRise};
 ghost use Rattle.osq_config.specs.Reads.{Answers};
 ghost use Rattle.osq_config.specs.Values.{config_of};
 ghost use Rattle.osq_outside.specs.Causes.{Rose};
@@ -57,6 +59,8 @@ pub(crate) fn config_in<F: Files>(
 ) -> Result<Configured, ConfiguredError>
     ensures config { IfOk result (λ made. (document : List ℕ) × (F.tells → F.file files.old path.now ≡ Some document)
         × Answers fault_of_config config_of document (Ok made.config) × (made.documents ≡ document ∷ []) × (made.notes ≡ [])) }
+    ensures bounded { IfOk result (λ made. IsBounded made.config) }
+    ensures named { IfOk result (λ made. NamesRise made.config) }
     ensures cause { IfErr result (IsCaused F.tells (F.file files.old) path.now (Rose (F.faults files.old) (F.faults files.new))) }
     ensures same { F.tells → (path : List ℕ) → F.file files.new path ≡ F.file files.old path }
     ensures later { F.faults files.old ≤ F.faults files.new }
