@@ -28,12 +28,14 @@ pub fn change_event(
     }
 }
 
+/// The category that takes the path. Patterns are tried only where the category's name stands before that of the one found so far: in a
+/// list in byte order of names, behind the first that takes the path none are.
 fn category_of<'a>(path: &str, categories: &'a [Category]) -> Option<&'a Category>
     ensures { FindsCategory path.now categories.now (option_copied result) }
 {
     let mut first: Option<&Category> = None;
     for category in categories {
-        if takes(category, path) && is_before(category, first) {
+        if is_before(category, first) && takes(category, path) {
             first = Some(category);
         }
     }

@@ -6,7 +6,7 @@ use Rattle.osq_value.specs.declared.reading.Category.{Category}
 use Rattle.change_records.specs.Events.{FindsCategory}
 use Rattle.change_records.proofs.FirstCategory.{keep, change}
 use Rattle.change_records.proofs.event.category_of.Goals as goal
-use Rattle.change_records.proofs.event.category_of.Goals.{then-takes+then-is_before, else-takes, else-takes-via-then-takes+else-is_before, else-takes-via-else-takes}
+use Rattle.change_records.proofs.event.category_of.Goals.{then-is_before+then-takes, else-is_before, else-is_before-via-then-is_before+else-takes, else-is_before-via-else-is_before}
 
 pub loop-category-preserved : goal.loop-category-preserved
 loop-category-preserved c =
@@ -16,17 +16,17 @@ loop-category-preserved c =
     let front = take c.loop-category.category-index all in
     let found = option_copied c.loop-category.first in
     let more = take_more all c.loop-category.category-index next c.loop-category-test.true ∙ ap (λ (x : Category). front ++ x ∷ []) (sym c.category-item.is) in
-    subst (λ (cs : List Category). FindsCategory path cs (option_copied c.if-takes.first)) (sym more)
-    (elim c.if-takes.branch [
-      | then-takes+then-is_before w ↦
+    subst (λ (cs : List Category). FindsCategory path cs (option_copied c.if-is_before.first)) (sym more)
+    (elim c.if-is_before.branch [
+      | then-is_before+then-takes w ↦
           subst (λ o. FindsCategory path (front ++ next ∷ []) (option_copied o)) (sym w.first-is)
-          (change path front next found c.loop-category.invariant (c.takes.ensures.0 w.if-takes.true) (w.is_before.ensures.0 w.if-is_before.true))
-      | else-takes w ↦
+          (change path front next found c.loop-category.invariant (w.takes.ensures.0 w.if-takes.true) (c.is_before.ensures.0 w.if-is_before.true))
+      | else-is_before w ↦
           subst (λ o. FindsCategory path (front ++ next ∷ []) (option_copied o)) (sym w.first-is)
           (keep path front next found c.loop-category.invariant
-          (elim w.else-takes.branch [
-            | else-takes-via-then-takes+else-is_before v ↦ λ taken before. false≢true (sym v.if-is_before.false ∙ v.is_before.ensures.1 before)
-            | else-takes-via-else-takes v ↦ λ taken before. false≢true (sym v.if-takes.false ∙ c.takes.ensures.1 taken)
+          (elim w.else-is_before.branch [
+            | else-is_before-via-then-is_before+else-takes v ↦ λ taken before. false≢true (sym v.if-takes.false ∙ v.takes.ensures.1 taken)
+            | else-is_before-via-else-is_before v ↦ λ taken before. false≢true (sym v.if-is_before.false ∙ c.is_before.ensures.1 before)
           ]))
     ])
 
