@@ -1,5 +1,5 @@
 -- Every schedule of a bounded configuration is one that a session may run.
-use Rattle.std.proofs.Common.{◌≡◌, refl, ap, ◌∙◌, Bool, ◌&&◌, List, [], ◌∷◌, Option, Some, None, is_some}
+use Rattle.std.proofs.Common.{◌≡◌, refl, ◌∙◌, Bool, List, Option, Some, None, is_some}
 use Rattle.std.proofs.lemmas.List.Elements.{All-weaker}
 use Rattle.osq_config.specs.declared.config.Config.{Config}
 use Rattle.osq_config.specs.Bounds.{IsBounded}
@@ -9,13 +9,11 @@ use Rattle.sql_texts.specs.Meaning.{is_accepted, is_query, is_evented_if, names_
 use Rattle.pack_rules.specs.declared.host.Host.{Host}
 use Rattle.pack_rules.specs.declared.schedule.Scheduled.{Scheduled}
 use Rattle.pack_rules.specs.declared.schedule.Schedule.{Schedule}
-use Rattle.pack_rules.specs.ByName as by_name
-use Rattle.pack_rules.specs.ByName.{is_before}
 use Rattle.pack_rules.specs.Schedules.{IsScheduleOf}
 use Rattle.pack_rules.specs.Sound as pack
 use Rattle.pack_rules.specs.Sound.{is_evented_in}
 use Rattle.pack_rules.proofs.Soundness as packs
-use Rattle.entry_model.specs.Schedules.{names_rise, IsRunnable, IsSound}
+use Rattle.entry_model.specs.Schedules.{IsRunnable, IsSound}
 
 query_is : (query : Option QueryTree) → is_query query ≡ is_some query
 query_is None = refl
@@ -24,11 +22,6 @@ query_is (Some query) = refl
 evented_is : (query : Option QueryTree) → is_evented_if query ≡ is_evented_in query
 evented_is None = refl
 evented_is (Some query) = refl
-
-rise_is : (queries : List Scheduled) → names_rise queries ≡ by_name.names_rise queries
-rise_is [] = refl
-rise_is (first ∷ []) = refl
-rise_is (first ∷ second ∷ rest) = ap (λ t. is_before first second && t) (rise_is (second ∷ rest))
 
 runnable : (scheduled : Scheduled) → pack.IsRunnable scheduled → IsRunnable scheduled
 unfolding is_accepted names_evented
@@ -44,7 +37,7 @@ schedule_sound config host found schedule bounded is =
     let sound = packs.schedule_sound config host found schedule bounded is in
     record {
       count = sound.count;
-      order = rise_is schedule.queries ∙ sound.rise;
+      order = sound.rise;
       runnable = All-weaker pack.IsRunnable IsRunnable runnable schedule.queries sound.runnable;
       expiry_least = sound.expiry_least;
       expiry_most = sound.expiry_most;

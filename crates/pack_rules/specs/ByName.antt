@@ -1,7 +1,8 @@
 -- Queries in the order of their names, the first of each name alone.
-use Rattle.std.specs.Prelude.{◌≡◌, ℕ, Bool, true, ◌&&◌, List, [], ◌∷◌, bytes_eq, find}
+use Rattle.std.specs.Prelude.{◌≡◌, ℕ, Bool, true, List, map, bytes_eq, find}
 use Rattle.std.specs.Ordering.{nat_cmp, is_lt}
 use Rattle.std.specs.Cmp.Lexicographic.{slice_cmp}
+use Rattle.osq_config.specs.Names as names
 use Rattle.pack_rules.specs.declared.schedule.Scheduled.{Scheduled}
 
 -- a name stands before another by their bytes
@@ -10,9 +11,7 @@ is_before first second = is_lt (slice_cmp nat_cmp first.key.name second.key.name
 
 -- the names rise by their bytes
 abbrev pub names_rise : List Scheduled → Bool
-names_rise [] = true
-names_rise (first ∷ []) = true
-names_rise (first ∷ second ∷ rest) = is_before first second && names_rise (second ∷ rest)
+names_rise queries = names.names_rise (map (λ (scheduled : Scheduled). scheduled.key.name) queries)
 
 abbrev pub has_name : List ℕ → Scheduled → Bool
 has_name name scheduled = bytes_eq name scheduled.key.name
