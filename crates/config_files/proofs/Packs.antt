@@ -14,7 +14,7 @@ use Rattle.osq_config.specs.Values.{config_of}
 use Rattle.osq_config.proofs.Names.{filled_rises, left_rises}
 use Rattle.config_files.specs.declared.error.ConfiguredError.{ConfiguredError}
 use Rattle.config_files.specs.declared.error.ConfiguredError.TheVariants.{Fault, Missing, Refused, NoMemory}
-use Rattle.config_files.specs.Adding.{AddsPack, AddsPacks, with_packs}
+use Rattle.config_files.specs.Adding.{AddsPack, AddsPacks}
 use Rattle.config_files.specs.Configurations.{IsConfigured}
 use Rattle.config_files.specs.Refusals.{IsUnreadOf}
 use Rattle.config_files.specs.Texts.{text_in, texts_in}
@@ -74,11 +74,6 @@ unread_turn packs pack rest failed later (Fault file) more is =
 unread_turn packs pack rest failed later Missing more is = absurd is
 unread_turn packs pack rest failed later (Refused fault) more is = absurd is
 unread_turn packs pack rest failed later NoMemory more is = tt
-
--- a pack that stands in the configuration itself, or the one of its file
-pub passed : (old : Config) (pack : Pack) (rest : List Pack) (packs : List Pack) → packs ≡ old.packs ++ pack ∷ []
-    → with_packs (record old { packs = packs }) rest ≡ with_packs old (pack ∷ rest)
-passed old pack rest packs put = ap (λ (ps : List Pack). record old { packs = ps }) (ap (λ (ps : List Pack). ps ++ rest) put ∙ append_assoc old.packs (pack ∷ []) rest)
 
 -- the names rise as before
 pub adds_rise : (packs : List PackFile) (texts : List (List ℕ)) (before after : Config) (lines : List ℕ) → AddsPacks packs texts before after lines → NamesRise before → NamesRise after

@@ -1,12 +1,14 @@
 -- One walk over the packs of a configuration: each stands first of its name, behind those that the walk has passed.
 use Rattle.std.proofs.Common.{◌≡◌, ◌≢◌, inl, inr, ℕ, ◌+◌, ◌≤◌, Bool, true, false, List, [], ◌∷◌, ◌++◌, length, refl, sym, ap, ◌∙◌, subst, arith, append-nil, append_assoc, bytes_eq, Option, Some, None, Ok, Err}
+use Rattle.std.specs.Prelude.{Contains}
 use Rattle.std.proofs.lemmas.List.Sums.{sum_by-append}
 use Rattle.std.proofs.lemmas.Slice.Eq.{bytes_eq-Decides}
 use Rattle.serde_json.specs.Data.{Data}
 use Rattle.osq_config.specs.declared.config.Config.{Config}
 use Rattle.osq_config.specs.declared.config.Pack.{Pack}
 use Rattle.osq_config.specs.declared.error.ConfigError.{ConfigError}
-use Rattle.osq_config.specs.declared.error.ConfigError.TheVariants.{NoMemory}
+use Rattle.osq_config.specs.declared.error.ConfigError.TheVariants.{NoMemory as WantsMemory}
+use Rattle.osq_config.specs.declared.file.PackFile.{PackFile}
 use Rattle.osq_config.specs.Counts.{packed_count, query_count}
 use Rattle.osq_config.specs.Files.{fault_beside, fault_of_file, file_pack, files_of, filled, left_out, refilled}
 use Rattle.osq_config.specs.Names.{NamesRise, names_rise, pack_names}
@@ -15,9 +17,12 @@ use Rattle.osq_config.proofs.Beside.{refused_alike}
 use Rattle.osq_config.proofs.Bounded.{packed_count-cons}
 use Rattle.osq_config.proofs.Names.{filled_names, left_names}
 use Rattle.osq_config.proofs.Rising.{StandsBefore, before_all, names_differ, tail_rises}
+use Rattle.config_files.specs.declared.error.ConfiguredError.{ConfiguredError}
+use Rattle.config_files.specs.declared.error.ConfiguredError.TheVariants.{Fault, Missing, Refused, NoMemory}
 use Rattle.config_files.specs.Adding.{AddsPack, AddsPacks, HoldsWith, with_packs}
 use Rattle.config_files.specs.Naming.{kind_of_error, left_out_line}
-use Rattle.config_files.specs.Texts.{texts_in}
+use Rattle.config_files.specs.Refusals.{IsUnreadAt, IsUnreadOf}
+use Rattle.config_files.specs.Texts.{text_in, texts_in}
 use Rattle.config_files.proofs.Packs.{packs_turn, texts_turn}
 
 differs : (name : List ℕ) (front : List Pack) (pack : Pack) (rest : List Pack) → StandsBefore name (pack_names (front ++ pack ∷ rest)) → bytes_eq name pack.name ≡ false
@@ -75,7 +80,7 @@ added_by text old pack read count next packs (d, has, none, is) moved put rest h
     )
 
 -- a pack that is left out
-pub left_by : (text : List ℕ) (old : Config) (pack : Pack) (count next : ℕ) (error : ConfigError) → error ≢ NoMemory → Answers (fault_beside count) file_pack text (Err error)
+pub left_by : (text : List ℕ) (old : Config) (pack : Pack) (count next : ℕ) (error : ConfigError) → error ≢ WantsMemory → Answers (fault_beside count) file_pack text (Err error)
     → next + length pack.queries ≡ count → (rest : List Pack) → HoldsWith old (pack ∷ rest) count
     → AddsPack text pack.name (with_packs old (pack ∷ rest)) (with_packs old rest) (left_out_line pack.name (kind_of_error error)) × HoldsWith old rest next
 left_by text old pack count next error whole answer moved rest holds =
@@ -97,6 +102,45 @@ left_by text old pack count next error whole answer moved rest holds =
         held = omega arith;
       },
     )
+
+-- the files of one pack
+files_one : (pack : Pack) (path : List ℕ) → pack.path ≡ Some path → files_of (pack ∷ []) ≡ record { name = pack.name; path = path } ∷ []
+files_one pack path is = ap (λ (p : Option (List ℕ)). files_of (record pack { path = p } ∷ [])) is
+
+files_none : (pack : Pack) → pack.path ≡ None → files_of (pack ∷ []) ≡ []
+files_none pack is = ap (λ (p : Option (List ℕ)). files_of (record pack { path = p } ∷ [])) is
+
+pub text_one : (file : List ℕ → Option (List ℕ)) (pack : Pack) (path text : List ℕ) → pack.path ≡ Some path → text ≡ text_in (file path) → text ∷ [] ≡ texts_in file (files_of (pack ∷ []))
+text_one file pack path text is told = ap (λ (t : List ℕ). t ∷ []) told ∙ sym (ap (texts_in file) (files_one pack path is))
+
+pub text_none : (file : List ℕ → Option (List ℕ)) (pack : Pack) → pack.path ≡ None → [] ≡ texts_in file (files_of (pack ∷ []))
+text_none file pack is = sym (ap (texts_in file) (files_none pack is))
+
+pub one_added : (pack : Pack) (path : List ℕ) → pack.path ≡ Some path → (text line : List ℕ) (before after : Config) → AddsPack text pack.name before after line
+    → AddsPacks (files_of (pack ∷ [])) (text ∷ []) before after line
+one_added pack path is text line before after adds =
+    subst (λ (files : List PackFile). AddsPacks files (text ∷ []) before after line) (sym (files_one pack path is)) (after, line, [], adds, (refl, refl), sym (append-nil line))
+
+-- a pack that stands in the configuration itself
+pub passed_by : (old : Config) (pack : Pack) (count : ℕ) (packs : List Pack) → pack.path ≡ None → packs ≡ old.packs ++ pack ∷ [] → (rest : List Pack) → HoldsWith old (pack ∷ rest) count
+    → AddsPacks (files_of (pack ∷ [])) [] (with_packs old (pack ∷ rest)) (with_packs (record old { packs = packs }) rest) [] × HoldsWith (record old { packs = packs }) rest count
+passed_by old pack count packs is put rest holds =
+    let whole : packs ++ rest ≡ old.packs ++ pack ∷ rest = ap (λ (ps : List Pack). ps ++ rest) put ∙ append_assoc old.packs (pack ∷ []) rest in (
+      subst (λ (files : List PackFile). AddsPacks files [] (with_packs old (pack ∷ rest)) (with_packs (record old { packs = packs }) rest) []) (sym (files_none pack is))
+      (ap (λ (ps : List Pack). record old { packs = ps }) whole, refl),
+      record {
+        names = ap (λ (ps : List Pack). names_rise (pack_names ps)) whole ∙ holds.names;
+        held = holds.held ∙ ap (λ (ps : List Pack). query_count old.schedule ps) (sym whole);
+      },
+    )
+
+pub unread_one : (pack : Pack) (path : List ℕ) → pack.path ≡ Some path → (failed : Type 0) (error : ConfiguredError) → IsUnreadAt path failed error → IsUnreadOf (files_of (pack ∷ [])) failed error
+unread_one pack path is failed (Fault file) unread =
+    let here : PackFile = record { name = pack.name; path = path } in
+    (unread.0, here, subst (λ (files : List PackFile). Contains files here) (sym (files_one pack path is)) (0, omega arith, refl), unread.1)
+unread_one pack path is failed Missing unread = absurd unread
+unread_one pack path is failed (Refused fault) unread = absurd unread
+unread_one pack path is failed NoMemory unread = tt
 
 -- where the walk stands: what it has added, and what is left of the packs
 pub record IsWalked (files_tell : Type 0) (file : List ℕ → Option (List ℕ)) (old now : Config) (passed rest : List Pack) (count : ℕ) (documents kept : List (List ℕ)) (notes told : List ℕ) : Type 0 where
