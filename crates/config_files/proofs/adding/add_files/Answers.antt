@@ -44,4 +44,4 @@ returns-in_err-add_file-clause-cause g c =
     let whole = i.whole ∙ ap (λ (l : List Pack). passed ++ l) step.0 in
     passed_error (IsUnreadOf (files_of c.args.made.now.config.packs) rose) error c.from_residual.result c.from_residual.ensures.1
     (subst (λ (ps : List Pack). IsUnreadOf (files_of ps) rose error) (sym whole)
-    (unread_turn passed pack rest failed rose error (λ more. omega arith) c.in_err-add_file.ensures.cause))
+    (unread_turn passed pack rest failed rose error (λ more. omega (arith, later, more)) c.in_err-add_file.ensures.cause))
