@@ -66,10 +66,12 @@ unread_turn packs pack rest failed later (Fault file) more is =
     let all : files_of (packs ++ pack ∷ rest) ≡ files_of packs ++ (files_of (pack ∷ []) ++ files_of rest) =
     filter_map-append file_of packs (pack ∷ rest) ∙ ap (λ (files : List PackFile). files_of packs ++ files) (filter_map-append file_of (pack ∷ []) rest) in (
       more is.0,
-      file_of_pack,
-      subst (λ (files : List PackFile). Contains files file_of_pack) (sym all)
-      (Contains-append_right (files_of packs) (files_of (pack ∷ []) ++ files_of rest) file_of_pack (Contains-append_left (files_of (pack ∷ [])) (files_of rest) file_of_pack among)),
-      same,
+      (
+        file_of_pack,
+        subst (λ (files : List PackFile). Contains files file_of_pack) (sym all)
+        (Contains-append_right (files_of packs) (files_of (pack ∷ []) ++ files_of rest) file_of_pack (Contains-append_left (files_of (pack ∷ [])) (files_of rest) file_of_pack among)),
+        same,
+      ),
     )
 unread_turn packs pack rest failed later Missing more is = absurd is
 unread_turn packs pack rest failed later (Refused fault) more is = absurd is

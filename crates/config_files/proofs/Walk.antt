@@ -1,6 +1,6 @@
 -- One walk over the packs of a configuration: each stands first of its name, behind those that the walk has passed.
-use Rattle.std.proofs.Common.{◌≡◌, ◌≢◌, inl, inr, ℕ, ◌+◌, ◌≤◌, Bool, true, false, List, [], ◌∷◌, ◌++◌, length, refl, sym, ap, ◌∙◌, subst, arith, append-nil, append_assoc, bytes_eq, Option, Some, None, Ok, Err}
-use Rattle.std.specs.Prelude.{Contains}
+use Rattle.std.proofs.Common.{◌≡◌, ◌≢◌, inl, inr, ℕ, ◌+◌, ◌≤◌, Bool, true, false, List, [], ◌∷◌, ◌++◌, length, refl, sym, ap, ◌∙◌, subst, arith, append-nil, append_assoc, bytes_eq, Option, Some, None, Result, Ok, Err}
+use Rattle.std.specs.Prelude.{Contains, IfErr, IsErrAnd}
 use Rattle.std.proofs.lemmas.List.Sums.{sum_by-append}
 use Rattle.std.proofs.lemmas.Slice.Eq.{bytes_eq-Decides}
 use Rattle.serde_json.specs.Data.{Data}
@@ -137,10 +137,15 @@ passed_by old pack count packs is put rest holds =
 pub unread_one : (pack : Pack) (path : List ℕ) → pack.path ≡ Some path → (failed : Type 0) (error : ConfiguredError) → IsUnreadAt path failed error → IsUnreadOf (files_of (pack ∷ [])) failed error
 unread_one pack path is failed (Fault file) unread =
     let here : PackFile = record { name = pack.name; path = path } in
-    (unread.0, here, subst (λ (files : List PackFile). Contains files here) (sym (files_one pack path is)) (0, omega arith, refl), unread.1)
+    (unread.0, (here, subst (λ (files : List PackFile). Contains files here) (sym (files_one pack path is)) (0, omega arith, refl), unread.1))
 unread_one pack path is failed Missing unread = absurd unread
 unread_one pack path is failed (Refused fault) unread = absurd unread
 unread_one pack path is failed NoMemory unread = tt
+
+-- an error that is passed on
+pub passed_error : {T : Type 0} (P : ConfiguredError → Type 0) (error : ConfiguredError) (r : Result T ConfiguredError) → IsErrAnd r (λ passed. passed ≡ error) → P error → IfErr r P
+passed_error P error (Ok x) same holds = tt
+passed_error P error (Err passed) same holds = subst P (sym same) holds
 
 -- where the walk stands: what it has added, and what is left of the packs
 pub record IsWalked (files_tell : Type 0) (file : List ℕ → Option (List ℕ)) (old now : Config) (passed rest : List Pack) (count : ℕ) (documents kept : List (List ℕ)) (notes told : List ℕ) : Type 0 where

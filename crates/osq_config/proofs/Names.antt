@@ -238,7 +238,7 @@ before_left first name (pack ∷ packs) before = by (bytes_eq pack.name name) (b
   by true rest = before.1
   by false rest = (before.0, rest)
 
-left_names : (name : List ℕ) (packs : List Pack) → names_rise (pack_names packs) ≡ true → names_rise (pack_names (left_out name packs)) ≡ true
+pub left_names : (name : List ℕ) (packs : List Pack) → names_rise (pack_names packs) ≡ true → names_rise (pack_names (left_out name packs)) ≡ true
 left_names name [] rise = refl
 left_names name (pack ∷ packs) rise = by (bytes_eq pack.name name) (left_names name packs (tail_rises pack.name (pack_names packs) rise)) where
   by : (t : Bool) → names_rise (pack_names (left_out name packs)) ≡ true → names_rise (pack_names (cond t packs (pack ∷ left_out name packs))) ≡ true

@@ -1,4 +1,4 @@
-use Rattle.std.proofs.Common.{rules, ◌≡◌, ◌≢◌, ◌++◌, ◌+◌, ◌∷◌, ℕ, List, [], length, refl, sym, ap, ◌∙◌, subst, append-nil, arith, Result, Ok, Err, OnOk}
+use Rattle.std.proofs.Common.{rules, ◌-◌, ◌≡◌, ◌≢◌, ◌++◌, ◌+◌, ◌∷◌, ℕ, List, [], length, refl, sym, ap, ◌∙◌, subst, append-nil, arith, Result, Ok, Err, OnOk}
 use Rattle.osq_config.specs.declared.config.Pack.{Pack}
 use Rattle.osq_config.specs.declared.error.ConfigError.TheVariants.{NoMemory}
 use Rattle.osq_config.specs.Files.{fault_beside, file_pack, refilled}
@@ -24,13 +24,15 @@ returns-in-Ok-clause-adds c =
       [],
       λ rest holds.
           let within = c.requires in
-          added_by text old pack read count _ _ answer (omega arith) (put ∙ ap (λ (p : Pack). old.packs ++ p ∷ []) c.refill.ensures) rest holds,
+          let before = c.len.ensures in
+          let more = c.len-in-Ok.ensures in
+          added_by text old pack read count (count - c.len.result + c.len-in-Ok.result) _ answer (omega arith) (put ∙ ap (λ (p : Pack). old.packs ++ p ∷ []) c.refill.ensures) rest holds,
       sym (append-nil c.args.made.now.notes),
     ))
     c.push.ensures.ok
 
-pub returns-in-Err-clause-adds : goal.returns-in-Err-clause-adds
-returns-in-Err-clause-adds c =
+pub returns : goal.returns
+returns c =
     let old = c.args.made.now.config in
     let count = c.args.count.now in
     let text = c.args.text.now in
@@ -38,12 +40,16 @@ returns-in-Err-clause-adds c =
     let error = c.in-Err.error in
     let answer = subst (λ (bytes : List ℕ). Answers (fault_beside count) file_pack bytes (Err error)) c.as_bytes.ensures.value c.in-Err.ensures.answer in
     let whole : error ≢ NoMemory = search rules in
-    when_ok c.push_note.result
-    (λ noted. (
-      left_out_line pack.name (kind_of_error error),
-      λ rest holds.
-          let within = c.requires in
-          left_by text old pack count _ error whole answer (omega arith) rest holds,
-      noted,
-    ))
-    c.push_note.ensures
+    record {
+      adds = when_ok c.push_note.result
+      (λ noted. (
+        left_out_line pack.name (kind_of_error error),
+        λ rest holds.
+            let within = c.requires in
+            let before = c.len-in-Err.ensures in
+            left_by text old pack count (count - c.len-in-Err.result) error whole answer (omega arith) rest holds,
+        noted ∙ ap (λ (name : List ℕ). c.args.made.now.notes ++ left_out_line name (kind_of_error error)) c.as_str.ensures,
+      ))
+      c.push_note.ensures;
+      documents = when_ok c.push_note.result (λ noted. refl) c.push_note.ensures;
+    }
