@@ -1,4 +1,4 @@
-use Rattle.std.proofs.Common.{◌≡◌, codes, List, ℕ}
+use Rattle.std.proofs.Common.{◌≡◌, codes}
 use Rattle.std.specs.Option.{option_or}
 use Rattle.serde_json.specs.Find.{get_member}
 use Rattle.serde_json.specs.View.{members_view}
