@@ -2,13 +2,16 @@
 """Events per second and peak memory of the readers of audit logs and of change lines, beside other readers, in one run.
 
 The program is written into a folder beside copies of the crates that it needs, proved and built by `rt run`, and run
-there. Usage: bench/readers.py [MEGABYTES [ROUNDS [FOLDER]]]. Each of the two files has MEGABYTES (default 200); each
-figure is the best of ROUNDS (default 3), since other work on the machine only takes time away. The folder is a
-temporary one unless FOLDER names one: that one stays, so that a second run need not prove again.
+there. Usage: bench/readers.py [MEGABYTES [ROUNDS [FOLDER [PROGRAM]]]]. Each of the two files has MEGABYTES (default
+200); each figure is the best of ROUNDS (default 3), since other work on the machine only takes time away. The folder is
+a temporary one unless FOLDER names one: that one stays, so that a second run need not prove again. PROGRAM is a reader
+that was built otherwise, as without proofs to try a form; nothing is proved then.
 
 The audit log is read by the publisher, by `ausearch --format csv`, and by a loop over libauparse that takes the name
-and the text of each field of each record. The change lines are read by the publisher, and by Python's json module
-line by line. The other readers of audit logs are left out where Debian's auditd or libauparse-dev is not installed.
+and the text of each field of each record. The change lines become rows of ten columns by the publisher, by Python's
+json module, and by the sqlite3 command line, which imports the lines and makes a table of them by json_extract. The
+peers test no path against a pattern. A reader that is not installed is left out: those of audit logs are in Debian's
+auditd and libauparse-dev.
 Times are those of the processor, by /usr/bin/time, since the time by the clock tells how busy the machine is; that one
 is printed too.
 """
@@ -185,14 +188,21 @@ int main(int argc, char **argv)
 }
 """
 
+KEYS = ("path", "action", "inode", "uid", "gid", "mode", "size", "mtime", "time")
+
 JSON_LOOP = """\
 import json, sys
 count = 0
+rows = []
 with open(sys.argv[1], "rb") as lines:
     for line in lines:
-        json.loads(line)
-        count += 1
-print(count)
+        it = json.loads(line)
+        get = it.get
+        rows.append((get("path"), "etc", get("action"), get("inode"), get("uid"), get("gid"), get("mode"), get("size"), get("mtime"), get("time")))
+        if len(rows) == 10000:
+            count += len(rows)
+            rows = []
+print(count + len(rows))
 """
 
 GROUP = """\
@@ -299,52 +309,60 @@ def run_once(folder: pathlib.Path, command: list[str], wanted: str | None) -> Fi
     return Figure(user + system, clock, peak / 1024)
 
 
-def measure(
-    folder: pathlib.Path,
-    name: str,
-    command: list[str],
-    wanted: str | None,
-    count: int,
-    rounds: int,
-) -> Figure:
-    """Prints the best figures of some runs over so many events, and answers them."""
-    runs = [run_once(folder, command, wanted) for _ in range(rounds)]
-    best = Figure(*(min(run[at] for run in runs) for at in range(3)))
-    rate = count / best.processor
-    print(
-        f"{name:26} {rate:10.0f} {best.processor:11.2f} {best.clock:9.2f} {best.peak:8.1f}",
-        flush=True,
-    )
-    return best
+class Reader(typing.NamedTuple):
+    """A reader's name, its command, how its output begins where that is known, and the most that ours may take of its time."""
+
+    name: str
+    command: list[str]
+    wanted: str | None
+    goal: float = 1.0
 
 
-def tell_ratio(ours: Figure, theirs: Figure, name: str, goal: float) -> None:
-    ratio = ours.processor / theirs.processor
-    print(f"time of the publisher / {name}: {ratio:.2f} (goal: at most {goal})", flush=True)
+def measure(folder: pathlib.Path, readers: list[Reader], count: int, rounds: int) -> Figure:
+    """Runs readers in turn over so many events, prints the best figures of each and how the first one's time is to the others'."""
+    runs: list[list[Figure]] = [[] for _ in readers]
+    for _ in range(rounds):
+        for reader, figures in zip(readers, runs):
+            figures.append(run_once(folder, reader.command, reader.wanted))
+    bests = [Figure(*(min(run[at] for run in figures) for at in range(3))) for figures in runs]
+    print(f"{'reader':26} {'events/s':>10} {'processor s':>11} {'clock s':>9} {'peak MB':>8}")
+    for reader, best in zip(readers, bests):
+        rate = count / best.processor
+        print(f"{reader.name:26} {rate:10.0f} {best.processor:11.2f} {best.clock:9.2f} {best.peak:8.1f}")
+    for reader, best in zip(readers[1:], bests[1:]):
+        ratio = bests[0].processor / best.processor
+        print(f"time of the publisher / {reader.name}: {ratio:.2f} (goal: at most {reader.goal})", flush=True)
+    return bests[0]
 
 
-def measure_audit(folder: pathlib.Path, size: int, rounds: int) -> tuple[str, Figure]:
+def measure_audit(folder: pathlib.Path, built: str | None, size: int, rounds: int) -> tuple[str, Figure]:
     """Measures the readers of audit logs, and answers our program and its figures."""
     log = folder / "audit.log"
     count = generate(log, audit_group, size)
-    reader = build_reader(folder, log)
+    reader = built or build_reader(folder, log)
     print(f"{count} audit groups, the best of {rounds} runs")
-    print(f"{'reader':26} {'events/s':>10} {'processor s':>11} {'clock s':>9} {'peak MB':>8}")
-    command = [reader, "audit", str(log)]
-    ours = measure(folder, "publisher", command, f"{count} 0\n", count, rounds)
+    readers = [Reader("publisher", [reader, "audit", str(log)], f"{count} 0\n")]
     if shutil.which("ausearch"):
         command = ["ausearch", "--format", "csv", "--input", str(log)]
-        csv = measure(folder, "ausearch --format csv", command, None, count, rounds)
-        tell_ratio(ours, csv, "ausearch --format csv", 0.4)
+        readers.append(Reader("ausearch --format csv", command, None, 0.4))
     else:
         print("ausearch is left out: auditd is not installed")
     if AUPARSE.exists() and shutil.which("gcc"):
         command = [build_loop(folder), str(log)]
-        loop = measure(folder, "loop over libauparse", command, f"{count} ", count, rounds)
-        tell_ratio(ours, loop, "loop over libauparse", 1.0)
+        readers.append(Reader("loop over libauparse", command, f"{count} "))
     else:
         print("the loop over libauparse is left out: libauparse-dev or gcc is not installed")
-    return reader, ours
+    return reader, measure(folder, readers, count, rounds)
+
+
+def sqlite_script(lines: pathlib.Path) -> str:
+    """Makes a table of the rows of these lines, and tells how many it has."""
+    columns = ", ".join(f"json_extract(line, '$.{key}') AS {key}" for key in KEYS)
+    return (
+        '.mode list\n.separator "\\t" "\\n"\nCREATE TABLE changes (line TEXT);\n'
+        f".import {lines} changes\nCREATE TABLE found AS SELECT 'etc' AS category, {columns} FROM changes;\n"
+        "SELECT COUNT(*) FROM found;\n"
+    )
 
 
 def measure_changes(folder: pathlib.Path, reader: str, size: int, rounds: int) -> Figure:
@@ -352,16 +370,22 @@ def measure_changes(folder: pathlib.Path, reader: str, size: int, rounds: int) -
     lines = folder / "changes.jsonl"
     count = generate(lines, change_line, size)
     print(f"{count} change lines, the best of {rounds} runs")
-    command = [reader, "changes", str(lines)]
-    ours = measure(folder, "publisher", command, f"{count} 0\n", count, rounds)
-    command = [sys.executable, "-c", JSON_LOOP, str(lines)]
-    theirs = measure(folder, "Python's json", command, f"{count}\n", count, rounds)
-    tell_ratio(ours, theirs, "Python's json", 0.2)
-    return ours
+    readers = [
+        Reader("publisher", [reader, "changes", str(lines)], f"{count} 0\n"),
+        Reader("Python's json", [sys.executable, "-c", JSON_LOOP, str(lines)], f"{count}\n", 0.35),
+    ]
+    if shutil.which("sqlite3"):
+        script = folder / "script"
+        script.write_text(sqlite_script(lines))
+        command = ["sqlite3", ":memory:", f".read {script}"]
+        readers.append(Reader("sqlite3's json_extract", command, f"{count}\n", 0.7))
+    else:
+        print("json_extract is left out: sqlite3 is not installed")
+    return measure(folder, readers, count, rounds)
 
 
-def measure_all(folder: pathlib.Path, size: int, rounds: int) -> None:
-    reader, audit = measure_audit(folder, size, rounds)
+def measure_all(folder: pathlib.Path, built: str | None, size: int, rounds: int) -> None:
+    reader, audit = measure_audit(folder, built, size, rounds)
     changes = measure_changes(folder, reader, size, rounds)
     peak = max(audit.peak, changes.peak)
     print(f"peak memory of the publisher: {peak:.1f} MB (goal: below {MOST_PEAK:.0f})")
@@ -373,10 +397,10 @@ def main() -> None:
     if len(sys.argv) > 3:
         folder = pathlib.Path(sys.argv[3])
         folder.mkdir(parents=True, exist_ok=True)
-        measure_all(folder.resolve(), size, rounds)
+        measure_all(folder.resolve(), sys.argv[4] if len(sys.argv) > 4 else None, size, rounds)
     else:
         with tempfile.TemporaryDirectory() as folder:
-            measure_all(pathlib.Path(folder), size, rounds)
+            measure_all(pathlib.Path(folder), None, size, rounds)
 
 
 if __name__ == "__main__":

@@ -1,4 +1,6 @@
 pub mod AllThere
+pub mod ChangeMembers
 pub mod FirstCategory
+pub mod FoundMembers
 pub mod PartMatches
 pub mod PathMatches

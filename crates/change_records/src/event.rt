@@ -69,18 +69,22 @@ fn row(alloc: Global, change: &Change, category: &Str) -> Result<Row, NoMemory>
     ensures { IfOk result (λ row. row ≡ file_row change.now category.now) }
 {
     let numbers = &change.numbers;
-    let mut row = Row::with_capacity(alloc, 10)?;
-    row.push(Value::Text(change.path.copy(alloc)?))?;
-    row.push(Value::Text(category.copy(alloc)?))?;
-    row.push(Value::Text(change.action.copy(alloc)?))?;
-    row.push(number_at(alloc, numbers, 0)?)?;
-    row.push(number_at(alloc, numbers, 1)?)?;
-    row.push(number_at(alloc, numbers, 2)?)?;
-    row.push(change.mode.copy(alloc)?)?;
-    row.push(number_at(alloc, numbers, 3)?)?;
-    row.push(number_at(alloc, numbers, 4)?)?;
-    row.push(change.time.copy(alloc)?)?;
-    row.shared(alloc)
+    let values = Vec::from_array(
+        alloc,
+        [
+            Value::Text(change.path.copy(alloc)?),
+            Value::Text(category.copy(alloc)?),
+            Value::Text(change.action.copy(alloc)?),
+            number_at(alloc, numbers, 0)?,
+            number_at(alloc, numbers, 1)?,
+            number_at(alloc, numbers, 2)?,
+            change.mode.copy(alloc)?,
+            number_at(alloc, numbers, 3)?,
+            number_at(alloc, numbers, 4)?,
+            change.time.copy(alloc)?,
+        ],
+    )?;
+    Row::from_vec(values).shared(alloc)
 }
 
 fn number_at(alloc: Global, numbers: &Row, place: usize) -> Result<Value, NoMemory>

@@ -1,8 +1,9 @@
-ghost use Rattle.std.specs.Prelude.{◌≡◌, option_and_then, option_map};
-ghost use Rattle.serde_json.specs.Find.{get, as_str};
+ghost use Rattle.std.specs.Prelude.{◌≡◌, Some, option_map};
+ghost use Rattle.serde_json.specs.Find.{as_str};
 ghost use Rattle.serde_json.specs.View.{view};
 ghost use Rattle.change_records.specs.Changes.{text_at};
 ghost use Rattle.change_records.specs.Fields.{number_of, text_of};
+ghost use Rattle.change_records.specs.Members.{held};
 ghost use Rattle.change_records.specs.Reads.{Reads};
 
 use crate::error::JsonLineError;
@@ -17,12 +18,12 @@ pub fn text_at<'a>(line: &'a Json, key: &str) -> Option<&'a str>
     line.get(key)?.as_str()
 }
 
-/// A member that holds a whole number or a text that spells one.
+/// The whole number that a member holds, or that its text spells.
 /// BadLine where it holds anything else but null; Null where it is missing.
-pub fn number_at(line: &Json, key: &str) -> Result<Value, JsonLineError>
-    ensures { Reads (number_of (get key.now (view line.now))) result }
+pub fn number_in(member: Option<&Json>) -> Result<Value, JsonLineError>
+    ensures { Reads (number_of (held member.entry)) result }
 {
-    match line.get(key) {
+    match member {
         None => Ok(Value::Null),
         Some(value) => number(value).ok_or(JsonLineError::BadLine),
     }
@@ -41,12 +42,12 @@ fn number(value: &Json) -> Option<Value>
     number.map(Value::Int)
 }
 
-/// A member that holds a text.
+/// The text that a member holds.
 /// BadLine where it holds anything else but null; Null where it is missing.
-pub fn value_at(alloc: Global, line: &Json, key: &str) -> Result<Value, JsonLineError>
-    ensures { Reads (text_of (get key.now (view line.now))) result }
+pub fn value_in(alloc: Global, member: Option<&Json>) -> Result<Value, JsonLineError>
+    ensures { Reads (text_of (held member.entry)) result }
 {
-    match line.get(key) {
+    match member {
         None => Ok(Value::Null),
         Some(value) => text(alloc, value),
     }

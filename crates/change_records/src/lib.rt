@@ -5,6 +5,7 @@ pub mod change;
 pub mod error;
 pub mod event;
 mod field;
+mod members;
 pub mod pattern;
 pub mod read;
 pub mod table;

@@ -1,11 +1,13 @@
 ghost use Rattle.std.specs.Prelude.{◌≡◌, codes, option_map};
 ghost use Rattle.serde_json.specs.View.{view};
-ghost use Rattle.change_records.specs.Changes.{action_of, change_of, is_path, numbers_of, path_of};
+ghost use Rattle.change_records.specs.Changes.{action_of, change_of, change_with, is_path, numbers_of, path_of};
+ghost use Rattle.change_records.specs.Members.{held};
 ghost use Rattle.change_records.specs.Reads.{Reads, ReadsLine};
 
 use crate::change::Change;
 use crate::error::JsonLineError;
-use crate::field::{number_at, text_at, value_at};
+use crate::field::{number_in, value_in};
+use crate::members::Members;
 use osq_value::{Row, Str};
 use serde_json::Value as Json;
 use std::alloc::Global;
@@ -30,15 +32,22 @@ pub fn read_change(alloc: Global, text: &[u8]) -> Result<Change, JsonLineError>
     change(alloc, &line)
 }
 
-#[tactic(auto, unfolding(crate::specs::Changes::change_of))]
 fn change(alloc: Global, line: &Json) -> Result<Change, JsonLineError>
     ensures { Reads (change_of (view line.now)) result }
 {
-    let path = path(alloc, line)?;
-    let action = action(alloc, line)?;
-    let numbers = numbers(alloc, line)?;
-    let mode = value_at(alloc, line, "mode")?;
-    let time = number_at(line, "time")?;
+    change_with(alloc, Members::of(line))
+}
+
+#[tactic(auto, unfolding(crate::specs::Changes::change_with))]
+fn change_with(alloc: Global, members: Members<'_>) -> Result<Change, JsonLineError>
+    ensures { Reads (change_with (held members.entry.path) (held members.entry.action) (held members.entry.inode) (held members.entry.uid)
+        (held members.entry.gid) (held members.entry.size) (held members.entry.mtime) (held members.entry.mode) (held members.entry.time)) result }
+{
+    let path = path(alloc, members.path)?;
+    let action = action(alloc, members.action)?;
+    let numbers = numbers(alloc, members)?;
+    let mode = value_in(alloc, members.mode)?;
+    let time = number_in(members.time)?;
     Ok(Change {
         path,
         action,
@@ -48,10 +57,10 @@ fn change(alloc: Global, line: &Json) -> Result<Change, JsonLineError>
     })
 }
 
-fn path(alloc: Global, line: &Json) -> Result<Str, JsonLineError>
-    ensures { Reads (path_of (view line.now)) result }
+fn path(alloc: Global, member: Option<&Json>) -> Result<Str, JsonLineError>
+    ensures { Reads (path_of (held member.entry)) result }
 {
-    let path = text_at(line, "path").ok_or(JsonLineError::BadLine)?;
+    let path = member.and_then(Json::as_str).ok_or(JsonLineError::BadLine)?;
     if path.as_bytes().first() == Some(&b'/') {
         Ok(Str::of(alloc, path)?)
     } else {
@@ -59,10 +68,10 @@ fn path(alloc: Global, line: &Json) -> Result<Str, JsonLineError>
     }
 }
 
-fn action(alloc: Global, line: &Json) -> Result<Str, JsonLineError>
-    ensures { Reads (action_of (view line.now)) result }
+fn action(alloc: Global, member: Option<&Json>) -> Result<Str, JsonLineError>
+    ensures { Reads (action_of (held member.entry)) result }
 {
-    let action = text_at(line, "action").ok_or(JsonLineError::BadLine)?;
+    let action = member.and_then(Json::as_str).ok_or(JsonLineError::BadLine)?;
     if 1 <= action.len() && action.len() <= 64 {
         Ok(Str::of(alloc, action)?)
     } else {
@@ -70,14 +79,14 @@ fn action(alloc: Global, line: &Json) -> Result<Str, JsonLineError>
     }
 }
 
-fn numbers(alloc: Global, line: &Json) -> Result<Row, JsonLineError>
-    ensures { Reads (numbers_of (view line.now)) result }
+fn numbers(alloc: Global, members: Members<'_>) -> Result<Row, JsonLineError>
+    ensures { Reads (numbers_of (held members.entry.inode) (held members.entry.uid) (held members.entry.gid) (held members.entry.size) (held members.entry.mtime)) result }
 {
-    let inode = number_at(line, "inode")?;
-    let uid = number_at(line, "uid")?;
-    let gid = number_at(line, "gid")?;
-    let size = number_at(line, "size")?;
-    let mtime = number_at(line, "mtime")?;
+    let inode = number_in(members.inode)?;
+    let uid = number_in(members.uid)?;
+    let gid = number_in(members.gid)?;
+    let size = number_in(members.size)?;
+    let mtime = number_in(members.mtime)?;
     let mut numbers = Row::with_capacity(alloc, 5)?;
     numbers.push(inode)?;
     numbers.push(uid)?;
