@@ -1,4 +1,4 @@
--- What is expected, kept on a stack with the next part at its end.
+-- For proofs of the recognizer's steps, and no part of what a fault is: what is expected, kept on a stack with the next part at its end.
 use Rattle.std.specs.Prelude.{◌≡◌, List, [], ◌∷◌, ◌++◌, Option, Some, None, Bool, true, false}
 use Rattle.sql_faults.specs.declared.part.Part.{Part}
 use Rattle.sql_faults.specs.declared.part.Part.TheVariants.{One}

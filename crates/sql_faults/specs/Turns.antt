@@ -1,4 +1,4 @@
--- One turn of the reading, whatever faults come behind it.
+-- For proofs of the recognizer's steps, and no part of what a fault is: one turn of the reading, whatever faults come behind it.
 use Rattle.std.specs.Prelude.{◌≡◌, List, Option}
 use Rattle.sql_faults.specs.declared.part.Part.{Part}
 use Rattle.sql_tokens.specs.declared.token.Token.{Token}

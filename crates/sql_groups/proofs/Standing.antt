@@ -9,13 +9,14 @@ use Rattle.osq_value.specs.declared.value.Value.TheVariants.{Null, Int, Text}
 use Rattle.sql_tree.specs.declared.functions.Fold.TheVariants.{Count, Sum}
 use Rattle.sql_scalar.specs.Arithmetic.{whole}
 use Rattle.sql_meaning.specs.Expressions.{value_at}
-use Rattle.sql_meaning.specs.Folds.{is_known, sum_over, total}
+use Rattle.sql_meaning.specs.Folds.{sum_over, total}
+use Rattle.sql_meaning.specs.Known.{is_known, known_of}
 use Rattle.sql_meaning.specs.Looks.{extreme_of}
 use Rattle.sql_meaning.proofs.FoldsLaws.{reduce-push, total-more}
 use Rattle.sql_groups.specs.declared.items.GroupItem.{GroupItem}
 use Rattle.sql_groups.specs.declared.items.GroupItem.TheVariants as item
 use Rattle.sql_groups.specs.declared.so_far.SoFar.TheVariants as so_far
-use Rattle.sql_groups.specs.Folding.{Stands, best_with, count_with, counted, first, greatest, item_over, known, known_of, knowns, least, number_in, sum_of, sum_with, sum_worth, summed}
+use Rattle.sql_groups.specs.Folding.{Stands, best_with, count_with, counted, first, greatest, item_over, known, knowns, least, number_in, sum_of, sum_with, sum_worth, summed}
 
 pub is-copied : (value : Option (Bor Value)) → is_some value ≡ is_some (option_copied value)
 is-copied None = refl

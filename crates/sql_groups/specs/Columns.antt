@@ -1,4 +1,4 @@
--- Rows by the values of columns.
+-- For proofs of the code's steps, and no part of the meaning: rows by the values of columns.
 use Rattle.std.specs.Prelude.{◌≡◌, Bool, List, map}
 use Rattle.std.specs.Ordering.{is_lt}
 use Rattle.std.specs.declared.cmp.Ordering.{Ordering}

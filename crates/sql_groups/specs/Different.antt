@@ -1,4 +1,4 @@
--- The first of rows with equal values of a column.
+-- For proofs of the code's steps, and no part of the meaning: the first of rows with equal values of a column.
 use Rattle.std.specs.Prelude.{◌≡◌, ℕ, Bool, if◌then◌else◌, List, [], ◌∷◌, ◌++◌, filter, map}
 use Rattle.std.specs.Borrow.{Bor}
 use Rattle.std.specs.List.{list_any}

@@ -1,4 +1,4 @@
--- Groups that are folded row by row.
+-- For proofs of the code's steps, and no part of the meaning: groups that are folded row by row.
 use Rattle.std.specs.Prelude.{◌≡◌, ◌+◌, ◌+ℤ◌, ℕ, ℤ, pos, Bool, true, false, List, [], ◌∷◌, Option, Some, None, filter, filter_map, length, map}
 use Rattle.std.specs.Borrow.{Bor}
 use Rattle.std.specs.Option.{option_copied}
@@ -9,8 +9,9 @@ use Rattle.sql_scalar.specs.Arithmetic.{whole, within}
 use Rattle.sql_query.specs.Exprs.{ExprTree}
 use Rattle.sql_meaning.specs.declared.joined.Joined.{Joined}
 use Rattle.sql_meaning.specs.Expressions.{value_at}
-use Rattle.sql_meaning.specs.Folds.{folded_over, is_known, total}
+use Rattle.sql_meaning.specs.Folds.{folded_over, total}
 use Rattle.sql_meaning.specs.Groups.{groups_by}
+use Rattle.sql_meaning.specs.Known.{is_known, known_of}
 use Rattle.sql_meaning.specs.Lent.{values_in}
 use Rattle.sql_meaning.specs.Looks.{extreme_of, nearer_of}
 use Rattle.sql_meaning.specs.Steps.{first_row}
@@ -30,12 +31,6 @@ item_over (item.Folded fold place) rows = folded_over fold false (map (λ row. v
 -- the values at a place of rows that aren't Null
 abbrev pub knowns : ℕ → List (List Value) → List Value
 knowns place rows = filter is_known (map (λ row. value_at row place) rows)
-
--- a value, where it isn't Null
-abbrev pub known_of : Value → Option Value
-known_of Null = None
-known_of (Int n) = Some (Int n)
-known_of (Text s) = Some (Text s)
 
 -- the true sum of numbers, where there are some
 abbrev pub sum_of : List ℤ → Option ℤ

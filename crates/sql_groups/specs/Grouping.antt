@@ -1,4 +1,4 @@
--- Groups by the values of a column, one row after another.
+-- For proofs of the code's steps, and no part of the meaning: groups by the values of a column, one row after another.
 use Rattle.std.specs.Prelude.{◌≡◌, ℕ, if◌then◌else◌, List, [], ◌∷◌, ◌++◌, Option, Some, None, filter, get_or, map, set}
 use Rattle.std.specs.Borrow.{Bor}
 use Rattle.std.specs.List.{AllZip, list_any, position_or_len}

@@ -1,4 +1,4 @@
--- The rows for which a condition holds.
+-- For proofs of the code's steps, and no part of the meaning: the rows for which a condition holds.
 use Rattle.std.specs.Prelude.{Bool, List}
 use Rattle.sql_query.specs.Exprs.{ExprTree}
 use Rattle.sql_meaning.specs.declared.joined.Joined.{Joined}

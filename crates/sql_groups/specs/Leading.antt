@@ -1,4 +1,4 @@
--- The first rows in an order.
+-- For proofs of the code's steps, and no part of the meaning: the first rows in an order.
 use Rattle.std.specs.Prelude.{◌≡◌, ℕ, Bool, false, List, [], ◌∷◌, filter, take}
 use Rattle.sql_query.specs.Exprs.{ExprTree}
 use Rattle.sql_meaning.specs.declared.joined.Joined.{Joined}

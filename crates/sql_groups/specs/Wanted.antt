@@ -1,4 +1,4 @@
--- How many rows LIMIT and OFFSET look at.
+-- For proofs of the code's steps, and no part of the meaning: how many rows LIMIT and OFFSET look at.
 use Rattle.std.specs.Prelude.{◌≡◌, ◌+◌, ℕ, ℤ, pos, Option, Some}
 use Rattle.sql_meaning.specs.Cut.{passed_over}
 

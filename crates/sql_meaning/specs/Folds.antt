@@ -3,17 +3,13 @@ use Rattle.std.specs.Prelude.{ℕ, ℤ, pos, ◌+ℤ◌, List, [], ◌∷◌, le
 use Rattle.std.specs.List.{reduce}
 use Rattle.std.specs.Ordering.{is_lt, is_gt}
 use Rattle.osq_value.specs.declared.value.Value.{Value}
-use Rattle.osq_value.specs.declared.value.Value.TheVariants.{Null, Int, Text}
+use Rattle.osq_value.specs.declared.value.Value.TheVariants.{Null, Int}
 use Rattle.osq_value.specs.Order.{order_of}
 use Rattle.sql_tree.specs.declared.functions.Fold.{Fold}
 use Rattle.sql_tree.specs.declared.functions.Fold.TheVariants.{Count, Sum, Min, Max}
 use Rattle.sql_scalar.specs.Arithmetic.{whole, within}
 use Rattle.sql_meaning.specs.Firsts.{firsts_by}
-
-abbrev pub is_known : Value → Bool
-is_known Null = false
-is_known (Int n) = true
-is_known (Text s) = true
+use Rattle.sql_meaning.specs.Known.{is_known}
 
 -- each value once
 abbrev pub different : List Value → List Value

@@ -1,4 +1,4 @@
--- Rows beside what they are grouped by.
+-- For proofs of the code's steps, and no part of the meaning: rows beside what they are grouped by.
 use Rattle.std.specs.Prelude.{List}
 use Rattle.osq_value.specs.declared.value.Value.{Value}
 use Rattle.sql_query.specs.Exprs.{ExprTree}

@@ -1,4 +1,4 @@
--- The best of values, one value after another.
+-- For proofs of the code's steps, and no part of the meaning: the best of values, one value after another.
 use Rattle.std.specs.Prelude.{List, Bool, true, false, Option, Some, None}
 use Rattle.std.specs.List.{reduce}
 use Rattle.osq_value.specs.declared.value.Value.{Value}

@@ -1,4 +1,4 @@
--- The test of equality that `==` makes of values is that of their order, and so an equivalence.
+-- For the keys of maps, and no part of the meaning: the test of equality that `==` makes of values is that of their order, and so an equivalence.
 use Rattle.std.proofs.Common.{◌≡◌, ℕ, refl, sym, ap, ◌∙◌, Bool, true, false, List, bytes_eq, is_eq}
 use Rattle.std.specs.Cmp.{Equal-is, IsEquivalence, both_ways}
 use Rattle.std.proofs.lemmas.Slice.Eq.{bytes_eq-Decides}

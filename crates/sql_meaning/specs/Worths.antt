@@ -1,4 +1,4 @@
--- What lent and made values are worth.
+-- What lent and made values stand for.
 use Rattle.std.specs.Prelude.{List, map}
 use Rattle.osq_value.specs.declared.value.Value.{Value}
 use Rattle.sql_meaning.specs.declared.worth.Worth.{Worth}

@@ -1,7 +1,8 @@
 //! What an aggregate makes of the rows of a group.
 ghost use Rattle.std.specs.Prelude.{◌≡◌, ℤ, pos, IfOk, filter, filter_map, unwrap_or};
 ghost use Rattle.osq_value.specs.declared.value.Value.TheVariants.{Int, Null};
-ghost use Rattle.sql_meaning.specs.Folds.{counted_rows, different, folded_over, is_known, looked_at, sum_over};
+ghost use Rattle.sql_meaning.specs.Folds.{counted_rows, different, folded_over, looked_at, sum_over};
+ghost use Rattle.sql_meaning.specs.Known.{is_known};
 ghost use Rattle.sql_meaning.specs.Looks.{extreme_of, nearer_of};
 ghost use Rattle.sql_scalar.specs.Arithmetic.{whole, within};
 

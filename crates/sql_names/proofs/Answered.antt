@@ -1,12 +1,13 @@
 -- What `resolve` finds on the way is what its definitions say.
 use Rattle.std.proofs.Common.{◌≡◌, ℕ, List, Option, Some, None, ap, sym, ◌∙◌}
+use Rattle.std.specs.Option.{option_or}
 use Rattle.sql_tree.specs.Select.{SelectTree}
 use Rattle.sql_names.specs.declared.error.NameError.{NameError}
 use Rattle.sql_names.specs.declared.error.NameKind.TheVariants as kind
 use Rattle.sql_scope.specs.declared.mention.Mention.{Mention}
 use Rattle.sql_scope.specs.declared.scope.Seen.{Seen}
 use Rattle.sql_query.specs.Exprs.{ExprTree}
-use Rattle.sql_scope.specs.Scope.{scope_of, or_else}
+use Rattle.sql_scope.specs.Scope.{scope_of}
 use Rattle.sql_scope.specs.Mentions.{mentions_of_select}
 use Rattle.sql_scope.specs.Shown.{ShownTree}
 use Rattle.sql_names.specs.Kinds.{too_many_tables}
@@ -28,7 +29,7 @@ found_query text scope select shown found query s m q none =
 pub whole_fault : (text : List ℕ) (select : SelectTree) (scope : List Seen) → scope ≡ scope_of text select.sources → None ≡ too_many_tables select.sources → name_fault text select ≡ fault_within (names_within text scope select) select
 unfolding name_fault names_of_select
 whole_fault text select scope s none =
-    ap (λ (x : Option ℕ). or_else (fault_of kind.TooManyTables x) (fault_within (names_within text (scope_of text select.sources) select) select)) (sym none)
+    ap (λ (x : Option ℕ). option_or (fault_of kind.TooManyTables x) (fault_within (names_within text (scope_of text select.sources) select) select)) (sym none)
     ∙ ap (λ (x : List Seen). fault_within (names_within text x select) select) (sym s)
 
 pub whole_query : (text : List ℕ) (select : SelectTree) (scope : List Seen) → scope ≡ scope_of text select.sources → None ≡ too_many_tables select.sources → resolved text select ≡ resolved_within (names_within text scope select) select

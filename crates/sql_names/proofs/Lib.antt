@@ -9,3 +9,4 @@ pub mod Standings
 pub mod ItemsStand
 pub mod PartsStand
 pub mod QueryStands
+pub mod SameTrees

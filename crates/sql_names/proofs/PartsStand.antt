@@ -1,6 +1,6 @@
 -- Conditions, the joins of FROM, GROUP BY and ORDER BY stand where their mentions do.
 use Rattle.std.proofs.Common.{◌≡◌, ℕ, zero, suc, ◌+◌, ◌++◌, Bool, true, false, List, [], ◌∷◌, length, take, map, Option, Some, None, refl, ap, sym, ◌∙◌, subst, arith, inl, inr}
-use Rattle.std.specs.Prelude.{slice_get, ◌<◌, ◌≤◌, not, ◌||◌, if◌then◌else◌}
+use Rattle.std.specs.Prelude.{slice_get, ◌<◌, ◌≤◌, not, ◌||◌, if◌then◌else◌, is_some}
 use Rattle.std.specs.List.{AllByRecursion}
 use Rattle.std.specs.Option.{option_map_or}
 use Rattle.std.proofs.lemmas.List.{map-append, take-take}
@@ -29,7 +29,7 @@ use Rattle.sql_scope.specs.Naming.{expr_of}
 use Rattle.sql_query.specs.Resolved.{SourceTree, OrderTree}
 use Rattle.sql_names.specs.Making.{joined_name, join_exprs, source_tree, source_trees, key_exprs, orders}
 use Rattle.sql_names.specs.Results.{are_ands, right_of, rights_of, conjuncts, condition, index_in, numbered, term_by}
-use Rattle.sql_scope.specs.Scope.{is_some, place_in, plain_place, columns_seen, table_number}
+use Rattle.sql_scope.specs.Scope.{place_in, plain_place, columns_seen, table_number}
 use Rattle.sql_scope.specs.Shown.{ShownTree, Names}
 use Rattle.sql_scope.specs.Spelling.{name_text}
 use Rattle.sql_query.specs.Standing.{Stands, IsOfCatalogue, columns_in}

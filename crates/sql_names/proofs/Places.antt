@@ -1,7 +1,7 @@
 -- The tables that names see are those of FROM, and what a name stands for is a column of one of them.
 use Rattle.std.proofs.Common.{◌≡◌, ℕ, zero, suc, ◌≤◌, ◌+◌, ◌<◌, ◌++◌, Bool, true, false, List, [], ◌∷◌, length, take, map, Option, Some, None, refl, ap, sym, ◌∙◌, subst, arith, append_assoc, length-append}
 use Rattle.std.specs.Prelude.{slice_get, if◌then◌else◌}
-use Rattle.std.specs.Option.{option_map_or}
+use Rattle.std.specs.Option.{option_map_or, option_or}
 use Rattle.std.proofs.lemmas.List.{take_at, take-map}
 use Rattle.std.proofs.lemmas.Option.{slice_get_within, none-some, same_Some}
 use Rattle.sql_tree.specs.Select.{RefTree}
@@ -9,7 +9,7 @@ use Rattle.sql_query.specs.declared.query.SourceColumn.{SourceColumn}
 use Rattle.sql_query.specs.declared.place.Place.{Place}
 use Rattle.sql_scope.specs.declared.scope.Seen.{Seen}
 use Rattle.sql_names.specs.Kinds.{place_at}
-use Rattle.sql_scope.specs.Scope.{columns_seen, seen_at, scope_from, scope_of, place_from, place_in, or_else, plain_place, known_place}
+use Rattle.sql_scope.specs.Scope.{columns_seen, seen_at, scope_from, scope_of, place_from, place_in, plain_place, known_place}
 use Rattle.sql_scope.specs.Spelling.{same_name}
 use Rattle.sql_query.specs.Standing.{row_width, IsColumn}
 use Rattle.sql_query.proofs.Widths.{row_width-append}
@@ -105,7 +105,7 @@ either : {A : Type 0} (P : Type 0) (test : Bool) (a b : Option A) (y : A) → (i
 either P true a b y e here there = here e
 either P false a b y e here there = there e
 
-first_or : {A : Type 0} (P : Type 0) (a b : Option A) (y : A) → or_else a b ≡ Some y → (a ≡ Some y → P) → (b ≡ Some y → P) → P
+first_or : {A : Type 0} (P : Type 0) (a b : Option A) (y : A) → option_or a b ≡ Some y → (a ≡ Some y → P) → (b ≡ Some y → P) → P
 first_or P None b y e here there = there e
 first_or P (Some x) b y e here there = here e
 
@@ -129,8 +129,8 @@ plain_place_is tables (seen ∷ scope) name p are found =
 pub known_place_is : (tables : List (List SourceColumn)) (scope : List Seen) (table name : List ℕ) (p : Place) → AreSeen tables scope → known_place table name scope ≡ Some p → IsPlace tables p
 known_place_is tables [] table name p are found = absurd (none-some p found)
 known_place_is tables (seen ∷ scope) table name p are found =
-    either (IsPlace tables p) (same_name seen.known table) (or_else (place_in name seen) (known_place table name scope)) (known_place table name scope) p found
-    (λ (e : or_else (place_in name seen) (known_place table name scope) ≡ Some p). first_or (IsPlace tables p) (place_in name seen) (known_place table name scope) p e (place_in_is tables seen name p are.0) (known_place_is tables scope table name p are.1))
+    either (IsPlace tables p) (same_name seen.known table) (option_or (place_in name seen) (known_place table name scope)) (known_place table name scope) p found
+    (λ (e : option_or (place_in name seen) (known_place table name scope) ≡ Some p). first_or (IsPlace tables p) (place_in name seen) (known_place table name scope) p e (place_in_is tables seen name p are.0) (known_place_is tables scope table name p are.1))
     (known_place_is tables scope table name p are.1)
 
 place_by : (tables : List (List SourceColumn)) (scope : List Seen) (number : ℕ) (name : List ℕ) (p : Place) (at : Option Seen) → AreSeen tables scope → slice_get scope number ≡ at → option_map_or (place_in name) at None ≡ Some p → IsPlace tables p

@@ -1,5 +1,6 @@
 -- The columns and aggregates of the query of a select without a fault stand where they may.
 use Rattle.std.proofs.Common.{◌≡◌, ℕ, ◌+◌, Bool, true, false, List, [], ◌∷◌, take, map, Option, Some, None, refl, sym, subst, arith}
+use Rattle.std.specs.Option.{option_or}
 use Rattle.std.specs.Prelude.{◌≤◌, length, ◌||◌, IfOk, Result, Ok, Err}
 use Rattle.std.specs.List.{All, AllByRecursion}
 use Rattle.std.proofs.lemmas.List.Elements.{All-from_recursion}
@@ -22,7 +23,7 @@ use Rattle.sql_names.specs.Resolve.{names_within, names_of_select, fault_of, fau
 use Rattle.sql_query.specs.Resolved.{ResultTree, OrderTree, QueryTree, query_of}
 use Rattle.sql_names.specs.Making.{source_trees, result_tree, key_exprs, orders, having_tree, query_tree}
 use Rattle.sql_names.specs.Results.{condition}
-use Rattle.sql_scope.specs.Scope.{scope_of, or_else, columns_seen}
+use Rattle.sql_scope.specs.Scope.{scope_of, columns_seen}
 use Rattle.sql_scope.specs.Shown.{ShownTree, Names}
 use Rattle.sql_query.specs.Standing.{Stands, StandAll, IsOfCatalogue, columns_in, IsStanding}
 use Rattle.sql_names.proofs.Places.{AreSeen, all_seen, seen_up_to}
@@ -108,11 +109,11 @@ select_stands text select few known none =
     (lesser_left (least (map (key_wrong names.shown) select.keys)) (least (map (mentioned_wrong names) found)) others)
     (lesser_left (having_wrong grouped select.having) (lesser (least (map (key_wrong names.shown) select.keys)) (least (map (mentioned_wrong names) found))) none)
 
-else_right : {A : Type 0} (a b : Option A) → or_else a b ≡ None → b ≡ None
+else_right : {A : Type 0} (a b : Option A) → option_or a b ≡ None → b ≡ None
 else_right None b e = e
 else_right (Some x) b e = absurd (let no : ⊥ = cc in no)
 
-else_left : {A : Type 0} (a b : Option A) → or_else a b ≡ None → a ≡ None
+else_left : {A : Type 0} (a b : Option A) → option_or a b ≡ None → a ≡ None
 else_left None b e = refl
 else_left (Some x) b e = e
 

@@ -1,5 +1,6 @@
 -- Columns outside every aggregate and every expression of GROUP BY, beside MIN or MAX.
 use Rattle.std.specs.Prelude.{ℕ, ◌&&◌, Bool, true, false, not, if◌then◌else◌, List, [], ◌∷◌, map, Option, Some, None}
+use Rattle.std.proofs.Math.Bool.{decide}
 use Rattle.sql_tree.specs.declared.functions.Fold.{Fold}
 use Rattle.sql_tree.specs.declared.functions.Fold.TheVariants as fold
 use Rattle.sql_tree.specs.declared.tree.Name.{Name}
@@ -19,12 +20,16 @@ use Rattle.sql_scope.specs.Naming.{meaning_of, expr_of}
 use Rattle.sql_names.specs.Results.{all_columns, known_columns}
 use Rattle.sql_names.specs.Kinds.{names_in, forbids, place_of}
 use Rattle.sql_names.specs.Least.{lesser, least}
-use Rattle.sql_query.specs.Same.{same_expr}
+use Rattle.sql_query.proofs.Decided.{decided}
+
+-- two expressions are one tree: they are equal
+unfoldable pub is_same : ExprTree → ExprTree → Bool
+is_same e other = decide (decided e other)
 
 -- the expression is one of GROUP BY
 abbrev pub is_key : List ExprTree → ExprTree → Bool
 is_key [] e = false
-is_key (key ∷ keys) e = if same_expr key e then true else is_key keys e
+is_key (key ∷ keys) e = if is_same key e then true else is_key keys e
 
 abbrev pub unless : Bool → Option ℕ → Option ℕ
 unless true place = None

@@ -1,5 +1,5 @@
 -- The faults of a select's names, by kind: the least place of each kind, where there is one.
-use Rattle.std.specs.Prelude.{ℕ, ◌+◌, ◌&&◌, ◌||◌, Bool, true, false, not, if◌then◌else◌, nat_lt, List, [], ◌∷◌, length, take, map, Option, Some, None, slice_get}
+use Rattle.std.specs.Prelude.{ℕ, ◌+◌, ◌&&◌, ◌||◌, Bool, true, false, not, if◌then◌else◌, nat_lt, List, [], ◌∷◌, length, take, map, Option, Some, None, slice_get, is_some}
 use Rattle.std.specs.Option.{option_map_or}
 use Rattle.osq_value.specs.Catalogue.{id_of}
 use Rattle.sql_tree.specs.declared.tree.Name.{Name}
@@ -16,7 +16,7 @@ use Rattle.sql_scope.specs.declared.naming.Meaning.{Meaning}
 use Rattle.sql_scope.specs.declared.naming.Meaning.TheVariants as meaning
 use Rattle.sql_scope.specs.declared.scope.Seen.{Seen}
 use Rattle.sql_scope.specs.Spelling.{name_text}
-use Rattle.sql_scope.specs.Scope.{is_known, is_some, plain_place, known_place, place_in, owners}
+use Rattle.sql_scope.specs.Scope.{is_known, plain_place, known_place, place_in, owners}
 use Rattle.sql_scope.specs.Shown.{ShownTree, Names}
 use Rattle.sql_scope.specs.Naming.{meaning_of}
 use Rattle.sql_names.specs.declared.results.Numbered.{Numbered}

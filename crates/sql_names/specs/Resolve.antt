@@ -1,5 +1,6 @@
 -- The first kind of fault that a select's names have, and else the query that the select stands for.
 use Rattle.std.specs.Prelude.{ℕ, List, [], Option, Some, None}
+use Rattle.std.specs.Option.{option_or}
 use Rattle.sql_tree.specs.Select.{SelectTree}
 use Rattle.sql_names.specs.declared.error.NameError.{NameError}
 use Rattle.sql_names.specs.declared.error.NameKind.{NameKind}
@@ -8,7 +9,7 @@ use Rattle.sql_scope.specs.declared.mention.Mention.{Mention}
 use Rattle.sql_scope.specs.declared.naming.Rule.TheVariants as rule
 use Rattle.sql_scope.specs.declared.scope.Seen.{Seen}
 use Rattle.sql_query.specs.Exprs.{ExprTree}
-use Rattle.sql_scope.specs.Scope.{scope_of, or_else}
+use Rattle.sql_scope.specs.Scope.{scope_of}
 use Rattle.sql_scope.specs.Mentions.{mentions_of_select}
 use Rattle.sql_scope.specs.Shown.{ShownTree, Names}
 use Rattle.sql_names.specs.Results.{results}
@@ -38,17 +39,17 @@ fault_of kind (Some place) = Some (record { place = place; kind = kind })
 -- the kinds in the order in which they are tried, where the tables are not too many
 abbrev pub fault_among : Names → List ExprTree → SelectTree → List Mention → Option NameError
 fault_among names keys select found =
-    or_else (fault_of kind.NoTable (no_table names select found))
-    (or_else (fault_of kind.NoColumn (no_column names select found))
-    (or_else (fault_of kind.Ambiguous (ambiguous names select found))
-    (or_else (fault_of kind.BadAggregate (bad_aggregate names select found)) (fault_of kind.BareColumn (bare_column_of names keys select found)))))
+    option_or (fault_of kind.NoTable (no_table names select found))
+    (option_or (fault_of kind.NoColumn (no_column names select found))
+    (option_or (fault_of kind.Ambiguous (ambiguous names select found))
+    (option_or (fault_of kind.BadAggregate (bad_aggregate names select found)) (fault_of kind.BareColumn (bare_column_of names keys select found)))))
 
 abbrev pub fault_within : Names → SelectTree → Option NameError
 fault_within names select = fault_among names (key_exprs names select.keys) select (mentions_of_select select)
 
 -- the first kind that has a fault, with that kind's least place
 unfoldable pub name_fault : List ℕ → SelectTree → Option NameError
-name_fault text select = or_else (fault_of kind.TooManyTables (too_many_tables select.sources)) (fault_within (names_of_select text select) select)
+name_fault text select = option_or (fault_of kind.TooManyTables (too_many_tables select.sources)) (fault_within (names_of_select text select) select)
 
 abbrev pub unless_fault : Option NameError → QueryTree → Option QueryTree
 unless_fault None query = Some query

@@ -1,5 +1,5 @@
 -- The columns of the result, conditions, and what GROUP BY and ORDER BY stand for.
-use Rattle.std.specs.Prelude.{ℕ, ℤ, pos, negsuc, ◌+◌, ◌-◌, ◌&&◌, Bool, true, false, if◌then◌else◌, nat_le, List, [], ◌∷◌, ◌++◌, length, map, Option, Some, None, slice_get}
+use Rattle.std.specs.Prelude.{ℕ, ℤ, pos, negsuc, ◌+◌, ◌-◌, ◌&&◌, Bool, true, false, if◌then◌else◌, nat_le, List, [], ◌∷◌, ◌++◌, length, map, Option, Some, None, slice_get, is_some}
 use Rattle.std.specs.Option.{option_map_or}
 use Rattle.osq_value.specs.declared.value.Value.TheVariants as value
 use Rattle.sql_tree.specs.declared.span.Span.{Span}
@@ -18,7 +18,7 @@ use Rattle.sql_names.specs.declared.results.Numbered.{Numbered}
 use Rattle.sql_query.specs.declared.place.Place.{Place}
 use Rattle.sql_scope.specs.declared.scope.Seen.{Seen}
 use Rattle.sql_scope.specs.Spelling.{name_text, span_text, same_name}
-use Rattle.sql_scope.specs.Scope.{is_some, is_listed, plain_place, known_place}
+use Rattle.sql_scope.specs.Scope.{is_listed, plain_place, known_place}
 use Rattle.sql_scope.specs.Mentions.{mentions}
 use Rattle.sql_query.specs.Exprs.{ExprTree}
 use Rattle.sql_query.specs.Exprs as expr

@@ -1,12 +1,12 @@
 //! The faults of a select's names, by kind.
 
-ghost use Rattle.std.specs.Prelude.{◌≡◌, ◌≤◌, ◌&&◌, Some, None, map, take, option_map, length, IfOk, IfNone};
+ghost use Rattle.std.specs.Prelude.{◌≡◌, ◌≤◌, ◌&&◌, Some, None, map, take, option_map, length, IfOk, IfNone, is_some};
 ghost use Rattle.sql_tree.specs.View.{tree_of};
 ghost use Rattle.sql_tree.specs.Select.{item_of, ref_of, having_of, term_of, select_of};
 ghost use Rattle.sql_scope.specs.declared.mention.Mention.{Mention as MentionValue};
 ghost use Rattle.sql_names.specs.Kinds.{place_if as place_only_if, place_of as place_of_name, seen_from as seen_by, rule_of as rule_in, names_in as names_for, too_many_tables as tables_too_many, table_missing as missing_table, unknown_table as table_unknown, item_unknown as unknown_item, mentioned_unknown as unknown_mention, no_table as least_table, using_missing as missing_using, usings_missing as missing_usings, number_missing as missing_number, term_missing as missing_term, mentioned_missing as missing_mention, item_missing as missing_item, place_at as place_of_number, known_at, is_word as is_a_word, is_column as is_a_column, no_column as least_column, tables_repeated as repeated_tables, mentioned_twice as twice_mentioned, ambiguous as least_ambiguous, forbids as is_forbidden_in, aggregate_at as aggregate_shown, aggregate_meant as meant_aggregate, mentioned_aggregate as aggregate_mentioned, mentioned_wrong as wrong_mention, key_wrong as wrong_key, is_aggregate as is_an_aggregate, has_aggregate as has_an_aggregate, is_grouped as grouped_by, having_wrong as wrong_having, bad_aggregate as least_aggregate};
 ghost use Rattle.sql_names.specs.Least.{least};
-ghost use Rattle.sql_scope.specs.Scope.{AreNarrow, is_some, is_known as is_known_in, plain_place as plain_place_in};
+ghost use Rattle.sql_scope.specs.Scope.{AreNarrow, is_known as is_known_in, plain_place as plain_place_in};
 ghost use Rattle.sql_scope.specs.declared.mention.Mentioned.TheVariants.{Column as mentioned_column};
 ghost use Rattle.sql_scope.specs.Shown.{shown_of, names_of};
 

@@ -1,4 +1,4 @@
--- What a descent has done of a reading. The private contracts of the parser alone speak of it.
+-- For proofs of the descent's steps, and no part of the grammar: what a descent has done of a reading. The private contracts of the parser alone speak of it.
 use Rattle.std.specs.Prelude.{◌≡◌, ◌≢◌, ◌<◌, ◌+◌, ℕ, List, [], ◌∷◌, ◌++◌, Option, Some, None, Result, Ok, Err, Bool, false, ℤ}
 use Rattle.std.specs.Global.{Vec}
 use Rattle.sql_tokens.specs.declared.token.Token.{Token}

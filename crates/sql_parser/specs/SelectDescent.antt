@@ -1,4 +1,4 @@
--- What a descent over a select has done of its reading. The private contracts of the parser alone speak of it.
+-- For proofs of the descent's steps, and no part of the grammar: what a descent over a select has done of its reading. The private contracts of the parser alone speak of it.
 use Rattle.std.specs.Prelude.{◌≡◌, ◌≢◌, ◌≤◌, ◌<◌, List, [], ◌∷◌, ◌++◌, length, Option, Some, None, option_map, Result, Ok, Err, Bool, true, false}
 use Rattle.sql_tokens.specs.declared.token.Token.{Token}
 use Rattle.sql_tokens.specs.declared.token.Kind.{Kind}

@@ -4,3 +4,4 @@ pub mod Widths
 pub mod StandingLaws
 pub mod StandingRows
 pub mod NamesLength
+pub mod Decided

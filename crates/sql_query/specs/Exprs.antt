@@ -20,6 +20,7 @@ mutual
     folded : Fold → Bool → ExprTree → ExprTree
     -- an aggregate without an argument
     count_all : Fold → Bool → ExprTree
+    deriving Discrete as ExprTree-discrete
 
   pub data OneExprStep : Type 0 where
     binary : Operator → ExprTree → OneExprStep

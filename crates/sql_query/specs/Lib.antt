@@ -2,5 +2,4 @@ pub mod Exprs
 pub mod View
 pub mod Resolved
 pub mod Standing
-pub mod Same
 pub mod Answers

@@ -1,4 +1,4 @@
--- How a pattern and a text go on at their first characters.
+-- For proofs of the code's steps, and no part of the meaning: how a pattern and a text go on at their first characters.
 use Rattle.std.specs.Prelude.{◌≡◌, ◌≢◌, ◌<◌, ◌≤◌, ℕ, true, false, List, [], ◌∷◌, length}
 use Rattle.std.specs.Str.{chars}
 use Rattle.sql_scalar.specs.declared.like.Turn.{Turn}

@@ -1,6 +1,6 @@
 -- The FROM tables as names see them, and which column a name is.
-use Rattle.std.specs.Prelude.{ℕ, ◌+◌, ◌^◌, ◌<◌, ◌&&◌, if◌then◌else◌, Bool, true, false, not, List, [], ◌∷◌, length, map, Option, Some, None}
-use Rattle.std.specs.Option.{option_map_or}
+use Rattle.std.specs.Prelude.{ℕ, ◌+◌, ◌^◌, ◌<◌, ◌&&◌, if◌then◌else◌, Bool, true, false, not, List, [], ◌∷◌, length, map, is_some, Option, Some, None}
+use Rattle.std.specs.Option.{option_map_or, option_or}
 use Rattle.osq_value.specs.declared.value.TheConstants.TableId.{NONE}
 use Rattle.osq_value.specs.Catalogue.{id_of, columns_of}
 use Rattle.sql_tree.specs.Select.{RefTree}
@@ -41,23 +41,15 @@ place_from seen name number (column ∷ columns) = if same_name column.name name
 unfoldable pub place_in : List ℕ → Seen → Option Place
 place_in name seen = place_from seen name 0 seen.columns
 
-abbrev pub is_some : {A : Type 0} → Option A → Bool
-is_some None = false
-is_some (Some x) = true
-
-abbrev pub or_else : {A : Type 0} → Option A → Option A → Option A
-or_else None other = other
-or_else (Some x) other = Some x
-
 -- the column of that name in the first table that has it
 abbrev pub plain_place : List ℕ → List Seen → Option Place
 plain_place name [] = None
-plain_place name (seen ∷ scope) = or_else (place_in name seen) (plain_place name scope)
+plain_place name (seen ∷ scope) = option_or (place_in name seen) (plain_place name scope)
 
 -- the same among the tables that are known by a name
 abbrev pub known_place : List ℕ → List ℕ → List Seen → Option Place
 known_place table name [] = None
-known_place table name (seen ∷ scope) = if same_name seen.known table then or_else (place_in name seen) (known_place table name scope) else known_place table name scope
+known_place table name (seen ∷ scope) = if same_name seen.known table then option_or (place_in name seen) (known_place table name scope) else known_place table name scope
 
 -- some table is known by a name
 abbrev pub is_known : List ℕ → List Seen → Bool

@@ -1,7 +1,7 @@
 //! The functions that an expression may call.
 
 /// A scalar function.
-#[derive(Clone, Copy)]
+#[derive(Clone, Copy, PartialEq, Eq)]
 pub enum Function {
     Length,
     Lower,
@@ -18,7 +18,7 @@ pub enum Function {
 }
 
 /// An aggregate.
-#[derive(Clone, Copy)]
+#[derive(Clone, Copy, PartialEq, Eq)]
 pub enum Fold {
     Count,
     Sum,

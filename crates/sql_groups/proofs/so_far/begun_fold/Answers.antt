@@ -6,7 +6,8 @@ use Rattle.sql_tree.specs.declared.functions.Fold.TheVariants.{Count, Sum}
 use Rattle.sql_meaning.specs.Expressions.{value_at}
 use Rattle.sql_groups.specs.declared.items.GroupItem.TheVariants as item
 use Rattle.sql_groups.specs.declared.so_far.SoFar.TheVariants as so_far
-use Rattle.sql_groups.specs.Folding.{Stands, count_with, greatest, known_of, least, number_in, sum_with}
+use Rattle.sql_groups.specs.Folding.{Stands, count_with, greatest, least, number_in, sum_with}
+use Rattle.sql_meaning.specs.Known.{known_of}
 use Rattle.sql_groups.proofs.Standing.{is-copied, known-more, no-known, no-sum, one-best, sum-grows}
 use Rattle.sql_groups.proofs.so_far.begun_fold.Goals as goal
 

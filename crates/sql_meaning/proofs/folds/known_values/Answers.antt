@@ -1,6 +1,6 @@
 use Rattle.std.proofs.Common.{rules, ap, filter, ◌∙◌}
 use Rattle.std.proofs.lemmas.Fn.{filter_same}
-use Rattle.sql_meaning.specs.Folds.{is_known}
+use Rattle.sql_meaning.specs.Known.{is_known}
 use Rattle.sql_meaning.proofs.folds.known_values.Goals as goal
 
 pub returns : goal.returns

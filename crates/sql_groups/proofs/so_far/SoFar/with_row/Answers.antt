@@ -5,7 +5,8 @@ use Rattle.osq_value.specs.declared.value.Value.{Value}
 use Rattle.sql_meaning.specs.Expressions.{value_at}
 use Rattle.sql_meaning.specs.Lent.{values_in}
 use Rattle.sql_groups.specs.declared.so_far.SoFar.TheVariants as so_far
-use Rattle.sql_groups.specs.Folding.{Stands, best_with, count_with, known_of, number_in, sum_with}
+use Rattle.sql_groups.specs.Folding.{Stands, best_with, count_with, number_in, sum_with}
+use Rattle.sql_meaning.specs.Known.{known_of}
 use Rattle.sql_groups.proofs.Standing.{first-more, is-copied, known-more, nearest-more, rows-more, sum-grows}
 use Rattle.sql_groups.proofs.so_far.SoFar.with_row.Goals as goal
 
