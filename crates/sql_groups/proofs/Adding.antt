@@ -14,7 +14,7 @@ use Rattle.sql_meaning.specs.SameValues.{same_value}
 use Rattle.sql_meaning.proofs.FirstsLaws.{firsts_by-push, has_key}
 use Rattle.sql_meaning.proofs.HashedLaws.{any_made, insert_key-made}
 use Rattle.sql_groups.specs.declared.different.FoundRows.{FoundRows}
-use Rattle.sql_groups.specs.Different.{Adds, Stands, equal, held, held_alone, values_of}
+use Rattle.sql_groups.specs.Different.{Adds, HasFound, equal, held, held_alone, values_of}
 use Rattle.sql_groups.specs.Kept.{is_kept}
 
 abbrev pub value_in_place : Bor Value → Value
@@ -80,12 +80,12 @@ module _ (place : ℕ) where
 
   -- one more row for which the condition holds
   pub stands-more : (condition : List ExprTree) (rows : List Joined) (row : Joined) (value : Value) (old new : FoundRows) → is_kept condition row ≡ true → value ≡ held place row → Adds old row value new
-      → Stands place condition rows old → Stands place condition (rows ++ row ∷ []) new
+      → HasFound place condition rows old → HasFound place condition (rows ++ row ∷ []) new
   stands-more condition rows row value old new kept is adds was =
       subst (λ some. (new.rows ≡ firsts_by (held_alone place) some) × (values_of new ≡ map (held place) new.rows)) (sym (kept-one (is_kept condition) rows row true kept))
       (added (filter (is_kept condition) rows) row value old new is was.0 was.1 adds)
 
   -- one for which it doesn't
-  pub stands-still : (condition : List ExprTree) (rows : List Joined) (row : Joined) (found : FoundRows) → is_kept condition row ≡ false → Stands place condition rows found → Stands place condition (rows ++ row ∷ []) found
+  pub stands-still : (condition : List ExprTree) (rows : List Joined) (row : Joined) (found : FoundRows) → is_kept condition row ≡ false → HasFound place condition rows found → HasFound place condition (rows ++ row ∷ []) found
   stands-still condition rows row found left was =
       (was.0 ∙ ap (firsts_by (held_alone place)) (sym (kept-one (is_kept condition) rows row false left ∙ append-nil (filter (is_kept condition) rows))), was.1)

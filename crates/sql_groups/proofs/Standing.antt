@@ -16,7 +16,7 @@ use Rattle.sql_meaning.proofs.FoldsLaws.{reduce-push, total-more}
 use Rattle.sql_groups.specs.declared.items.GroupItem.{GroupItem}
 use Rattle.sql_groups.specs.declared.items.GroupItem.TheVariants as item
 use Rattle.sql_groups.specs.declared.so_far.SoFar.TheVariants as so_far
-use Rattle.sql_groups.specs.Folding.{Stands, best_with, count_with, counted, first, greatest, item_over, known, knowns, least, number_in, sum_of, sum_with, sum_worth, summed}
+use Rattle.sql_groups.specs.Folding.{HasFolded, best_with, count_with, counted, first, greatest, item_over, known, knowns, least, number_in, sum_of, sum_with, sum_worth, summed}
 
 pub is-copied : (value : Option (Bor Value)) → is_some value ≡ is_some (option_copied value)
 is-copied None = refl
@@ -59,20 +59,20 @@ best-more : (is_greatest : Bool) (values : List Value) (value : Option Value) �
 best-more is_greatest values None = ap (extreme_of is_greatest) (append-nil values)
 best-more is_greatest values (Some value) = reduce-push is_greatest values value
 
-pub first-more : (item : GroupItem) (rows : List (List Value)) (row : List Value) (value : Bor Value) → Stands rows item (so_far.First value) → Stands (rows ++ row ∷ []) item (so_far.First value)
+pub first-more : (item : GroupItem) (rows : List (List Value)) (row : List Value) (value : Bor Value) → HasFolded rows item (so_far.First value) → HasFolded (rows ++ row ∷ []) item (so_far.First value)
 first-more item rows row value (first before others place v is) = first before (others ++ row ∷ []) place v is
 
-pub rows-more : (item : GroupItem) (rows : List (List Value)) (row : List Value) (count : ℕ) → Stands rows item (so_far.Rows count) → Stands (rows ++ row ∷ []) item (so_far.Rows (count + 1))
+pub rows-more : (item : GroupItem) (rows : List (List Value)) (row : List Value) (count : ℕ) → HasFolded rows item (so_far.Rows count) → HasFolded (rows ++ row ∷ []) item (so_far.Rows (count + 1))
 rows-more item rows row count (counted rs n is) = counted (rows ++ row ∷ []) (count + 1) (ap (λ n. n + 1) is ∙ sym (length-append rows (row ∷ [])))
 
-pub known-more : (item : GroupItem) (rows : List (List Value)) (row : List Value) (place count : ℕ) → Stands rows item (so_far.Known place count)
-    → Stands (rows ++ row ∷ []) item (so_far.Known place (count_with count (is_some (known_of (value_at row place)))))
+pub known-more : (item : GroupItem) (rows : List (List Value)) (row : List Value) (place count : ℕ) → HasFolded rows item (so_far.Known place count)
+    → HasFolded (rows ++ row ∷ []) item (so_far.Known place (count_with count (is_some (known_of (value_at row place)))))
 known-more item rows row place count (known rs p n is) =
     known (rows ++ row ∷ []) place (count_with count (is_some (known_of (value_at row place))))
     (ap (λ n. count_with n (is_some (known_of (value_at row place)))) is ∙ sym (ap length (knowns-more place rows row) ∙ count-more (knowns place rows) (known_of (value_at row place))))
 
-pub sum-grows : (item : GroupItem) (rows : List (List Value)) (row : List Value) (place : ℕ) (sum : Option ℤ) → Stands rows item (so_far.Sum place sum)
-    → Stands (rows ++ row ∷ []) item (so_far.Sum place (sum_with sum (number_in (known_of (value_at row place)))))
+pub sum-grows : (item : GroupItem) (rows : List (List Value)) (row : List Value) (place : ℕ) (sum : Option ℤ) → HasFolded rows item (so_far.Sum place sum)
+    → HasFolded (rows ++ row ∷ []) item (so_far.Sum place (sum_with sum (number_in (known_of (value_at row place)))))
 sum-grows item rows row place sum (summed rs p s is) =
     summed (rows ++ row ∷ []) place (sum_with sum (number_in (known_of (value_at row place))))
     (ap (λ s. sum_with s (number_in (known_of (value_at row place)))) is
@@ -85,15 +85,15 @@ best-is is_greatest rows row place best new is told =
     ∙ sym (ap (extreme_of is_greatest) (knowns-more place rows row) ∙ best-more is_greatest (knowns place rows) (known_of (value_at row place)))
 
 pub nearest-more : (item : GroupItem) (rows : List (List Value)) (row : List Value) (place : ℕ) (is_greatest : Bool) (best new : Option (Bor Value)) → option_copied new ≡ best_with is_greatest (option_copied best) (known_of (value_at row place))
-    → Stands rows item (so_far.Nearest place is_greatest best) → Stands (rows ++ row ∷ []) item (so_far.Nearest place is_greatest new)
+    → HasFolded rows item (so_far.Nearest place is_greatest best) → HasFolded (rows ++ row ∷ []) item (so_far.Nearest place is_greatest new)
 nearest-more item rows row place is_greatest best new told (least rs p b is) = least (rows ++ row ∷ []) place new (best-is false rows row place best new is told)
 nearest-more item rows row place is_greatest best new told (greatest rs p b is) = greatest (rows ++ row ∷ []) place new (best-is true rows row place best new is told)
 
 -- before the first row
-pub no-known : (place : ℕ) → Stands [] (item.Folded Count place) (so_far.Known place 0)
+pub no-known : (place : ℕ) → HasFolded [] (item.Folded Count place) (so_far.Known place 0)
 no-known place = known [] place 0 refl
 
-pub no-sum : (place : ℕ) → Stands [] (item.Folded Sum place) (so_far.Sum place None)
+pub no-sum : (place : ℕ) → HasFolded [] (item.Folded Sum place) (so_far.Sum place None)
 no-sum place = summed [] place None refl
 
 -- the best of one row is its value
@@ -110,18 +110,18 @@ sum-worth [] = refl
 sum-worth (n ∷ ns) = refl
 
 -- what a column is worth after all rows
-pub first-worth : (item : GroupItem) (rows : List (List Value)) (value : Bor Value) → Stands rows item (so_far.First value) → value.now ≡ item_over item rows
+pub first-worth : (item : GroupItem) (rows : List (List Value)) (value : Bor Value) → HasFolded rows item (so_far.First value) → value.now ≡ item_over item rows
 first-worth item rows value (first row others place v is) = is
 
-pub rows-worth : (item : GroupItem) (rows : List (List Value)) (count : ℕ) → Stands rows item (so_far.Rows count) → Int (pos count) ≡ item_over item rows
+pub rows-worth : (item : GroupItem) (rows : List (List Value)) (count : ℕ) → HasFolded rows item (so_far.Rows count) → Int (pos count) ≡ item_over item rows
 rows-worth item rows count (counted rs n is) = ap (λ n. Int (pos n)) is
 
-pub known-worth : (item : GroupItem) (rows : List (List Value)) (place count : ℕ) → Stands rows item (so_far.Known place count) → Int (pos count) ≡ item_over item rows
+pub known-worth : (item : GroupItem) (rows : List (List Value)) (place count : ℕ) → HasFolded rows item (so_far.Known place count) → Int (pos count) ≡ item_over item rows
 known-worth item rows place count (known rs p n is) = ap (λ n. Int (pos n)) is
 
-pub summed-worth : (item : GroupItem) (rows : List (List Value)) (place : ℕ) (sum : Option ℤ) → Stands rows item (so_far.Sum place sum) → sum_worth sum ≡ item_over item rows
+pub summed-worth : (item : GroupItem) (rows : List (List Value)) (place : ℕ) (sum : Option ℤ) → HasFolded rows item (so_far.Sum place sum) → sum_worth sum ≡ item_over item rows
 summed-worth item rows place sum (summed rs p s is) = ap sum_worth is ∙ sum-worth (filter_map whole (knowns place rows))
 
-pub best-worth : (item : GroupItem) (rows : List (List Value)) (place : ℕ) (is_greatest : Bool) (best : Option (Bor Value)) → Stands rows item (so_far.Nearest place is_greatest best) → unwrap_or (option_copied best) Null ≡ item_over item rows
+pub best-worth : (item : GroupItem) (rows : List (List Value)) (place : ℕ) (is_greatest : Bool) (best : Option (Bor Value)) → HasFolded rows item (so_far.Nearest place is_greatest best) → unwrap_or (option_copied best) Null ≡ item_over item rows
 best-worth item rows place is_greatest best (least rs p b is) = ap (λ (o : Option Value). unwrap_or o Null) is
 best-worth item rows place is_greatest best (greatest rs p b is) = ap (λ (o : Option Value). unwrap_or o Null) is

@@ -36,5 +36,5 @@ Adds old row value new =
     (values_of new ≡ insert_key equal (values_of old) value) × (new.rows ≡ (if list_any (equal value) (values_of old) then old.rows else old.rows ++ row ∷ []))
 
 -- what was found of these rows
-abbrev pub Stands : ℕ → List ExprTree → List Joined → FoundRows → Type 0
-Stands place condition rows found = (found.rows ≡ different place condition rows) × (values_of found ≡ map (held place) found.rows)
+abbrev pub HasFound : ℕ → List ExprTree → List Joined → FoundRows → Type 0
+HasFound place condition rows found = (found.rows ≡ different place condition rows) × (values_of found ≡ map (held place) found.rows)

@@ -64,13 +64,13 @@ count_with count true = count + 1
 count_with count false = count
 
 -- what is known of a column of the result after these rows
-pub data Stands : List (List Value) → GroupItem → SoFar → Type 0 where
-  first : (row : List Value) (rows : List (List Value)) (place : ℕ) (value : Bor Value) → value.now ≡ value_at row place → Stands (row ∷ rows) (item.First place) (so_far.First value)
-  counted : (rows : List (List Value)) (count : ℕ) → count ≡ length rows → Stands rows item.Rows (so_far.Rows count)
-  known : (rows : List (List Value)) (place count : ℕ) → count ≡ length (knowns place rows) → Stands rows (item.Folded Count place) (so_far.Known place count)
-  summed : (rows : List (List Value)) (place : ℕ) (sum : Option ℤ) → sum ≡ sum_of (filter_map whole (knowns place rows)) → Stands rows (item.Folded Sum place) (so_far.Sum place sum)
-  least : (rows : List (List Value)) (place : ℕ) (best : Option (Bor Value)) → option_copied best ≡ extreme_of false (knowns place rows) → Stands rows (item.Folded Min place) (so_far.Nearest place false best)
-  greatest : (rows : List (List Value)) (place : ℕ) (best : Option (Bor Value)) → option_copied best ≡ extreme_of true (knowns place rows) → Stands rows (item.Folded Max place) (so_far.Nearest place true best)
+pub data HasFolded : List (List Value) → GroupItem → SoFar → Type 0 where
+  first : (row : List Value) (rows : List (List Value)) (place : ℕ) (value : Bor Value) → value.now ≡ value_at row place → HasFolded (row ∷ rows) (item.First place) (so_far.First value)
+  counted : (rows : List (List Value)) (count : ℕ) → count ≡ length rows → HasFolded rows item.Rows (so_far.Rows count)
+  known : (rows : List (List Value)) (place count : ℕ) → count ≡ length (knowns place rows) → HasFolded rows (item.Folded Count place) (so_far.Known place count)
+  summed : (rows : List (List Value)) (place : ℕ) (sum : Option ℤ) → sum ≡ sum_of (filter_map whole (knowns place rows)) → HasFolded rows (item.Folded Sum place) (so_far.Sum place sum)
+  least : (rows : List (List Value)) (place : ℕ) (best : Option (Bor Value)) → option_copied best ≡ extreme_of false (knowns place rows) → HasFolded rows (item.Folded Min place) (so_far.Nearest place false best)
+  greatest : (rows : List (List Value)) (place : ℕ) (best : Option (Bor Value)) → option_copied best ≡ extreme_of true (knowns place rows) → HasFolded rows (item.Folded Max place) (so_far.Nearest place true best)
 
 -- the rows for which the condition holds, grouped by the value at a place
 abbrev pub lists : ℕ → List ExprTree → List Joined → List (List (List Value))

@@ -12,12 +12,12 @@ use Rattle.sql_groups.specs.declared.grouped.FoundGroups.{FoundGroups}
 use Rattle.sql_groups.specs.declared.items.GroupItem.{GroupItem}
 use Rattle.sql_groups.specs.declared.so_far.SoFar.{SoFar}
 use Rattle.sql_groups.specs.Different.{equal, held, held_alone}
-use Rattle.sql_groups.specs.Folding.{Stands, lists}
+use Rattle.sql_groups.specs.Folding.{HasFolded, lists}
 use Rattle.sql_groups.specs.Kept.{is_kept}
 
 -- what is known of each column of the result after these rows of a group
 abbrev pub AreKnown : List GroupItem → List (List Value) → List SoFar → Type 0
-AreKnown items rows group = AllZip (Stands rows) items group
+AreKnown items rows group = AllZip (HasFolded rows) items group
 
 -- the same of each group
 abbrev pub IsFolded : List GroupItem → List (List (List Value)) → List (List SoFar) → Type 0

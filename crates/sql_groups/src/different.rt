@@ -2,7 +2,7 @@
 ghost use Rattle.std.specs.Prelude.{◌≡◌, ◌++◌, ◌∷◌, [], IfOk, IfSome, List, OnOk, map, true};
 ghost use Rattle.sql_query.specs.View.{expr_of};
 ghost use Rattle.sql_meaning.specs.declared.joined.Joined.{Joined as JoinedOf};
-ghost use Rattle.sql_groups.specs.Different.{Adds, Stands, different};
+ghost use Rattle.sql_groups.specs.Different.{Adds, HasFound, different};
 
 use crate::kept::is_kept;
 use indexmap::IndexSet;
@@ -48,7 +48,7 @@ fn look_at<'a>(
     found: &mut FoundRows<'a>,
     row: Joined<'a>,
 ) -> Result<bool, NoMemory>
-    ensures { IfOk result (λ has_place. has_place ≡ true → (rows : List JoinedOf) → Stands place (map expr_of condition.now.parts) rows found.old → Stands place (map expr_of condition.now.parts) (rows ++ row.entry ∷ []) found.new) }
+    ensures { IfOk result (λ has_place. has_place ≡ true → (rows : List JoinedOf) → HasFound place (map expr_of condition.now.parts) rows found.old → HasFound place (map expr_of condition.now.parts) (rows ++ row.entry ∷ []) found.new) }
 {
     if !is_kept(alloc, condition, row)? {
         return Ok(true);

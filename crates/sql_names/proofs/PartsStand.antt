@@ -32,14 +32,14 @@ use Rattle.sql_names.specs.Results.{are_ands, right_of, rights_of, conjuncts, co
 use Rattle.sql_scope.specs.Scope.{place_in, plain_place, columns_seen, table_number}
 use Rattle.sql_scope.specs.Shown.{ShownTree, Names}
 use Rattle.sql_scope.specs.Spelling.{name_text}
-use Rattle.sql_query.specs.Standing.{Stands, IsOfCatalogue, columns_in}
+use Rattle.sql_query.specs.Standing.{IsScoped, IsOfCatalogue, columns_in}
 use Rattle.sql_names.proofs.Places.{AreSeen, seen_take, get_take, plain_place_is, place_at_is}
 use Rattle.sql_names.proofs.Fines.{AreFine, lesser_left, lesser_right, fine_left, fine_right}
 use Rattle.sql_names.proofs.Standings.{allowed, Reads, AreShown, place_stands, expr_stands, reads_columns, reads_shown, shown_stands, shown_plain}
 
 -- each of them stands
 abbrev pub StandEach : List (List SourceColumn) → Bool → List ExprTree → Type 0
-StandEach tables may_fold exprs = AllByRecursion (Stands tables may_fold) exprs
+StandEach tables may_fold exprs = AllByRecursion (IsScoped tables may_fold) exprs
 
 each_append : {A : Type 0} (P : A → Type 0) (before after : List A) → AllByRecursion P before → AllByRecursion P after → AllByRecursion P (before ++ after)
 each_append P [] after first second = second
@@ -54,7 +54,7 @@ rights_stand : {tables : List (List SourceColumn)} {grouped : Bool} {names : Nam
 rights_stand r tree.no_steps fine = tt
 rights_stand {tables = tables} {grouped = grouped} {names = names} {c = c} {n = n} r (tree.then before step) fine =
     subst (StandEach tables (allowed grouped (forbids c || false))) (sym (map-append (expr_of n) (rights_of before) (right_of step)))
-    (each_append (Stands tables (allowed grouped (forbids c || false))) (map (expr_of n) (rights_of before)) (map (expr_of n) (right_of step))
+    (each_append (IsScoped tables (allowed grouped (forbids c || false))) (map (expr_of n) (rights_of before)) (map (expr_of n) (right_of step))
     (rights_stand r before (fine_left names grouped (mentions_of_steps c false before) (mentions_of_step c false step) fine))
     (right_stands r step (fine_right names grouped (mentions_of_steps c false before) (mentions_of_step c false step) fine)))
 
@@ -87,7 +87,7 @@ condition_stands r None fine = tt
 condition_stands r (Some t) fine = conjuncts_stand r t fine
 
 -- the equality of a name of USING, over the tables up to its own
-joined_stands : (tables : List (List SourceColumn)) (names : Names) (number : ℕ) (name : Name) → AreSeen tables (take (number + 1) names.scope) → Stands tables false (joined_name names number name)
+joined_stands : (tables : List (List SourceColumn)) (names : Names) (number : ℕ) (name : Name) → AreSeen tables (take (number + 1) names.scope) → IsScoped tables false (joined_name names number name)
 joined_stands tables names number name seen =
     let spelled = name_text names.text name in
     let before : AreSeen tables (take number names.scope) = subst (AreSeen tables) (take-take number (number + 1) names.scope (omega arith)) (seen_take tables number (take (number + 1) names.scope) seen) in (
@@ -105,7 +105,7 @@ usings_stand tables names number (name ∷ using) seen = (joined_stands tables n
 
 on_stands : (tables : List (List SourceColumn)) (grouped : Bool) (names : Names) (number : ℕ) (ref : RefTree) → AreSeen tables (take (number + 1) names.scope) → AreFine names grouped (mentions_of_option (clause.On (number + 1)) ref.on) → StandEach tables false (join_exprs names number ref)
 on_stands tables grouped names number ref seen fine =
-    each_append (Stands tables false) (condition (names_in names (clause.On (number + 1))) ref.on) (map (joined_name names number) ref.using)
+    each_append (IsScoped tables false) (condition (names_in names (clause.On (number + 1))) ref.on) (map (joined_name names number) ref.using)
     (condition_stands (reads_columns tables grouped names (clause.On (number + 1)) (take (number + 1) names.scope) names.shown seen) ref.on fine)
     (usings_stand tables names number ref.using seen)
 
@@ -155,15 +155,15 @@ pub source_columns : (names : Names) (number : ℕ) (refs : List RefTree) → co
 source_columns names number [] = refl
 source_columns names number (ref ∷ refs) = ap (λ (tables : List (List SourceColumn)). columns_seen names.text ref ∷ tables) (source_columns names (number + 1) refs)
 
-index_stands : (tables : List (List SourceColumn)) (grouped : Bool) (shown : List ShownTree) (n : Numbered) (index : Option ℕ) → AreShown tables grouped shown → Stands tables grouped (option_map_or (λ (s : ShownTree). s.expr) (option_map_or (slice_get shown) index None) (literal (Int n.value)))
+index_stands : (tables : List (List SourceColumn)) (grouped : Bool) (shown : List ShownTree) (n : Numbered) (index : Option ℕ) → AreShown tables grouped shown → IsScoped tables grouped (option_map_or (λ (s : ShownTree). s.expr) (option_map_or (slice_get shown) index None) (literal (Int n.value)))
 index_stands tables grouped shown n None are = tt
 index_stands tables grouped shown n (Some k) are = shown_stands tables grouped shown k (Int n.value) are
 
-index_plain : (tables : List (List SourceColumn)) (grouped : Bool) (shown : List ShownTree) (n : Numbered) (index : Option ℕ) → AreShown tables grouped shown → option_map_or (aggregate_at shown) index None ≡ None → Stands tables false (option_map_or (λ (s : ShownTree). s.expr) (option_map_or (slice_get shown) index None) (literal (Int n.value)))
+index_plain : (tables : List (List SourceColumn)) (grouped : Bool) (shown : List ShownTree) (n : Numbered) (index : Option ℕ) → AreShown tables grouped shown → option_map_or (aggregate_at shown) index None ≡ None → IsScoped tables false (option_map_or (λ (s : ShownTree). s.expr) (option_map_or (slice_get shown) index None) (literal (Int n.value)))
 index_plain tables grouped shown n None are none = tt
 index_plain tables grouped shown n (Some k) are none = shown_plain tables grouped shown k (Int n.value) are none
 
-key_by : (tables : List (List SourceColumn)) (grouped : Bool) (names : Names) (t : Tree) (o : Option Numbered) → AreSeen tables names.scope → AreShown tables grouped names.shown → AreFine names grouped (mentions clause.Key false t) → option_map_or (λ (n : Numbered). option_map_or (aggregate_at names.shown) (index_in (length names.shown) n.value) None) o None ≡ None → Stands tables false (term_by (names_in names clause.Key) t o)
+key_by : (tables : List (List SourceColumn)) (grouped : Bool) (names : Names) (t : Tree) (o : Option Numbered) → AreSeen tables names.scope → AreShown tables grouped names.shown → AreFine names grouped (mentions clause.Key false t) → option_map_or (λ (n : Numbered). option_map_or (aggregate_at names.shown) (index_in (length names.shown) n.value) None) o None ≡ None → IsScoped tables false (term_by (names_in names clause.Key) t o)
 key_by tables grouped names t None seen are fine none = expr_stands (reads_shown tables grouped names clause.Key seen are) false t fine
 key_by tables grouped names t (Some n) seen are fine none = index_plain tables grouped names.shown n (index_in (length names.shown) n.value) are none
 
@@ -174,11 +174,11 @@ keys_stand tables grouped names (t ∷ keys) seen are fine none = (
   keys_stand tables grouped names keys seen are (fine_right names grouped (mentions clause.Key false t) (mentions_of_keys keys) fine) (lesser_right (key_wrong names.shown t) (least (map (key_wrong names.shown) keys)) none),
 )
 
-term_by_stands : (tables : List (List SourceColumn)) (grouped : Bool) (names : Names) (t : Tree) (o : Option Numbered) → AreSeen tables names.scope → AreShown tables grouped names.shown → AreFine names grouped (mentions clause.Term false t) → Stands tables grouped (term_by (names_in names clause.Term) t o)
+term_by_stands : (tables : List (List SourceColumn)) (grouped : Bool) (names : Names) (t : Tree) (o : Option Numbered) → AreSeen tables names.scope → AreShown tables grouped names.shown → AreFine names grouped (mentions clause.Term false t) → IsScoped tables grouped (term_by (names_in names clause.Term) t o)
 term_by_stands tables grouped names t None seen are fine = expr_stands (reads_shown tables grouped names clause.Term seen are) false t fine
 term_by_stands tables grouped names t (Some n) seen are fine = index_stands tables grouped names.shown n (index_in (length names.shown) n.value) are
 
-pub terms_stand : (tables : List (List SourceColumn)) (grouped : Bool) (names : Names) (terms : List TermTree) → AreSeen tables names.scope → AreShown tables grouped names.shown → AreFine names grouped (mentions_of_terms terms) → AllByRecursion (λ (term : OrderTree). Stands tables grouped term.expr) (orders names terms)
+pub terms_stand : (tables : List (List SourceColumn)) (grouped : Bool) (names : Names) (terms : List TermTree) → AreSeen tables names.scope → AreShown tables grouped names.shown → AreFine names grouped (mentions_of_terms terms) → AllByRecursion (λ (term : OrderTree). IsScoped tables grouped term.expr) (orders names terms)
 terms_stand tables grouped names [] seen are fine = tt
 terms_stand tables grouped names (term ∷ terms) seen are fine = (
   term_by_stands tables grouped names term.tree (numbered term.tree) seen are (fine_left names grouped (mentions clause.Term false term.tree) (mentions_of_terms terms) fine),

@@ -25,7 +25,7 @@ use Rattle.sql_names.specs.Making.{source_trees, result_tree, key_exprs, orders,
 use Rattle.sql_names.specs.Results.{condition}
 use Rattle.sql_scope.specs.Scope.{scope_of, columns_seen}
 use Rattle.sql_scope.specs.Shown.{ShownTree, Names}
-use Rattle.sql_query.specs.Standing.{Stands, StandAll, IsOfCatalogue, columns_in, IsStanding}
+use Rattle.sql_query.specs.Standing.{IsScoped, StandAll, IsOfCatalogue, columns_in, IsStanding}
 use Rattle.sql_names.proofs.Places.{AreSeen, all_seen, seen_up_to}
 use Rattle.sql_names.proofs.Fines.{AreFine, lesser_left, lesser_right, fine_all, fine_left, fine_right}
 use Rattle.sql_names.proofs.Standings.{AreShown, reads_columns, reads_shown}
@@ -36,7 +36,7 @@ having_stands : (tables : List (List SourceColumn)) (grouped : Bool) (names : Na
 having_stands tables grouped names None seen are fine = tt
 having_stands tables grouped names (Some having) seen are fine = condition_stands (reads_shown tables grouped names clause.Having seen are) (Some having.tree) fine
 
-results_stand : (tables : List (List SourceColumn)) (grouped : Bool) (shown : List ShownTree) → AreShown tables grouped shown → AllByRecursion (λ (item : ResultTree). Stands tables grouped item.expr) (map result_tree shown)
+results_stand : (tables : List (List SourceColumn)) (grouped : Bool) (shown : List ShownTree) → AreShown tables grouped shown → AllByRecursion (λ (item : ResultTree). IsScoped tables grouped item.expr) (map result_tree shown)
 results_stand tables grouped [] are = tt
 results_stand tables grouped (s ∷ shown) are = (are.0.0, results_stand tables grouped shown are.1)
 
@@ -85,12 +85,12 @@ tree_stands names select found tables e up_to seen are fine few known keys havin
     record {
       few = let many = as_many_sources names 0 select.sources in omega arith;
       sources = All-from_recursion IsOfCatalogue (source_trees names 0 select.sources) (sources_are names 0 select.sources known);
-      ons = λ k source is. subst (λ (ts : List (List SourceColumn)). StandAll (take (k + 1) ts) false source.on) e (All-from_recursion (Stands (take (k + 1) tables) false) source.on (ons_stand tables grouped names select.sources 0 k (k + 1) source up_to fine.sources is (omega arith)));
-      filter = subst (λ (ts : List (List SourceColumn)). StandAll ts false (condition (names_in names clause.Where) select.filter)) e (All-from_recursion (Stands tables false) (condition (names_in names clause.Where) select.filter) (condition_stands (reads_columns tables grouped names clause.Where names.scope names.shown seen) select.filter fine.filter));
-      keys = subst (λ (ts : List (List SourceColumn)). StandAll ts false (key_exprs names select.keys)) e (All-from_recursion (Stands tables false) (key_exprs names select.keys) (keys_stand tables grouped names select.keys seen are fine.keys keys));
-      having = subst (λ (ts : List (List SourceColumn)). StandAll ts grouped (condition (names_in names clause.Having) (having_tree select.having))) e (All-from_recursion (Stands tables grouped) (condition (names_in names clause.Having) (having_tree select.having)) (having_stands tables grouped names select.having seen are fine.having));
-      items = subst (λ (ts : List (List SourceColumn)). All (λ (item : ResultTree). Stands ts grouped item.expr) (map result_tree names.shown)) e (All-from_recursion (λ (item : ResultTree). Stands tables grouped item.expr) (map result_tree names.shown) (results_stand tables grouped names.shown are));
-      terms = subst (λ (ts : List (List SourceColumn)). All (λ (term : OrderTree). Stands ts grouped term.expr) (orders names select.terms)) e (All-from_recursion (λ (term : OrderTree). Stands tables grouped term.expr) (orders names select.terms) (terms_stand tables grouped names select.terms seen are fine.terms));
+      ons = λ k source is. subst (λ (ts : List (List SourceColumn)). StandAll (take (k + 1) ts) false source.on) e (All-from_recursion (IsScoped (take (k + 1) tables) false) source.on (ons_stand tables grouped names select.sources 0 k (k + 1) source up_to fine.sources is (omega arith)));
+      filter = subst (λ (ts : List (List SourceColumn)). StandAll ts false (condition (names_in names clause.Where) select.filter)) e (All-from_recursion (IsScoped tables false) (condition (names_in names clause.Where) select.filter) (condition_stands (reads_columns tables grouped names clause.Where names.scope names.shown seen) select.filter fine.filter));
+      keys = subst (λ (ts : List (List SourceColumn)). StandAll ts false (key_exprs names select.keys)) e (All-from_recursion (IsScoped tables false) (key_exprs names select.keys) (keys_stand tables grouped names select.keys seen are fine.keys keys));
+      having = subst (λ (ts : List (List SourceColumn)). StandAll ts grouped (condition (names_in names clause.Having) (having_tree select.having))) e (All-from_recursion (IsScoped tables grouped) (condition (names_in names clause.Having) (having_tree select.having)) (having_stands tables grouped names select.having seen are fine.having));
+      items = subst (λ (ts : List (List SourceColumn)). All (λ (item : ResultTree). IsScoped ts grouped item.expr) (map result_tree names.shown)) e (All-from_recursion (λ (item : ResultTree). IsScoped tables grouped item.expr) (map result_tree names.shown) (results_stand tables grouped names.shown are));
+      terms = subst (λ (ts : List (List SourceColumn)). All (λ (term : OrderTree). IsScoped ts grouped term.expr) (orders names select.terms)) e (All-from_recursion (λ (term : OrderTree). IsScoped tables grouped term.expr) (orders names select.terms) (terms_stand tables grouped names select.terms seen are fine.terms));
       ungrouped = λ none. (no_keys names select.keys found none, no_having names grouped select.having having none);
     }
 

@@ -24,7 +24,7 @@ use Rattle.sql_scope.specs.Naming.{meaning_by, meaning_of, alias_from, place_or_
 use Rattle.sql_scope.specs.Scope.{plain_place, known_place}
 use Rattle.sql_scope.specs.Shown.{ShownTree, Names}
 use Rattle.sql_scope.specs.Spelling.{name_text}
-use Rattle.sql_query.specs.Standing.{Stands, StepStands, StepsStand, ExprsStand}
+use Rattle.sql_query.specs.Standing.{IsScoped, IsStepScoped, AreStepsScoped, AreExprsScoped}
 use Rattle.sql_names.proofs.Places.{AreSeen, IsPlace, plain_place_is, known_place_is}
 use Rattle.sql_names.proofs.Fines.{IsFine, AreFine, fine_left, fine_right}
 
@@ -37,8 +37,8 @@ allowed grouped false = grouped
 pub record Reads (tables : List (List SourceColumn)) (grouped : Bool) (names : Names) (c : Clause) (n : Names) : Type 0 where
   pub text : n.text ≡ names.text
   pub scope : AreSeen tables n.scope
-  pub alias : (name : List ℕ) (number : ℕ) → meaning_of n name ≡ meaning.Alias number → Stands tables grouped (shown_expr n.shown number name)
-  pub plain : (name : List ℕ) (number : ℕ) → meaning_of n name ≡ meaning.Alias number → aggregate_meant names.shown (meaning_of (names_in names c) name) ≡ None → Stands tables false (shown_expr n.shown number name)
+  pub alias : (name : List ℕ) (number : ℕ) → meaning_of n name ≡ meaning.Alias number → IsScoped tables grouped (shown_expr n.shown number name)
+  pub plain : (name : List ℕ) (number : ℕ) → meaning_of n name ≡ meaning.Alias number → aggregate_meant names.shown (meaning_of (names_in names c) name) ≡ None → IsScoped tables false (shown_expr n.shown number name)
 
 meant_column : (rule : Rule) (place : Option Place) (alias : Option ℕ) (p : Place) → meaning_by rule place alias ≡ meaning.Column p → place ≡ Some p
 meant_column rule.Columns None alias p e = absurd (let no : ⊥ = cc in no)
@@ -59,20 +59,20 @@ column_is : (tables : List (List SourceColumn)) (n : Names) (name : List ℕ) (p
 unfolding meaning_of
 column_is tables n name p seen e = plain_place_is tables n.scope name p seen (meant_column n.rule (plain_place name n.scope) (alias_from name 0 n.shown) p e)
 
-pub place_stands : (tables : List (List SourceColumn)) (may_fold : Bool) (o : Option Place) (name : List ℕ) → ((p : Place) → o ≡ Some p → IsPlace tables p) → Stands tables may_fold (place_or_word o name)
+pub place_stands : (tables : List (List SourceColumn)) (may_fold : Bool) (o : Option Place) (name : List ℕ) → ((p : Place) → o ≡ Some p → IsPlace tables p) → IsScoped tables may_fold (place_or_word o name)
 place_stands tables may_fold None name is = tt
 place_stands tables may_fold (Some p) name is = is p refl
 
-alias_stands : {tables : List (List SourceColumn)} {grouped : Bool} {names : Names} {c : Clause} {n : Names} (r : Reads tables grouped names c n) (forbidden : Bool) (name : List ℕ) (number : ℕ) → meaning_of n name ≡ meaning.Alias number → (if forbidden then aggregate_meant names.shown (meaning_of (names_in names c) name) else None) ≡ None → Stands tables (allowed grouped forbidden) (shown_expr n.shown number name)
+alias_stands : {tables : List (List SourceColumn)} {grouped : Bool} {names : Names} {c : Clause} {n : Names} (r : Reads tables grouped names c n) (forbidden : Bool) (name : List ℕ) (number : ℕ) → meaning_of n name ≡ meaning.Alias number → (if forbidden then aggregate_meant names.shown (meaning_of (names_in names c) name) else None) ≡ None → IsScoped tables (allowed grouped forbidden) (shown_expr n.shown number name)
 alias_stands r true name number is fine = r.plain name number is fine
 alias_stands r false name number is fine = r.alias name number is
 
-meant_stands : {tables : List (List SourceColumn)} {grouped : Bool} {names : Names} {c : Clause} {n : Names} (r : Reads tables grouped names c n) (forbidden : Bool) (name : List ℕ) (m : Meaning) → meaning_of n name ≡ m → (if forbidden then aggregate_meant names.shown (meaning_of (names_in names c) name) else None) ≡ None → Stands tables (allowed grouped forbidden) (meant n name m)
+meant_stands : {tables : List (List SourceColumn)} {grouped : Bool} {names : Names} {c : Clause} {n : Names} (r : Reads tables grouped names c n) (forbidden : Bool) (name : List ℕ) (m : Meaning) → meaning_of n name ≡ m → (if forbidden then aggregate_meant names.shown (meaning_of (names_in names c) name) else None) ≡ None → IsScoped tables (allowed grouped forbidden) (meant n name m)
 meant_stands {tables = tables} {n = n} r forbidden name (meaning.Column p) is fine = column_is tables n name p r.scope is
 meant_stands r forbidden name (meaning.Alias number) is fine = alias_stands r forbidden name number is fine
 meant_stands r forbidden name meaning.Word is fine = tt
 
-named_stands : {tables : List (List SourceColumn)} {grouped : Bool} {names : Names} {c : Clause} {n : Names} (r : Reads tables grouped names c n) (inside : Bool) (table : Option Name) (column : Name) → IsFine names grouped (record { clause = c; is_inside = inside; what = mentioned.Column table column }) → Stands tables (allowed grouped (forbids c || inside)) (named n table column)
+named_stands : {tables : List (List SourceColumn)} {grouped : Bool} {names : Names} {c : Clause} {n : Names} (r : Reads tables grouped names c n) (inside : Bool) (table : Option Name) (column : Name) → IsFine names grouped (record { clause = c; is_inside = inside; what = mentioned.Column table column }) → IsScoped tables (allowed grouped (forbids c || inside)) (named n table column)
 unfolding named
 named_stands {tables = tables} {grouped = grouped} {c = c} {n = n} r inside (Some table) column fine =
     place_stands tables (allowed grouped (forbids c || inside)) (known_place (name_text n.text table) (name_text n.text column) n.scope) (name_text n.text column) (λ p. known_place_is tables n.scope (name_text n.text table) (name_text n.text column) p r.scope)
@@ -98,7 +98,7 @@ fold_stands names grouped c inside place fold fine =
     ap (allowed grouped) free ∙ fine.1 refl (or_left (forbids c) inside free)
 
 mutual
-  pub expr_stands : {tables : List (List SourceColumn)} {grouped : Bool} {names : Names} {c : Clause} {n : Names} (r : Reads tables grouped names c n) (inside : Bool) (t : Tree) → AreFine names grouped (mentions c inside t) → Stands tables (allowed grouped (forbids c || inside)) (expr_of n t)
+  pub expr_stands : {tables : List (List SourceColumn)} {grouped : Bool} {names : Names} {c : Clause} {n : Names} (r : Reads tables grouped names c n) (inside : Bool) (t : Tree) → AreFine names grouped (mentions c inside t) → IsScoped tables (allowed grouped (forbids c || inside)) (expr_of n t)
   expr_stands r inside (tree.number place number) fine = tt
   expr_stands r inside (tree.text span) fine = tt
   expr_stands r inside tree.null fine = tt
@@ -114,11 +114,11 @@ mutual
   expr_stands r inside (tree.call function arguments) fine = trees_stand r inside arguments fine
   expr_stands {tables = tables} {grouped = grouped} {names = names} {c = c} {n = n} r inside (tree.folded place fold is_distinct t) fine = (
     fold_stands names grouped c inside place fold fine.0,
-    subst (λ (forbidden : Bool). Stands tables (allowed grouped forbidden) (expr_of n t)) (or_true (forbids c)) (expr_stands r true t fine.1),
+    subst (λ (forbidden : Bool). IsScoped tables (allowed grouped forbidden) (expr_of n t)) (or_true (forbids c)) (expr_stands r true t fine.1),
   )
   expr_stands {grouped = grouped} {names = names} {c = c} r inside (tree.count_all place fold is_distinct) fine = fold_stands names grouped c inside place fold fine.0
 
-  pub step_stands : {tables : List (List SourceColumn)} {grouped : Bool} {names : Names} {c : Clause} {n : Names} (r : Reads tables grouped names c n) (inside : Bool) (step : OneStep) → AreFine names grouped (mentions_of_step c inside step) → StepStands tables (allowed grouped (forbids c || inside)) (expr_step_of n step)
+  pub step_stands : {tables : List (List SourceColumn)} {grouped : Bool} {names : Names} {c : Clause} {n : Names} (r : Reads tables grouped names c n) (inside : Bool) (step : OneStep) → AreFine names grouped (mentions_of_step c inside step) → IsStepScoped tables (allowed grouped (forbids c || inside)) (expr_step_of n step)
   step_stands r inside (tree.binary op right) fine = expr_stands r inside right fine
   step_stands r inside (tree.among is_negated items) fine = trees_stand r inside items fine
   step_stands {grouped = grouped} {names = names} {c = c} r inside (tree.between is_negated low high) fine = (
@@ -126,14 +126,14 @@ mutual
     expr_stands r inside high (fine_right names grouped (mentions c inside low) (mentions c inside high) fine),
   )
 
-  pub steps_stand : {tables : List (List SourceColumn)} {grouped : Bool} {names : Names} {c : Clause} {n : Names} (r : Reads tables grouped names c n) (inside : Bool) (steps : Steps) → AreFine names grouped (mentions_of_steps c inside steps) → StepsStand tables (allowed grouped (forbids c || inside)) (expr_steps_of n steps)
+  pub steps_stand : {tables : List (List SourceColumn)} {grouped : Bool} {names : Names} {c : Clause} {n : Names} (r : Reads tables grouped names c n) (inside : Bool) (steps : Steps) → AreFine names grouped (mentions_of_steps c inside steps) → AreStepsScoped tables (allowed grouped (forbids c || inside)) (expr_steps_of n steps)
   steps_stand r inside tree.no_steps fine = tt
   steps_stand {grouped = grouped} {names = names} {c = c} r inside (tree.then before step) fine = (
     steps_stand r inside before (fine_left names grouped (mentions_of_steps c inside before) (mentions_of_step c inside step) fine),
     step_stands r inside step (fine_right names grouped (mentions_of_steps c inside before) (mentions_of_step c inside step) fine),
   )
 
-  trees_stand : {tables : List (List SourceColumn)} {grouped : Bool} {names : Names} {c : Clause} {n : Names} (r : Reads tables grouped names c n) (inside : Bool) (trees : Trees) → AreFine names grouped (mentions_of_trees c inside trees) → ExprsStand tables (allowed grouped (forbids c || inside)) (exprs_of n trees)
+  trees_stand : {tables : List (List SourceColumn)} {grouped : Bool} {names : Names} {c : Clause} {n : Names} (r : Reads tables grouped names c n) (inside : Bool) (trees : Trees) → AreFine names grouped (mentions_of_trees c inside trees) → AreExprsScoped tables (allowed grouped (forbids c || inside)) (exprs_of n trees)
   trees_stand r inside tree.no_trees fine = tt
   trees_stand {grouped = grouped} {names = names} {c = c} r inside (tree.and_tree before t) fine = (
     trees_stand r inside before (fine_left names grouped (mentions_of_trees c inside before) (mentions c inside t) fine),
@@ -152,18 +152,18 @@ reads_columns tables grouped names c scope shown seen = record {
 
 -- a column of the result stands, and without an aggregate it is a plain expression
 abbrev pub IsShown : List (List SourceColumn) → Bool → ShownTree → Type 0
-IsShown tables grouped s = Stands tables grouped s.expr × (s.aggregate ≡ None → Stands tables false s.expr)
+IsShown tables grouped s = IsScoped tables grouped s.expr × (s.aggregate ≡ None → IsScoped tables false s.expr)
 
 abbrev pub AreShown : List (List SourceColumn) → Bool → List ShownTree → Type 0
 AreShown tables grouped [] = Unit {0}
 AreShown tables grouped (s ∷ shown) = IsShown tables grouped s × AreShown tables grouped shown
 
-pub shown_stands : (tables : List (List SourceColumn)) (grouped : Bool) (shown : List ShownTree) (number : ℕ) (other : Value) → AreShown tables grouped shown → Stands tables grouped (option_map_or (λ (s : ShownTree). s.expr) (slice_get shown number) (literal other))
+pub shown_stands : (tables : List (List SourceColumn)) (grouped : Bool) (shown : List ShownTree) (number : ℕ) (other : Value) → AreShown tables grouped shown → IsScoped tables grouped (option_map_or (λ (s : ShownTree). s.expr) (slice_get shown number) (literal other))
 shown_stands tables grouped [] number other are = tt
 shown_stands tables grouped (s ∷ shown) zero other are = are.0.0
 shown_stands tables grouped (s ∷ shown) (suc number) other are = shown_stands tables grouped shown number other are.1
 
-pub shown_plain : (tables : List (List SourceColumn)) (grouped : Bool) (shown : List ShownTree) (number : ℕ) (other : Value) → AreShown tables grouped shown → aggregate_at shown number ≡ None → Stands tables false (option_map_or (λ (s : ShownTree). s.expr) (slice_get shown number) (literal other))
+pub shown_plain : (tables : List (List SourceColumn)) (grouped : Bool) (shown : List ShownTree) (number : ℕ) (other : Value) → AreShown tables grouped shown → aggregate_at shown number ≡ None → IsScoped tables false (option_map_or (λ (s : ShownTree). s.expr) (slice_get shown number) (literal other))
 shown_plain tables grouped [] number other are none = tt
 shown_plain tables grouped (s ∷ shown) zero other are none = are.0.1 none
 shown_plain tables grouped (s ∷ shown) (suc number) other are none = shown_plain tables grouped shown number other are.1 none

@@ -12,7 +12,7 @@ use Rattle.sql_query.specs.Resolved.{source_column}
 use Rattle.sql_query.specs.Exprs.{ExprTree, OneExprStep, ExprSteps, Exprs}
 use Rattle.sql_query.specs.Exprs as expr
 use Rattle.sql_query.specs.Resolved.{SourceTree, QueryTree}
-use Rattle.sql_query.specs.Standing.{row_width, IsColumn, Stands, StepStands, StepsStand, ExprsStand, IsOfCatalogue, columns_in, IsStanding}
+use Rattle.sql_query.specs.Standing.{row_width, IsColumn, IsScoped, IsStepScoped, AreStepsScoped, AreExprsScoped, IsOfCatalogue, columns_in, IsStanding}
 use Rattle.sql_query.proofs.Widths.{row_width-append}
 use Rattle.sql_query.proofs.Widths.{columns_few}
 
@@ -35,7 +35,7 @@ widens_within : {tables others : List (List SourceColumn)} {may_fold may_also : 
 widens_within w = record { columns = w.columns; folds = λ e. e }
 
 mutual
-  pub stands_wider : {tables others : List (List SourceColumn)} {may_fold may_also : Bool} (w : Widens tables others may_fold may_also) (e : ExprTree) → Stands tables may_fold e → Stands others may_also e
+  pub stands_wider : {tables others : List (List SourceColumn)} {may_fold may_also : Bool} (w : Widens tables others may_fold may_also) (e : ExprTree) → IsScoped tables may_fold e → IsScoped others may_also e
   stands_wider w (expr.literal value) stands = tt
   stands_wider w (expr.column source column at affinity) stands = w.columns source column at affinity stands
   stands_wider w (expr.chain first steps) stands = (stands_wider w first stands.0, steps_wider w steps stands.1)
@@ -47,16 +47,16 @@ mutual
   stands_wider w (expr.folded fold is_distinct e) stands = (w.folds stands.0, stands_wider (widens_within w) e stands.1)
   stands_wider w (expr.count_all fold is_distinct) stands = w.folds stands
 
-  pub step_wider : {tables others : List (List SourceColumn)} {may_fold may_also : Bool} (w : Widens tables others may_fold may_also) (step : OneExprStep) → StepStands tables may_fold step → StepStands others may_also step
+  pub step_wider : {tables others : List (List SourceColumn)} {may_fold may_also : Bool} (w : Widens tables others may_fold may_also) (step : OneExprStep) → IsStepScoped tables may_fold step → IsStepScoped others may_also step
   step_wider w (expr.binary op right) stands = stands_wider w right stands
   step_wider w (expr.among is_negated items) stands = exprs_wider w items stands
   step_wider w (expr.between is_negated low high) stands = (stands_wider w low stands.0, stands_wider w high stands.1)
 
-  pub steps_wider : {tables others : List (List SourceColumn)} {may_fold may_also : Bool} (w : Widens tables others may_fold may_also) (steps : ExprSteps) → StepsStand tables may_fold steps → StepsStand others may_also steps
+  pub steps_wider : {tables others : List (List SourceColumn)} {may_fold may_also : Bool} (w : Widens tables others may_fold may_also) (steps : ExprSteps) → AreStepsScoped tables may_fold steps → AreStepsScoped others may_also steps
   steps_wider w expr.no_steps stands = tt
   steps_wider w (expr.then before step) stands = (steps_wider w before stands.0, step_wider w step stands.1)
 
-  pub exprs_wider : {tables others : List (List SourceColumn)} {may_fold may_also : Bool} (w : Widens tables others may_fold may_also) (exprs : Exprs) → ExprsStand tables may_fold exprs → ExprsStand others may_also exprs
+  pub exprs_wider : {tables others : List (List SourceColumn)} {may_fold may_also : Bool} (w : Widens tables others may_fold may_also) (exprs : Exprs) → AreExprsScoped tables may_fold exprs → AreExprsScoped others may_also exprs
   exprs_wider w expr.no_exprs stands = tt
   exprs_wider w (expr.and_expr before e) stands = (exprs_wider w before stands.0, stands_wider w e stands.1)
 
@@ -75,16 +75,16 @@ column_further tables more source column at affinity is =
     }
 
 -- what stands over some tables stands over these and more
-pub stands_further : (tables more : List (List SourceColumn)) (may_fold : Bool) (e : ExprTree) → Stands tables may_fold e → Stands (tables ++ more) may_fold e
+pub stands_further : (tables more : List (List SourceColumn)) (may_fold : Bool) (e : ExprTree) → IsScoped tables may_fold e → IsScoped (tables ++ more) may_fold e
 stands_further tables more may_fold e stands = stands_wider (record { columns = column_further tables more; folds = λ may. may }) e stands
 
 -- what stands without aggregates stands where they may stand
-pub stands_folding : (tables : List (List SourceColumn)) (may_fold : Bool) (e : ExprTree) → Stands tables false e → Stands tables may_fold e
+pub stands_folding : (tables : List (List SourceColumn)) (may_fold : Bool) (e : ExprTree) → IsScoped tables false e → IsScoped tables may_fold e
 stands_folding tables may_fold e stands = stands_wider (record { columns = λ source column at affinity is. is; folds = λ no. absurd (let never : ⊥ = cc in never) }) e stands
 
 -- what stands over the first tables stands over all
-pub stands_over_all : (tables : List (List SourceColumn)) (n : ℕ) (may_fold : Bool) (e : ExprTree) → Stands (take n tables) may_fold e → Stands tables may_fold e
-stands_over_all tables n may_fold e stands = subst (λ (all : List (List SourceColumn)). Stands all may_fold e) (take-append-drop n tables) (stands_further (take n tables) (drop n tables) may_fold e stands)
+pub stands_over_all : (tables : List (List SourceColumn)) (n : ℕ) (may_fold : Bool) (e : ExprTree) → IsScoped (take n tables) may_fold e → IsScoped tables may_fold e
+stands_over_all tables n may_fold e stands = subst (λ (all : List (List SourceColumn)). IsScoped all may_fold e) (take-append-drop n tables) (stands_further (take n tables) (drop n tables) may_fold e stands)
 
 sources_narrow : (sources : List SourceTree) → AllByRecursion IsOfCatalogue sources → row_width (columns_in sources) ≤ 13 * length sources
 sources_narrow [] are = omega arith

@@ -26,33 +26,33 @@ pub record IsColumn (tables : List (List SourceColumn)) (source column at : ℕ)
 
 abbrev mutual
   -- each column is one of these tables'; an aggregate stands only where one may, and none within another
-  pub Stands : List (List SourceColumn) → Bool → ExprTree → Type 0
-  Stands tables may_fold (expr.literal value) = ⊤
-  Stands tables may_fold (expr.column source column at affinity) = IsColumn tables source column at affinity
-  Stands tables may_fold (expr.chain first steps) = Stands tables may_fold first × StepsStand tables may_fold steps
-  Stands tables may_fold (expr.negation e) = Stands tables may_fold e
-  Stands tables may_fold (expr.minus e) = Stands tables may_fold e
-  Stands tables may_fold (expr.plus e) = Stands tables may_fold e
-  Stands tables may_fold (expr.cast e affinity) = Stands tables may_fold e
-  Stands tables may_fold (expr.call function arguments) = ExprsStand tables may_fold arguments
-  Stands tables may_fold (expr.folded fold is_distinct e) = IsTrue may_fold × Stands tables false e
-  Stands tables may_fold (expr.count_all fold is_distinct) = IsTrue may_fold
+  pub IsScoped : List (List SourceColumn) → Bool → ExprTree → Type 0
+  IsScoped tables may_fold (expr.literal value) = ⊤
+  IsScoped tables may_fold (expr.column source column at affinity) = IsColumn tables source column at affinity
+  IsScoped tables may_fold (expr.chain first steps) = IsScoped tables may_fold first × AreStepsScoped tables may_fold steps
+  IsScoped tables may_fold (expr.negation e) = IsScoped tables may_fold e
+  IsScoped tables may_fold (expr.minus e) = IsScoped tables may_fold e
+  IsScoped tables may_fold (expr.plus e) = IsScoped tables may_fold e
+  IsScoped tables may_fold (expr.cast e affinity) = IsScoped tables may_fold e
+  IsScoped tables may_fold (expr.call function arguments) = AreExprsScoped tables may_fold arguments
+  IsScoped tables may_fold (expr.folded fold is_distinct e) = IsTrue may_fold × IsScoped tables false e
+  IsScoped tables may_fold (expr.count_all fold is_distinct) = IsTrue may_fold
 
-  pub StepStands : List (List SourceColumn) → Bool → OneExprStep → Type 0
-  StepStands tables may_fold (expr.binary op right) = Stands tables may_fold right
-  StepStands tables may_fold (expr.among is_negated items) = ExprsStand tables may_fold items
-  StepStands tables may_fold (expr.between is_negated low high) = Stands tables may_fold low × Stands tables may_fold high
+  pub IsStepScoped : List (List SourceColumn) → Bool → OneExprStep → Type 0
+  IsStepScoped tables may_fold (expr.binary op right) = IsScoped tables may_fold right
+  IsStepScoped tables may_fold (expr.among is_negated items) = AreExprsScoped tables may_fold items
+  IsStepScoped tables may_fold (expr.between is_negated low high) = IsScoped tables may_fold low × IsScoped tables may_fold high
 
-  pub StepsStand : List (List SourceColumn) → Bool → ExprSteps → Type 0
-  StepsStand tables may_fold expr.no_steps = ⊤
-  StepsStand tables may_fold (expr.then before step) = StepsStand tables may_fold before × StepStands tables may_fold step
+  pub AreStepsScoped : List (List SourceColumn) → Bool → ExprSteps → Type 0
+  AreStepsScoped tables may_fold expr.no_steps = ⊤
+  AreStepsScoped tables may_fold (expr.then before step) = AreStepsScoped tables may_fold before × IsStepScoped tables may_fold step
 
-  pub ExprsStand : List (List SourceColumn) → Bool → Exprs → Type 0
-  ExprsStand tables may_fold expr.no_exprs = ⊤
-  ExprsStand tables may_fold (expr.and_expr before e) = ExprsStand tables may_fold before × Stands tables may_fold e
+  pub AreExprsScoped : List (List SourceColumn) → Bool → Exprs → Type 0
+  AreExprsScoped tables may_fold expr.no_exprs = ⊤
+  AreExprsScoped tables may_fold (expr.and_expr before e) = AreExprsScoped tables may_fold before × IsScoped tables may_fold e
 
 abbrev pub StandAll : List (List SourceColumn) → Bool → List ExprTree → Type 0
-StandAll tables may_fold exprs = All (Stands tables may_fold) exprs
+StandAll tables may_fold exprs = All (IsScoped tables may_fold) exprs
 
 -- a FROM table is one of the catalogue's, with the name and the columns that the catalogue gives it
 pub record IsOfCatalogue (source : SourceTree) : Type 0 where
@@ -71,6 +71,6 @@ pub record IsStanding (query : QueryTree) : Type 0 where
   pub filter : StandAll (columns_in query.sources) false query.filter
   pub keys : StandAll (columns_in query.sources) false query.keys
   pub having : StandAll (columns_in query.sources) query.is_grouped query.having
-  pub items : All (λ (item : ResultTree). Stands (columns_in query.sources) query.is_grouped item.expr) query.items
-  pub terms : All (λ (term : OrderTree). Stands (columns_in query.sources) query.is_grouped term.expr) query.terms
+  pub items : All (λ (item : ResultTree). IsScoped (columns_in query.sources) query.is_grouped item.expr) query.items
+  pub terms : All (λ (term : OrderTree). IsScoped (columns_in query.sources) query.is_grouped term.expr) query.terms
   pub ungrouped : query.is_grouped ≡ false → (query.keys ≡ []) × (query.having ≡ [])
