@@ -69,7 +69,7 @@ unread_turn packs pack rest failed later (Fault file) more is =
       (
         file_of_pack,
         subst (λ (files : List PackFile). Contains files file_of_pack) (sym all)
-        (Contains-append_right (files_of packs) (files_of (pack ∷ []) ++ files_of rest) file_of_pack (Contains-append_left (files_of (pack ∷ [])) (files_of rest) file_of_pack among)),
+            (Contains-append_right (files_of packs) (files_of (pack ∷ []) ++ files_of rest) file_of_pack (Contains-append_left (files_of (pack ∷ [])) (files_of rest) file_of_pack among)),
         same,
       ),
     )

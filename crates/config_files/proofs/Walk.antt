@@ -71,7 +71,7 @@ added_by text old pack read count next packs (d, has, none, is) moved put rest h
       inl (
         (d, has, fits, refl),
         (d, has, ap (λ (ps : List Pack). record old { packs = ps }) (fills ∙ ap (λ (r : Pack). filled pack.name r (old.packs ++ pack ∷ rest)) is)),
-        refl
+        refl,
       ),
       record {
         names = ap (λ (ps : List Pack). names_rise (pack_names ps)) fills ∙ ap names_rise (filled_names pack.name read (old.packs ++ pack ∷ rest)) ∙ holds.names;
@@ -95,7 +95,7 @@ left_by text old pack count next error whole answer moved rest holds =
         whole,
         refused_alike {Y = Unit {0}} (fault_of_file before) file_pack (λ _. tt) text error told,
         ap (λ (ps : List Pack). record old { packs = ps }) leaves,
-        refl
+        refl,
       ),
       record {
         names = ap (λ (ps : List Pack). names_rise (pack_names ps)) leaves ∙ left_names pack.name (old.packs ++ pack ∷ rest) holds.names;
@@ -127,7 +127,7 @@ pub passed_by : (old : Config) (pack : Pack) (count : ℕ) (packs : List Pack) �
 passed_by old pack count packs is put rest holds =
     let whole : packs ++ rest ≡ old.packs ++ pack ∷ rest = ap (λ (ps : List Pack). ps ++ rest) put ∙ append_assoc old.packs (pack ∷ []) rest in (
       subst (λ (files : List PackFile). AddsPacks files [] (with_packs old (pack ∷ rest)) (with_packs (record old { packs = packs }) rest) []) (sym (files_none pack is))
-      (ap (λ (ps : List Pack). record old { packs = ps }) whole, refl),
+          (ap (λ (ps : List Pack). record old { packs = ps }) whole, refl),
       record {
         names = ap (λ (ps : List Pack). names_rise (pack_names ps)) whole ∙ holds.names;
         held = holds.held ∙ ap (λ (ps : List Pack). query_count old.schedule ps) (sym whole);
@@ -198,7 +198,7 @@ walk_ends files_tell file old now passed rest count documents kept notes told wa
       walked.texts,
       walked.lines,
       subst (λ (config : Config). AddsPacks (files_of old.packs) walked.texts old config walked.lines) last
-      (subst (λ (ps : List Pack). AddsPacks (files_of ps) walked.texts old (with_packs now rest) walked.lines) whole walked.adds),
+          (subst (λ (ps : List Pack). AddsPacks (files_of ps) walked.texts old (with_packs now rest) walked.lines) whole walked.adds),
       λ tells. walked.texts_are tells ∙ ap (λ (ps : List Pack). texts_in file (files_of ps)) whole,
       walked.documents_are,
       walked.notes_are,

@@ -23,9 +23,9 @@ loop-pack-preserved g c =
       size = omega (arith, i.size, step.1, fewer);
       whole = i.whole ∙ ap (λ (l : List Pack). passed ++ l) step.0 ∙ sym (append_assoc passed (pack ∷ []) rest);
       walked = walk_goes_on g.F.Files.tells (g.F.Files.file c.args.files.now) (g.F.Files.file c.loop-pack.files) c.args.made.now.config c.loop-pack.made.config c.add_file.new.made.config passed pack rest
-      c.loop-pack.count c.add_file.new.count c.args.made.now.documents c.loop-pack.made.documents c.add_file.new.made.documents c.args.made.now.notes c.loop-pack.made.notes c.add_file.new.made.notes i.same
-      (subst (λ (ps : List Pack). IsWalked g.F.Files.tells (g.F.Files.file c.args.files.now) c.args.made.now.config c.loop-pack.made.config passed ps c.loop-pack.count c.args.made.now.documents c.loop-pack.made.documents c.args.made.now.notes c.loop-pack.made.notes) step.0 i.walked)
-      a.0 a.1 a.2 a.3 a.4 a.5;
+          c.loop-pack.count c.add_file.new.count c.args.made.now.documents c.loop-pack.made.documents c.add_file.new.made.documents c.args.made.now.notes c.loop-pack.made.notes c.add_file.new.made.notes i.same
+          (subst (λ (ps : List Pack). IsWalked g.F.Files.tells (g.F.Files.file c.args.files.now) c.args.made.now.config c.loop-pack.made.config passed ps c.loop-pack.count c.args.made.now.documents c.loop-pack.made.documents c.args.made.now.notes c.loop-pack.made.notes) step.0 i.walked)
+          a.0 a.1 a.2 a.3 a.4 a.5;
       same = λ tells path. c.add_file.ensures.same tells path ∙ i.same tells path;
       later = search rules;
     }

@@ -42,14 +42,14 @@ returns c =
     let whole : error ≢ NoMemory = search rules in
     record {
       adds = when_ok c.push_note.result
-      (λ noted. (
-        left_out_line pack.name (kind_of_error error),
-        λ rest holds.
-            let within = c.requires in
-            let before = c.len-in-Err.ensures in
-            left_by text old pack count (count - c.len-in-Err.result) error whole answer (omega arith) rest holds,
-        noted ∙ ap (λ (name : List ℕ). c.args.made.now.notes ++ left_out_line name (kind_of_error error)) c.as_str.ensures,
-      ))
-      c.push_note.ensures;
+          (λ noted. (
+            left_out_line pack.name (kind_of_error error),
+            λ rest holds.
+                let within = c.requires in
+                let before = c.len-in-Err.ensures in
+                left_by text old pack count (count - c.len-in-Err.result) error whole answer (omega arith) rest holds,
+            noted ∙ ap (λ (name : List ℕ). c.args.made.now.notes ++ left_out_line name (kind_of_error error)) c.as_str.ensures,
+          ))
+          c.push_note.ensures;
       documents = when_ok c.push_note.result (λ noted. refl) c.push_note.ensures;
     }
