@@ -8,6 +8,12 @@ loop-self-preserved-in-loop-self c =
     let d = drops c.args.floor loop.self c.take_first.new.self c.take_first.result (sym c.loop-self-test.ensures) loop.invariant.rising c.take_first.ensures.items c.take_first.ensures.none in
     record { same = d.same ∙ loop.invariant.same; rising = d.rising }
 
+pub loop-self-preserved-in-loop-self-2 : goal.loop-self-preserved-in-loop-self-2
+loop-self-preserved-in-loop-self-2 c =
+    let loop = c.loop-self in
+    let d = drops c.args.floor loop.self c.take_first.new.self c.take_first.result (sym c.loop-self-test.ensures) loop.invariant.rising c.take_first.ensures.items c.take_first.ensures.none in
+    record { same = d.same ∙ loop.invariant.same; rising = d.rising }
+
 pub returns : goal.returns
 returns c =
     let loop = c.loop-self in
