@@ -1,12 +1,12 @@
 //! Arrays.
 
 ghost use Rattle.std.specs.Prelude.{◌≡◌, ◌++◌, ◌<◌, length, map, OnOk};
-ghost use Rattle.result_batches.specs.Json.{joined};
+ghost use Rattle.result_batches.specs.Json.{array, joined};
 ghost use Rattle.batch_frames.specs.Ends.{behind_comma, has_item};
 
 use crate::bytes::{behind, behind_comma};
 use crate::spelled::Spelled;
-use osq_value::{Bytes, NoMemory, Sequence};
+use osq_value::{Bytes, NoMemory, Row, Sequence, Value};
 use std::alloc::Global;
 
 /// Adds items, with a comma between any two.
@@ -22,6 +22,15 @@ fn push_items<T: Spelled>(line: &mut Bytes, items: &[T]) -> Result<(), NoMemory>
         item.push_to(line)?;
     }
     Ok(())
+}
+
+/// Adds an array of these items.
+fn push_array<T: Spelled>(line: &mut Bytes, items: &[T]) -> Result<(), NoMemory>
+    ensures { OnOk result (line.new ≡ line.old ++ array (map T.text items.now)) }
+{
+    line.extend(b"[")?;
+    push_items(line, items)?;
+    line.extend(b"]")
 }
 
 /// Another item stands in front: there are bytes, and they don't begin with the bracket that closes an array.
@@ -56,9 +65,7 @@ impl<T: Spelled> Spelled for Sequence<T> {
     ghost is_held = { λ items. AllByRecursion T.is_held items };
 
     fn push_to(&self, line: &mut Bytes) -> Result<(), NoMemory> {
-        line.extend(b"[")?;
-        push_items(line, self.as_slice())?;
-        line.extend(b"]")
+        push_array(line, self.as_slice())
     }
 
     fn take(alloc: Global, bytes: &[u8]) -> Result<(Self, &[u8]), NoMemory> {
@@ -71,6 +78,30 @@ impl<T: Spelled> Spelled for Sequence<T> {
             rest = behind_item(rest, after);
         }
         Ok((items, behind(rest, 1)))
+    }
+
+    fn begins() {}
+}
+
+/// A row is spelled as the list of its values.
+impl Spelled for Row {
+    ghost use Rattle.std.specs.Prelude.{map};
+    ghost use Rattle.std.specs.List.{AllByRecursion};
+    ghost use Rattle.result_batches.specs.Frames.{json_value};
+    ghost use Rattle.result_batches.specs.Json.{array};
+    ghost use Rattle.batch_frames.specs.Texts.{IsHeldValue};
+
+    ghost text = { λ values. array (map json_value values) };
+
+    ghost is_held = { λ values. AllByRecursion IsHeldValue values };
+
+    fn push_to(&self, line: &mut Bytes) -> Result<(), NoMemory> {
+        push_array(line, self.as_slice())
+    }
+
+    fn take(alloc: Global, bytes: &[u8]) -> Result<(Self, &[u8]), NoMemory> {
+        let (values, rest) = Sequence::<Value>::take(alloc, bytes)?;
+        Ok((Row::from_vec(values.into_vec()), rest))
     }
 
     fn begins() {}

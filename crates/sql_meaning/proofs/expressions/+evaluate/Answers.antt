@@ -6,7 +6,7 @@ use Rattle.sql_meaning.proofs.expressions.+evaluate.Goals as goal
 
 pub among-loop-item-preserved : goal.among-loop-item-preserved
 among-loop-item-preserved t c =
-    in-then (environment_of c.args.over) c.args.affinity c.args.left.now c.args.items.now c.loop-item.item-index c.item-item.result c.loop-item.found c.as_value.result.now c.in_ok-equal.equal c.in_ok-found.found c.loop-item-test.true c.item-item.is c.loop-item.invariant (c.as_value.ensures ∙ c.in_ok-right.ensures) c.in_ok-equal.ensures c.in_ok-found.ensures
+    in-then (environment_of c.args.over) c.args.affinity c.args.left.now c.args.items.now c.loop-item.item-index c.item-item.result c.loop-item.found c.as_value.result.now c.in_ok-equal.equal c.in_ok-found.found c.loop-item-test.true c.item-item.is c.loop-item.invariant (c.as_value.ensures ∙ c.in_ok-right.ensures) c.in_ok-equal.ensures.applied c.in_ok-found.ensures.applied
 
 pub chain-loop-step-preserved : goal.chain-loop-step-preserved
 chain-loop-step-preserved t c = (
