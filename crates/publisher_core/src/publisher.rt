@@ -252,7 +252,11 @@ impl<C: Callback> Publisher<C> {
     }
 
     /// Takes the records of a step.
-    fn take_records<S: Source>(&mut self, source: &mut S, most: u64) -> Result<ReadRecordList, StepError>
+    fn take_records<S: Source>(
+        &mut self,
+        source: &mut S,
+        most: u64,
+    ) -> Result<ReadRecordList, StepError>
         ensures steps { (given : List ReadRecord) → (start : ℕ) → (stream : List ℕ) → HasPublished self.old given start stream
             → IfOk result (λ pieces. Steps S.tells (S.left source.old) (S.left source.new) self.new given start stream pieces most) }
         ensures grown { (given : List ReadRecord) → (start : ℕ) → (stream : List ℕ) → HasPublished self.old given start stream → IfOk result (λ pieces. GrowsBy self.old.taken self.new.taken pieces) }

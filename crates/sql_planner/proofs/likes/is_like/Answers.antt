@@ -23,5 +23,5 @@ returns-in_ok-found-in-Some c =
     let pattern = c.args.likened.pattern.now in
     c.unwrap_or.ensures ∙ truth-met c.truth.result
     ∙ ap is_true_truth c.truth.ensures
-    ∙ ap is_true c.in_ok-found-in-Some.ensures
+    ∙ ap is_true c.in_ok-found-in-Some.ensures.applied
     ∙ ap (λ (v : Value). is_true (like_of v pattern)) (ap (λ (o : Option Value). unwrap_or o Null) c.in-Some.ensures ∙ unwrap_or-slice_get c.args.row.now c.args.likened.at Null)
