@@ -5,7 +5,7 @@ ghost use Rattle.shared_store.specs.Words.{IsSeatOf};
 
 use crate::given::opened;
 use crate::turns::{Outcome, add_one, claimed, commit, last_cut};
-use osq_value::{NoMemory, Tables};
+use osq_value::{NoMemory, TableId, Tables};
 use session_state::{AppendError, TickRefusal};
 use shared_store::{Store, StoreSeat};
 use std::alloc::Global;
