@@ -22,18 +22,20 @@ PROGRAM = """\
 //! Prints what calls of an image and of cursors take, a line each: `CALL SIZE PART NANOSECONDS`.
 #![tactic(auto)]
 
-ghost use Rattle.std.specs.Prelude.{◌≡◌, ◌≤◌, All, IfOk, length};
+ghost use Rattle.std.specs.Prelude.{◌≡◌, ◌<◌, ◌≤◌, All, IfOk, length};
 ghost use Rattle.entry_model.specs.Fits.{Fits};
 ghost use Rattle.entry_model.specs.Legal.{IsEvent};
 ghost use Rattle.query_cursors.specs.Places.{places_of};
 
 use entry_model::restored::{Restored, Run, RunList};
-use event_store::Image;
+use event_store::{Image, Steps};
 use osq_value::{Event, EventList, NoMemory, Row, Str, TableId, Value};
 use pack_rules::schedule::{Form, Mode, QueryKey, Schedule, Scheduled, ScheduledList};
 use query_cursors::Cursors;
 use std::alloc::Global;
 use std::io;
+use std::marker::Brand;
+use std::sync::ledger::{Blank, Ledger};
 use std::time::{Clock, Instant};
 
 /// One change of a file.
@@ -73,13 +75,28 @@ fn nothing(alloc: Global) -> Restored
     Restored::empty(alloc)
 }
 
-fn append(image: &mut Image, events: EventList, moment: u64) -> Result<(), NoMemory>
-    requires { All IsEvent events }
+fn append_counted<L: Ledger>(
+    image: &mut Image,
+    events: EventList,
+    moment: u64,
+    blank: Blank,
+) -> Result<(), NoMemory>
+    requires events { All IsEvent events }
+    requires name { blank.name ≡ L.name }
+    requires parts { blank.parts ≡ L.parts }
+    requires some { 0 < blank.parts }
 {
-    match image.append(events, moment) {
+    let mut steps = Steps::<L>::new(blank);
+    match image.append(events, moment, &mut steps) {
         Ok(_) => Ok(()),
         Err(_) => Err(NoMemory),
     }
+}
+
+fn append(image: &mut Image, events: EventList, moment: u64) -> Result<(), NoMemory>
+    requires { All IsEvent events }
+{
+    append_counted::<Brand>(image, events, moment, Blank::new(1))
 }
 
 /// An image with so many changes, of which the first ones are from the moment 1000 and the others from 2000.
@@ -115,11 +132,14 @@ fn time_expiry<R: Clock>(rt: &R, alloc: Global, old: u64, live: u64) -> Result<u
         return Err(NoMemory);
     };
     let floor = image.floor_owed(TableId::FILE_EVENTS, 500, 1_000_000_000, 2000);
-    image.expire(TableId::FILE_EVENTS, floor.unwrap_or(0));
+    let Some(found) = floor else {
+        return Err(NoMemory);
+    };
+    image.expire(TableId::FILE_EVENTS, found);
     let Ok(taken) = start.elapsed(rt) else {
         return Err(NoMemory);
     };
-    if floor != Some(old) {
+    if found != old {
         return Err(NoMemory);
     }
     Ok(taken.as_nanos())
@@ -279,6 +299,13 @@ abbrev pub invariant-loop : goal.invariant-loop
 invariant-loop l = All IsEvent l.events
 """
 
+LEDGER = """\
+use Rattle.store_costs.proofs.append.Given as goal
+
+abbrev pub ghosts-append_counted : goal.ghosts-append_counted
+ghosts-append_counted a = record { name = a.blank.name; parts = a.blank.parts }
+"""
+
 
 def crates_below(tops: tuple[str, ...]) -> dict[str, str]:
     """The crates of the repository that these need, each with its line of crates.txt."""
@@ -316,6 +343,9 @@ def write_program(folder: pathlib.Path) -> pathlib.Path:
     loop = program / "proofs" / "changes"
     loop.mkdir(parents=True)
     (loop / "Invariants.antt").write_text(INVARIANT)
+    ledger = program / "proofs" / "append"
+    ledger.mkdir(parents=True)
+    (ledger / "Invariants.antt").write_text(LEDGER)
     return program
 
 

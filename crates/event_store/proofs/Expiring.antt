@@ -1,9 +1,9 @@
 -- The walk that finds what is to expire, and what it finds.
 use Rattle.std.proofs.Common.{◌≡◌, ℕ, ◌-◌, ◌<◌, Bool, true, false, cond, List, [], ◌∷◌, ◌++◌, length, Option, Some, None, refl, sym, ap, ◌∙◌, subst, arith, append_assoc}
-use Rattle.std.specs.Prelude.{filter, count_by, nat_lt, nat_le, ◌||◌, if◌then◌else◌}
+use Rattle.std.specs.Prelude.{All, IfSome, filter, count_by, nat_lt, nat_le, ◌||◌, if◌then◌else◌}
 use Rattle.std.specs.List.{AllByRecursion}
 use Rattle.std.proofs.lemmas.Bool.Decides.{nat_tests}
-use Rattle.std.proofs.lemmas.List.Elements.{filter-append}
+use Rattle.std.proofs.lemmas.List.Elements.{All-filter, recursion_from_All, filter-append}
 use Rattle.std.proofs.lemmas.List.Sums.{length-filter}
 use Rattle.entry_model.specs.declared.restored.Live.{Live}
 use Rattle.entry_model.specs.Values.{last_of}
@@ -59,3 +59,13 @@ module _ (expiry max moment : ℕ) where
 
   pub owed_is : (events : List Live) → IsRisingFrom 0 events → owed_from expiry max moment None events ≡ owed_of expiry max moment events
   owed_is events r = found [] events None r
+
+-- what is owed is the number of one of them
+last_among : (Q : ℕ → Type 0) (so_far : Option ℕ) (xs : List Live) → IfSome so_far Q → AllByRecursion (λ (x : Live). Q x.number) xs → IfSome (last_of (λ (event : Live). Some (Some event.number)) so_far xs) Q
+last_among Q so_far [] h all = h
+last_among Q so_far (x ∷ xs) h all = last_among Q (Some x.number) xs all.0 all.1
+
+pub owed_among : (Q : ℕ → Type 0) (expiry max moment : ℕ) (events : List Live) → All (λ (x : Live). Q x.number) events → IfSome (owed_of expiry max moment events) Q
+owed_among Q expiry max moment events all =
+    let kept = filter (must_go expiry max moment events) events in
+    last_among Q None kept tt (recursion_from_All (λ (x : Live). Q x.number) kept (All-filter (must_go expiry max moment events) (λ (x : Live). Q x.number) events all))

@@ -20,7 +20,7 @@ length_placed queues [] = refl
 length_placed queues (x ∷ xs) =
     length_placed (pushed queues x) xs ∙ length-set queues x.table.0 (get_or queues x.table.0 [] ++ x ∷ [])
 
-pushed_at : (queues : List (List Live)) (x : Live) (table : ℕ) → table < length queues → get_or (pushed queues x) table [] ≡ get_or queues table [] ++ events_of (x ∷ []) table
+pub pushed_at : (queues : List (List Live)) (x : Live) (table : ℕ) → table < length queues → get_or (pushed queues x) table [] ≡ get_or queues table [] ++ events_of (x ∷ []) table
 pushed_at queues x table within = by_table (x.table.0 == table) refl
   where
     by_table : (b : Bool) → (x.table.0 == table) ≡ b → get_or (pushed queues x) table [] ≡ get_or queues table [] ++ cond b (x ∷ []) []
@@ -49,7 +49,7 @@ rising_both n m [] [] up r low s = tt
 rising_both n m [] (y ∷ ys) up r low s = (let a = s.0 in omega (arith, a, up), s.1)
 rising_both n m (x ∷ xs) ys up r low s = (r.0, rising_both x.number m xs ys low.0 r.1 low.1 s)
 
-known_new : (n last : ℕ) (xs : List (ℕ × Event)) → n + length xs ≤ last + 1 → AllByRecursion (λ (event : Live). event.number ≤ last) (numbered n xs)
+pub known_new : (n last : ℕ) (xs : List (ℕ × Event)) → n + length xs ≤ last + 1 → AllByRecursion (λ (event : Live). event.number ≤ last) (numbered n xs)
 known_new n last [] h = tt
 known_new n last (x ∷ xs) h = (omega arith, known_new (suc n) last xs (omega arith))
 

@@ -1,6 +1,7 @@
 -- Events in the order of their moments: the old ones stand in front.
 use Rattle.std.proofs.Common.{◌≡◌, ℕ, zero, suc, ◌+◌, ◌-◌, ◌<◌, ◌≤◌, Bool, true, false, cond, List, [], ◌∷◌, ◌++◌, length, take, drop, get_or, Option, Some, None, refl, sym, ap, ◌∙◌, subst, arith}
-use Rattle.std.specs.Prelude.{nat_le, ◌||◌}
+use Rattle.std.specs.Prelude.{nat_le, ◌||◌, filter}
+use Rattle.std.specs.List.{AllByRecursion}
 use Rattle.std.specs.Option.{option_to_list}
 use Rattle.std.proofs.lemmas.Bool.Decides.{nat_tests}
 use Rattle.std.proofs.lemmas.List.{drop_more, length-drop, take-append-drop}
@@ -73,3 +74,24 @@ ends_walk expiry max moment at later last owed items d within counts rising orde
     ∙ ap (owed_from expiry max moment owed) (sym left)
     ∙ so_far
     ∙ owed_is expiry max moment items rising
+
+order_lower : (low first last : ℕ) (xs : List Live) → low ≤ first → IsInOrder first last xs → IsInOrder low last xs
+order_lower low first last [] up h = omega (arith, up, h)
+order_lower low first last (x ∷ xs) up h = (let a = h.0 in omega (arith, a, up), h.1)
+
+-- some of them
+pub order_filter : (p : Live → Bool) (first last : ℕ) (xs : List Live) → IsInOrder first last xs → IsInOrder first last (filter p xs)
+order_filter p first last [] h = h
+order_filter p first last (x ∷ xs) h = by_test (p x) (order_filter p x.moment last xs h.1)
+  where
+    by_test : (b : Bool) → IsInOrder x.moment last (filter p xs) → IsInOrder first last (cond b (x ∷ filter p xs) (filter p xs))
+    by_test true rest = (h.0, rest)
+    by_test false rest = order_lower first x.moment last (filter p xs) h.0 rest
+
+-- more of one moment, which is later
+pub order_both : (first last moment : ℕ) (xs ys : List Live) → last ≤ moment → IsInOrder first last xs → AllByRecursion (λ (y : Live). y.moment ≡ moment) ys → IsInOrder first moment (xs ++ ys)
+order_both first last moment (x ∷ xs) ys later h same = (h.0, order_both x.moment last moment xs ys later h.1 same)
+order_both first last moment [] [] later h same = omega (arith, later, h)
+order_both first last moment [] (y ∷ ys) later h same =
+    let is = same.0 in
+    (omega (arith, later, h, is), order_both y.moment moment moment [] ys (omega arith) (omega (arith, is)) same.1)

@@ -34,7 +34,7 @@ no_rows_at zero k = refl
 no_rows_at (suc n) zero = refl
 no_rows_at (suc n) (suc k) = no_rows_at n k
 
-live_is : (r : Restored) (table : ℕ) → table < 3 → get_or (placed ([] ∷ [] ∷ [] ∷ []) r.live) table [] ≡ events_of r.live table
+pub live_is : (r : Restored) (table : ℕ) → table < 3 → get_or (placed ([] ∷ [] ∷ [] ∷ []) r.live) table [] ≡ events_of r.live table
 live_is r table within =
     placed_at ([] ∷ [] ∷ [] ∷ []) r.live table within ∙ ap (λ (es : List Live). es ++ events_of r.live table) (none_live_at table)
 

@@ -1,6 +1,7 @@
 -- What a view of an image shows.
-use Rattle.std.proofs.Common.{◌≡◌, ◌⊎◌, ℕ, zero, suc, ◌+◌, ◌-◌, ◌<◌, ◌≤◌, List, [], ◌∷◌, ◌++◌, length, map, get_or, refl, sym, ◌∙◌, subst, inl, inr, arith, length-append}
-use Rattle.std.proofs.lemmas.List.{length-map, get_or_append_left, get_or-append_right}
+use Rattle.std.proofs.Common.{◌≡◌, ◌⊎◌, ℕ, zero, suc, ◌+◌, ◌-◌, ◌<◌, ◌≤◌, ◌≢◌, List, [], ◌∷◌, ◌++◌, length, map, set, get_or, refl, sym, ap, ◌∙◌, subst, inl, inr, arith, length-append}
+use Rattle.std.proofs.lemmas.List.{length-map, length-set, set-append_right, get_or-set_same, get_or-set_other, get_or_append_left, get_or-append_right}
+use Rattle.std.proofs.lemmas.Bool.{cases_eq}
 use Rattle.std.proofs.lemmas.List.Elements.{All-nil, All-map, All-filter}
 use Rattle.std.specs.Prelude.{nat_lt}
 use Rattle.osq_value.specs.declared.value.Value.{Value}
@@ -9,6 +10,7 @@ use Rattle.entry_model.specs.Legal.{width_of}
 use Rattle.entry_model.proofs.Lists.{is_below}
 use Rattle.event_store.specs.Queues.{above, rows_above}
 use Rattle.event_store.specs.Contents.{Contents, AreLive, AreWide, live_at, IsImage, IsView, cut_above}
+use Rattle.event_store.specs.Inside.{shown_by, AreShown}
 
 pub none_at : (k : ℕ) → get_or {A = List (List Value)} ([] ∷ [] ∷ [] ∷ []) k [] ≡ []
 none_at zero = refl
@@ -68,3 +70,31 @@ is_view image number h = record { count = count; wide = wide }
         by_place (inl past) (inr within) =
             let at : 3 + (table - 3) ≡ table = omega arith in
             subst (AreWide (width_of table)) (sym (shown_recorded image number table h past within)) (subst (λ (t : ℕ). AreWide (width_of t) (get_or image.tables (table - 3) [])) at (h.wide (table - 3)))
+
+pub set_shown : (live : List (List Live)) (tables : List (List (List Value))) (table : ℕ) (rows : List (List Value)) → length live ≡ 3 → 3 ≤ table → shown_by live (set tables (table - 3) rows) ≡ set (shown_by live tables) table rows
+set_shown live tables table rows three past =
+    let shown : List (List (List Value)) = map (map (λ (event : Live). event.row)) live in
+    sym (set-append_right shown tables 3 table rows (length-map live (map (λ (event : Live). event.row)) ∙ three) past)
+
+view_set : (view : List (List (List Value))) (table : ℕ) (rows : List (List Value)) → table < 15 → IsView view → AreWide (width_of table) rows → IsView (set view table rows)
+view_set view table rows within h wide = record {
+  count = length-set view table rows ∙ h.count;
+  wide = λ other. by_table other (cases_eq other table);
+}
+  where
+    by_table : (other : ℕ) → (other ≡ table) ⊎ (other ≢ table) → AreWide (width_of other) (get_or (set view table rows) other [])
+    by_table other (inl same) =
+        let long = h.count in
+        subst (λ (t : ℕ). AreWide (width_of t) (get_or (set view table rows) t [])) (sym same) (subst (AreWide (width_of table)) (sym (get_or-set_same view table rows [] (omega (arith, long, within)))) wide)
+    by_table other (inr apart) = subst (AreWide (width_of other)) (sym (get_or-set_other view table other rows [] apart)) (h.wide other)
+
+pub shown_set : (live : List (List Live)) (tables : List (List (List Value))) (table : ℕ) (rows : List (List Value)) → 3 ≤ table → table < 15 → AreShown live tables → AreWide (width_of table) rows → AreShown live (set tables (table - 3) rows)
+shown_set live tables table rows past within h wide = record {
+  three = h.three;
+  view = subst IsView (sym (set_shown live tables table rows h.three past)) (view_set (shown_by live tables) table rows within h.view wide);
+}
+
+-- what is cut, by events and tables
+pub cut_shown : (number : ℕ) (live : List (List Live)) (tables : List (List (List Value))) → shown_by (map (above number) live) tables ≡ map (rows_above number) live ++ tables
+cut_shown number [] tables = refl
+cut_shown number (events ∷ live) tables = ap (λ (rest : List (List (List Value))). rows_above number events ∷ rest) (cut_shown number live tables)

@@ -1,5 +1,5 @@
 -- What an image holds, and what a view of it shows.
-use Rattle.std.specs.Prelude.{◌≡◌, ℕ, ◌+◌, ◌-◌, ◌≤◌, ◌^◌, true, nat_lt, if◌then◌else◌, List, [], ◌∷◌, ◌++◌, length, map, All, slice_index, slice_index_or, unwrap_or}
+use Rattle.std.specs.Prelude.{◌≡◌, ℕ, ◌+◌, ◌-◌, ◌<◌, ◌≤◌, ◌^◌, true, nat_lt, if◌then◌else◌, List, [], ◌∷◌, ◌++◌, length, map, All, slice_index, slice_index_or, unwrap_or}
 use Rattle.osq_value.specs.declared.value.Value.{Value}
 use Rattle.osq_value.specs.Catalogue.{width_of}
 use Rattle.entry_model.specs.declared.restored.Live.{Live}
@@ -68,3 +68,8 @@ cut_above number image = map (rows_above number) image.live ++ (image.tables ++ 
 pub record IsView (view : Shown) : Type 0 where
   pub count : length view ≡ 15
   pub wide : (table : ℕ) → AreWide (width_of table) (slice_index_or view table [])
+
+-- live events are above the floors of their tables, and no floor is beyond the last number
+pub record HasFloors (image : Contents) : Type 0 where
+  pub above : (table : ℕ) → is_evented_table table ≡ true → All (λ (event : Live). floor_at image table < event.number) (live_at image table)
+  pub known : All (λ (floor : ℕ). floor ≤ image.last) image.floors

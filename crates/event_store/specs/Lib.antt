@@ -1,7 +1,13 @@
 pub mod Queues
+pub mod Segments
+pub mod Staging
 pub mod Orders
 pub mod Owed
 pub mod Recorded
+pub mod Parts
+pub mod Shown
 pub mod Contents
+pub mod Costs
+pub mod Inside
 pub mod Changes
 pub mod Laws

@@ -1,18 +1,26 @@
 //! What a query sees.
 
-ghost use Rattle.std.specs.Prelude.{◌≡◌, true, set, IfOk, Ok};
+ghost use Rattle.std.specs.Prelude.{◌≡◌, ◌<◌, [], true, set, slice_get, slice_index_or};
+ghost use Rattle.std.specs.Option.{option_copied};
 ghost use Rattle.osq_value.specs.Catalogue.{width_of, is_computed_id};
-ghost use Rattle.event_store.specs.Contents.{AreWide, rows_in, cut_above, IsView};
+ghost use Rattle.event_store.specs.Contents.{AreWide, rows_in, IsView};
+ghost use Rattle.event_store.specs.Inside.{shown_by, AreShown};
+ghost use Rattle.event_store.specs.Parts.{rows_of};
 
-use crate::queue::EventQueue;
-use osq_value::{Copied, NoMemory, Row, RowList, TableId, Tables};
-use std::alloc::Global;
+use crate::events::Events;
+use crate::parted::PartedRows;
+use crate::recorded::FIRST;
+use crate::shared::SharedRows;
+use crate::shown::ShownRows;
+use osq_value::{Row, TableId, Tables};
 use std::marker::Model;
 
 /// The rows of each table of the catalogue, by the table's number.
 #[derive(Drop)]
 pub struct CutView {
-    tables: Vec<RowList>,
+    events: Events,
+    /// Those of the recorded tables, and then those of the computed ones.
+    tables: Vec<ShownRows>,
 }
 
 impl Model for CutView {
@@ -20,18 +28,32 @@ impl Model for CutView {
 
     ghost Value = { Shown };
 
-    ghost view = { λ v. v.tables.items };
+    ghost use Rattle.event_store.specs.Inside.{shown_by, AreShown};
 
-    ghost invariant = { λ v. IsView v.tables.items };
+    ghost view = { λ v. shown_by v.events.live v.tables.items };
+
+    ghost invariant = { λ v. AreShown v.events.live v.tables.items };
 }
 
 impl CutView {
-    /// The view with these tables, which are moved. It takes no memory.
-    pub(crate) fn of(tables: Vec<RowList>) -> CutView
-        requires { IsView tables.items }
-        ensures { result ≡ tables.items }
+    /// The view of these events and tables, which are moved. It takes no memory.
+    pub(crate) fn of(events: Events, tables: Vec<ShownRows>) -> CutView
+        requires { AreShown events.live tables.items }
+        ensures { result ≡ shown_by events.live tables.items }
     {
-        CutView { tables }
+        CutView { events, tables }
+    }
+
+    /// The row of an event of a table, at this place.
+    fn event_row(&self, table: usize, at: usize) -> Option<&Row>
+        requires { table < 3 }
+        ensures { option_copied result ≡ slice_get (slice_index_or self.now table []) at }
+    {
+        if at < self.events.len(table) {
+            Some(&self.events.event(table, at).row)
+        } else {
+            None
+        }
     }
 
     /// Each row has its table's width, and no table beyond the catalogue has rows.
@@ -41,15 +63,22 @@ impl CutView {
         let _tables = &self.tables;
     }
 
-    /// Gives a computed table these rows, which are moved. It takes no memory.
-    pub fn set_computed(&mut self, table: TableId, rows: RowList) -> Result<(), NoMemory>
+    /// Gives a computed table these rows, which others may share. It takes no memory.
+    pub fn set_computed(&mut self, table: TableId, rows: SharedRows)
         requires computed { is_computed_id table.0 ≡ true }
         requires wide { AreWide (width_of table.0) rows }
-        ensures done { result ≡ Ok tt }
         ensures set { self.new ≡ set self.old table.0 rows }
     {
-        self.tables[table.0 as usize] = rows;
-        Ok(())
+        self.tables[(table.0 - FIRST) as usize] = ShownRows::whole(rows);
+    }
+
+    /// Gives a computed table these rows, of which others may share the parts. It takes no memory.
+    pub fn set_parts(&mut self, table: TableId, rows: PartedRows)
+        requires computed { is_computed_id table.0 ≡ true }
+        requires wide { AreWide (width_of table.0) (rows_of rows) }
+        ensures set { self.new ≡ set self.old table.0 (rows_of rows) }
+    {
+        self.tables[(table.0 - FIRST) as usize] = ShownRows::parted(rows);
     }
 }
 
@@ -60,16 +89,20 @@ impl Tables for CutView {
     ghost rows_of = { rows_in };
 
     fn count(&self, table: TableId) -> usize {
-        if table.0 < 15 {
-            self.tables[table.0 as usize].len()
+        if table.0 < FIRST {
+            self.events.len(table.0 as usize)
+        } else if table.0 < 15 {
+            self.tables[(table.0 - FIRST) as usize].len()
         } else {
             0
         }
     }
 
     fn row(&self, table: TableId, at: usize) -> Option<&Row> {
-        if table.0 < 15 {
-            self.tables[table.0 as usize].get(at)
+        if table.0 < FIRST {
+            self.event_row(table.0 as usize, at)
+        } else if table.0 < 15 {
+            self.tables[(table.0 - FIRST) as usize].get(at)
         } else {
             None
         }

@@ -31,7 +31,7 @@ not_less name h =
     let both : Less ≡ Greater = sym h ∙ (lists_total nat_cmp_total).antisymm name name ∙ ap ordering_reverse h in
     ap (λ (r : Ordering). is_lt r) both
 
-later_name : (q : Scheduled) (qs : List Scheduled) (place : ℕ) (s : Scheduled) → names_rise (q ∷ qs) ≡ true → slice_get qs place ≡ Some s → slice_cmp nat_cmp q.key.name s.key.name ≡ Less
+pub later_name : (q : Scheduled) (qs : List Scheduled) (place : ℕ) (s : Scheduled) → names_rise (q ∷ qs) ≡ true → slice_get qs place ≡ Some s → slice_cmp nat_cmp q.key.name s.key.name ≡ Less
 later_name q [] place s rise at = absurd (cc)
 later_name q (x ∷ xs) zero s rise at =
     let e : x ≡ s = cc in
@@ -41,7 +41,7 @@ later_name q (x ∷ xs) (suc place) s rise at =
     let h = and_true (is_lt (slice_cmp nat_cmp q.key.name x.key.name)) (names_rise (x ∷ xs)) rise in
     (lists_total nat_cmp_total).trans q.key.name x.key.name s.key.name (less_of (slice_cmp nat_cmp q.key.name x.key.name) h.0) (later_name x xs place s h.1 at)
 
-rest_rises : (q : Scheduled) (qs : List Scheduled) → names_rise (q ∷ qs) ≡ true → names_rise qs ≡ true
+pub rest_rises : (q : Scheduled) (qs : List Scheduled) → names_rise (q ∷ qs) ≡ true → names_rise qs ≡ true
 rest_rises q [] rise = refl
 rest_rises q (x ∷ xs) rise =
     (and_true (is_lt (slice_cmp nat_cmp q.key.name x.key.name)) (names_rise (x ∷ xs)) rise).1

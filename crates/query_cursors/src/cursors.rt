@@ -1,6 +1,7 @@
 //! The last batches of queries, and which query comes next.
 
-ghost use Rattle.std.specs.Prelude.{◌≡◌, ◌<◌, ◌≤◌, ◌^◌, All, OnOk, OnErr, IfOk, IfSome, [], false, length, find, max, set, Some, option_copied};
+ghost use Rattle.std.specs.Prelude.{◌≡◌, ◌<◌, ◌≤◌, ◌^◌, All, OnOk, OnErr, IfOk, IfSome, [], false, length, find, max, set, slice_get, unwrap_or, Some, None, option_copied};
+ghost use Rattle.std.specs.Option.{option_map_or};
 ghost use Rattle.pack_rules.specs.Keys.{same_key};
 ghost use Rattle.entry_model.specs.Reserved.{has_run, noted};
 ghost use Rattle.query_cursors.specs.Due.{run_of, first_due, first_free, next_of, cursor_of, number_of};
@@ -94,6 +95,16 @@ fn place_at(places: &mut [Option<usize>], at: usize, place: usize)
     }
 }
 
+/// The number of the run, 0 where there is none.
+fn number_in(run: Option<&Run>) -> u64
+    ensures { result ≡ option_map_or (λ run. run.number) (option_copied run.entry) 0 }
+{
+    match run {
+        None => 0,
+        Some(run) => run.number,
+    }
+}
+
 impl Cursors {
     /// These runs, with no room for more, and no schedule. It takes no memory.
     pub fn restore(alloc: Global, runs: RunList) -> Cursors
@@ -123,14 +134,29 @@ impl Cursors {
         self.places = places;
     }
 
+    /// The places of the runs of the schedule's queries, as they were last found.
+    pub fn places(&self) -> &[Option<usize>]
+        ensures { result.now ≡ self.now.places }
+    {
+        self.places.as_slice()
+    }
+
+    /// The run of the query at this place of a schedule whose queries have their runs at these places. It takes no memory,
+    /// and one step.
+    pub fn run_among(&self, places: &[Option<usize>], at: usize) -> Option<&Run>
+        ensures { option_copied result ≡ run_at self.now.runs (unwrap_or (slice_get places.now at) None) }
+    {
+        match places.get(at) {
+            None => None,
+            Some(place) => run_at(self.reserved.as_slice(), *place),
+        }
+    }
+
     /// The run of the query at this place of the schedule, by its place. It takes no memory, and one step.
     pub fn placed_run(&self, at: usize) -> Option<&Run>
         ensures { option_copied result ≡ placed_run self.now at }
     {
-        match self.places.get(at) {
-            None => None,
-            Some(place) => run_at(self.reserved.as_slice(), *place),
-        }
+        self.run_among(self.places.as_slice(), at)
     }
 
     /// The run of the query; none exactly where it has no batch. It takes no memory.
@@ -154,9 +180,24 @@ impl Cursors {
     pub fn number(&self, key: &QueryKey) -> u64
         ensures { result ≡ number_of self.now.runs key.now }
     {
-        match self.run(key) {
-            None => 0,
-            Some(run) => run.number,
+        number_in(self.run(key))
+    }
+
+    /// The number of the last batch of the query that has this key, 0 where it has none: by its place where it stands at this
+    /// one of these queries, and else by a look at each run. It takes no memory.
+    pub fn number_at(&self, queries: &[Scheduled], at: usize, key: &QueryKey) -> u64
+        requires { self.now.places ≡ places_of self.now.runs queries.now }
+        ensures { result ≡ number_of self.now.runs key.now }
+    {
+        match queries.get(at) {
+            None => self.number(key),
+            Some(scheduled) => {
+                if scheduled.key.is(key) {
+                    number_in(self.placed_run(at))
+                } else {
+                    self.number(key)
+                }
+            }
         }
     }
 

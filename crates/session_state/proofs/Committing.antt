@@ -1,15 +1,22 @@
 -- A batch of a cut that nothing outdates may be committed, and the state keeps what is known of it.
-use Rattle.std.proofs.Common.{◌≡◌, ℕ, suc, ◌+◌, ◌-◌, ◌<◌, ◌≤◌, ◌^◌, Bool, true, false, cond, List, [], ◌∷◌, ◌++◌, length, set, Option, Some, None, refl, sym, ap, ◌∙◌, subst, arith, append_assoc, length-append}
+use Rattle.std.proofs.Common.{◌≡◌, ℕ, suc, ◌+◌, ◌-◌, ◌<◌, ◌≤◌, ◌/◌, ◌^◌, Bool, true, false, cond, List, [], ◌∷◌, ◌++◌, length, set, Option, Some, None, refl, sym, ap, ◌∙◌, subst, arith, append_assoc, length-append}
 use Rattle.std.specs.Prelude.{All, find, is_some, not, nat_le, nat_lt, ◌==◌, if◌then◌else◌}
 use Rattle.std.specs.List.{list_any}
 use Rattle.std.proofs.lemmas.Bool.Decides.{nat_tests}
 use Rattle.std.proofs.lemmas.List.Elements.{All-contains}
 use Rattle.osq_value.specs.declared.value.Value.{Value}
-use Rattle.sql_texts.specs.Meaning.{meaning}
+use Rattle.sql_texts.specs.Meaning.{meaning, is_accepted, names_of}
+use Rattle.sql_laws.proofs.Wide.{are_wide}
+use Rattle.entry_model.specs.declared.entry.Batch.{Batch}
+use Rattle.session_state.specs.Sealing.{IsSendable}
+use Rattle.session_state.specs.Computed.{schedule_shown}
+use Rattle.session_state.specs.Listed.{RowsAndStale, AreFresh}
+use Rattle.session_state.proofs.Listing.{fresh_after, rows_kept}
+use Rattle.std.proofs.lemmas.List.{length-map}
 use Rattle.pack_rules.specs.declared.schedule.QueryKey.{QueryKey}
 use Rattle.pack_rules.specs.Keys.{same_key}
 use Rattle.entry_model.specs.declared.entry.Entry.{Entry}
-use Rattle.entry_model.specs.declared.entry.Entry.TheVariants.{Opened, Configured, Ticked}
+use Rattle.entry_model.specs.declared.entry.Entry.TheVariants.{Opened, Configured, Ticked, Committed}
 use Rattle.entry_model.specs.declared.restored.Restored.{Restored}
 use Rattle.entry_model.specs.declared.restored.Run.{Run}
 use Rattle.entry_model.specs.Values.{last_of, tick_in, has_ticked, last_number, moment_of, commits, batches_of, number_of}
@@ -197,6 +204,24 @@ pub record IsReady (s : Kept) (cut : CutValue) : Type 0 where
   pub is : IsState s
   pub of : IsCutOf s cut
   pub free : IsFree s cut
+
+-- the batch can be sent
+pub sendable : (s : Kept) (cut : CutValue) → IsReady s cut → (number : ℕ) (rows : List (List Value)) → rows ≡ meaning cut.key.text (rows_in cut.view) → (batch : Batch) → Committed (batch_of cut number rows) ≡ Committed batch → IsSendable batch
+sendable s cut r number rows answer batch e =
+    let current = r.of.current r.free.unmarked in
+    let same : batch_of cut number rows ≡ batch = cc in
+    let runnable = All-contains IsRunnable s.schedule.queries current.scheduled r.is.schedule.runnable (contains_at s.schedule.queries cut.place current.scheduled current.stands) in
+    subst IsSendable same (record {
+      accepted = ap (λ (key : QueryKey). is_accepted key.text) (sym current.key) ∙ runnable.accepted;
+      wide = subst (All (λ (row : List Value). length row ≡ length (names_of cut.key.text))) (sym answer) (are_wide cut.key.text (rows_in cut.view));
+      calendar = (let now = current.now in let past = r.is.moment in omega (arith, now, past));
+    })
+
+-- the rows of the schedule's table but for the part of the batch's query are right after it
+pub listed_after : (s : Kept) (cut : CutValue) → IsReady s cut → (number : ℕ) (listed : RowsAndStale) → AreFresh (schedule_shown s.counts.runs s.schedule.queries) listed → AreFresh (schedule_shown (with_batch s.counts.runs cut.key number cut.hi cut.moment) s.schedule.queries) (record listed { stale = set listed.stale (cut.place / 64) true })
+listed_after s cut r number listed fresh =
+    let current = r.of.current r.free.unmarked in
+    fresh_after (schedule_shown s.counts.runs s.schedule.queries) (schedule_shown (with_batch s.counts.runs cut.key number cut.hi cut.moment) s.schedule.queries) listed cut.place (length-map s.schedule.queries _ ∙ sym (length-map s.schedule.queries _)) (rows_kept cut.key number cut.hi cut.moment s.counts.runs s.schedule.queries cut.place current.scheduled r.is.schedule.order current.stands current.key) fresh
 
 pub ready : (s t : Kept) → s ≡ t → (cut given : CutValue) → cut ≡ given → IsState s → IsCutOf t given → commit_refusal t given ≡ None → IsReady s cut
 ready s t same cut given is_given is of free = record {

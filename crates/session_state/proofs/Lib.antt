@@ -5,6 +5,7 @@ pub mod Expiring
 pub mod Counted
 pub mod Shown
 pub mod Rooms
+pub mod Listing
 pub mod Reserving
 pub mod Known
 pub mod Cutting

@@ -1,6 +1,8 @@
 -- What contracts see of a state's fields.
 use Rattle.session_state.specs.declared.state.State.TheInside.{Inside}
-use Rattle.session_state.specs.Kept.{Kept}
+use Rattle.session_state.specs.Kept.{Kept, IsState}
+use Rattle.session_state.specs.Computed.{schedule_shown}
+use Rattle.session_state.specs.Listed.{AreFresh}
 
 abbrev pub kept : Inside → Kept
 kept s =
@@ -16,3 +18,8 @@ kept s =
       tail = s.tail.entries;
       tail_room = s.tail.room;
     }
+
+-- what is known of the fields
+pub record IsWhole (s : Inside) : Type 0 where
+  pub state : IsState (kept s)
+  pub listed : AreFresh (schedule_shown s.cursors.runs s.schedule.queries) s.listed

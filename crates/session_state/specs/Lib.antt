@@ -13,3 +13,5 @@ pub mod Cutting
 pub mod Commits
 pub mod Laws
 pub mod Inside
+pub mod Listed
+pub mod Sealing

@@ -1,6 +1,6 @@
 //! The rows of the tables that the program knows itself.
 
-ghost use Rattle.std.specs.Prelude.{◌≡◌, ◌≤◌, ◌<◌, ◌^◌, All, IfOk, IfSome, length, option_copied, true};
+ghost use Rattle.std.specs.Prelude.{◌≡◌, ◌≤◌, ◌<◌, ◌^◌, All, IfOk, IfSome, drop, length, option_copied, take, true};
 ghost use Rattle.osq_value.specs.declared.moment.TheConstants.{LAST_MOMENT};
 ghost use Rattle.osq_value.specs.Catalogue.{width_of, table_name};
 ghost use Rattle.pack_rules.specs.Sound.{IsRunnable};
@@ -49,20 +49,26 @@ fn query_row(alloc: Global, scheduled: &Scheduled, run: Option<&Run>) -> Result<
     Ok(row)
 }
 
-/// The rows of the table `osquery_schedule`.
-pub(crate) fn schedule_rows(
+/// The rows of the table `osquery_schedule` from a place up to another, with the queries' runs at these places.
+pub(crate) fn rows_between(
     alloc: Global,
     queries: &[Scheduled],
     cursors: &Cursors,
+    places: &[Option<usize>],
+    from: usize,
+    to: usize,
 ) -> Result<RowList, NoMemory>
     requires runnable { All IsRunnable queries.now }
     requires runs { All (IsRun (2 ^ 62)) cursors.now.runs }
-    requires places { cursors.now.places ≡ places_of cursors.now.runs queries.now }
-    ensures { IfOk result (λ rows. rows ≡ schedule_shown cursors.now.runs queries.now) }
+    requires places { places.now ≡ places_of cursors.now.runs queries.now }
+    requires within { (from ≤ to) × (to ≤ length queries.now) }
+    ensures { IfOk result (λ rows. rows ≡ drop from (take to (schedule_shown cursors.now.runs queries.now))) }
 {
-    let mut rows = RowList::with_capacity(alloc, queries.len())?;
-    for at in 0..queries.len() {
-        rows.push(query_row(alloc, &queries[at], cursors.placed_run(at))?)?;
+    let mut rows = RowList::with_capacity(alloc, to - from)?;
+    for at in from..to {
+        let run = cursors.run_among(places, at);
+        let row = query_row(alloc, &queries[at], run)?;
+        rows.push(row.shared(alloc)?)?;
     }
     Ok(rows)
 }

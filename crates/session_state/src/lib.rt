@@ -4,6 +4,7 @@
 mod computed;
 pub mod cut;
 pub mod laws;
+mod listed;
 mod readings;
 pub mod state;
 pub mod tail;

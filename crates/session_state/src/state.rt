@@ -1,6 +1,6 @@
 //! The state of a session.
 
-ghost use Rattle.std.specs.Prelude.{◌≡◌, ℕ, ◌+◌, ◌<◌, ◌≤◌, ◌^◌, ◌↔◌, ◌⊎◌, All, max, IsTrue, IfOk, IfErr, IfSome, OnOk, OnErr, MatchBool, Some, None, Ok, Err, List, [], length, replicate, set, slice_get, option_map, option_copied, find, get_or, nat_le, ◌-◌, true, false};
+ghost use Rattle.std.specs.Prelude.{◌≡◌, ℕ, ◌+◌, ◌<◌, ◌≤◌, ◌^◌, ◌↔◌, ◌⊎◌, All, max, IsTrue, IfOk, IfErr, IfSome, OnOk, OnErr, MatchBool, MatchOption, Some, None, Ok, Err, List, [], length, replicate, set, slice_get, option_map, option_copied, find, get_or, nat_le, ◌-◌, true, false};
 ghost use Rattle.entry_model.specs.declared.entry.Entry.{Entry};
 ghost use Rattle.entry_model.specs.declared.restored.Restored.{Restored};
 ghost use Rattle.entry_model.specs.Fits.{Fits};
@@ -8,7 +8,8 @@ ghost use Rattle.pack_rules.specs.Sound.{IsSound};
 ghost use Rattle.entry_model.specs.declared.entry.Entry.TheVariants.{Acked, Ticked, Configured, Appended, TableSet};
 ghost use Rattle.entry_model.specs.Legal.{IsEvent, width_of};
 ghost use Rattle.entry_model.specs.Next.{offset_at};
-ghost use Rattle.event_store.specs.Contents.{AreWide};
+ghost use Rattle.event_store.specs.Contents.{AreWide, floor_at};
+ghost use Rattle.event_store.specs.Costs.{slice_cost};
 ghost use Rattle.session_state.specs.Kept.{due_count, IsState};
 ghost use Rattle.session_state.specs.StateOf.{Adds, Begins, IsStateOf};
 ghost use Rattle.entry_model.specs.Views.{is_evented_table, is_recorded_table};
@@ -22,6 +23,7 @@ ghost use Rattle.session_state.specs.CutOf.{mark_from, IsCutOf};
 ghost use Rattle.session_state.specs.Marks.{IsRising};
 ghost use Rattle.session_state.specs.Cutting.{next_place, lower_from, cut_of, next_cut, claimed_at, released, CutStands};
 ghost use Rattle.session_state.specs.Expiries.{expiry_of, expiries, AddsAll, AddsSome};
+ghost use Rattle.session_state.specs.Sealing.{IsSealable};
 ghost use Rattle.session_state.specs.Readings.{IsReading, entry_of, taken_of, event_count, refusal_to};
 ghost use Rattle.session_state.specs.declared.state.TickRefusal.{TickRefusal};
 ghost use Rattle.session_state.specs.declared.state.AppendError.{AppendError};
@@ -30,18 +32,20 @@ ghost use Rattle.session_state.specs.Commits.{Commits, commit_refusal};
 ghost use Rattle.sql_texts.specs.Meaning.{meaning};
 ghost use Rattle.event_store.specs.Contents.{rows_in};
 
-use crate::computed::{event_rows, schedule_rows, time_rows};
+use crate::computed::{event_rows, time_rows};
 use crate::cut::Cut;
+use crate::listed::Listed;
 use crate::readings::{offset_of, offsets_with, refusal};
 use crate::tail::Tail;
 use entry_model::entry::{Batch, Entry, EntryList};
 use entry_model::restored::{Restored, Run, TakenList};
-use event_store::{CutView, Image};
+use event_store::{CutView, Image, SharedRows, Steps};
 use osq_value::{Copied, EventList, NoMemory, Reading, RowList, Sequence, Str, TableId, TextList};
 use pack_rules::schedule::{Form, Mode, Schedule};
 use query_cursors::Cursors;
 use std::alloc::Global;
-use std::marker::Model;
+use std::marker::{Brand, Model};
+use std::sync::ledger::{Blank, Ledger};
 
 /// How many entries and sessions a kept list has at most.
 const MOST: u64 = (1 << 63) - 1;
@@ -98,6 +102,8 @@ pub struct State {
     /// The places of the session's Configured and Ticked entries.
     marks: Vec<u64>,
     claims: Vec<bool>,
+    /// The rows of `osquery_schedule`, which cuts share.
+    listed: Listed,
     tail: Tail,
 }
 
@@ -110,7 +116,9 @@ impl Model for State {
 
     ghost view = { kept };
 
-    ghost invariant = { λ s. IsState (kept s) };
+    ghost use Rattle.session_state.specs.Inside.{IsWhole};
+
+    ghost invariant = { IsWhole };
 }
 
 /// Makes room for so many commits, whichever queries they are of.
@@ -244,6 +252,7 @@ impl State {
             ticked: false,
             marks: Vec::new(alloc),
             claims: Vec::new(alloc),
+            listed: Listed::none(alloc),
             tail,
         })
     }
@@ -295,6 +304,7 @@ impl State {
     pub fn acknowledge(&mut self, upto: u64) -> Result<bool, NoMemory>
         ensures answer { IfOk result (λ done. IsTrue done ↔ (self.old.counts.acked < upto) × (upto ≤ self.old.counts.batches)) }
         ensures added { IfOk result (λ done. MatchBool done (Adds self.old (Acked upto) self.new) (self.new ≡ self.old)) }
+        ensures claims { self.new.claims ≡ self.old.claims }
         ensures err { OnErr result (self.new ≡ self.old) }
     {
         if upto <= self.acked || self.batches < upto {
@@ -312,7 +322,8 @@ impl State {
     /// Up to which number the events of an evented table are to expire at the present tick.
     fn owed(&self, table: TableId) -> Option<u64>
         requires { is_evented_table table.0 ≡ true }
-        ensures { result ≡ owed_at self.now table.0 }
+        ensures owed { result ≡ owed_at self.now table.0 }
+        ensures moves { IfSome result (λ floor. (floor_at self.now.image table.0 < floor) × (floor ≤ self.now.image.last)) }
     {
         if !self.ticked {
             return None;
@@ -419,7 +430,9 @@ impl State {
         let moment = moment.max(self.moment);
         let kept = schedule.copy(alloc)?;
         let claims = unclaimed(alloc, kept.queries.len())?;
-        let places = self.cursors.find_places(alloc, kept.queries.as_slice())?;
+        let queries_now = kept.queries.as_slice();
+        let places = self.cursors.find_places(alloc, queries_now)?;
+        let listed = Listed::of(alloc, queries_now, &self.cursors, places.as_slice())?;
         self.marks.reserve(1)?;
         self.tail.push(Entry::Configured {
             document,
@@ -432,6 +445,7 @@ impl State {
         };
         self.marks.push_reserved(self.position);
         self.claims = claims;
+        self.listed = listed;
         self.cursors.set_places(places);
         self.schedule = kept;
         self.position += 1;
@@ -442,6 +456,7 @@ impl State {
     /// Takes the entries off that were added since the last time, to be sealed. The state stands for the same list.
     pub fn take_tail(&mut self, alloc: Global) -> Result<EntryList, NoMemory>
         ensures taken { IfOk result (λ taken. taken ≡ self.old.tail) }
+        ensures sealable { IfOk result (All IsSealable) }
         ensures ok { OnOk result (self.new ≡ record self.old { tail = [] }) }
         ensures cuts { (cut : CutValue) → IsCutOf self.old cut → IsCutOf self.new cut }
         ensures err { OnErr result (self.new ≡ self.old) }
@@ -451,13 +466,17 @@ impl State {
 
     /// Adds a reading of the source, all of it or nothing, and answers the last number before and after.
     /// Backwards with the source's offset where the reading ends no further than that; NumbersSpent where the last number would pass 2^62.
-    pub fn append(
+    /// Each event is a step.
+    pub fn append<L: Ledger>(
         &mut self,
         alloc: Global,
         source: &Str,
         reading: Reading,
+        steps: &mut Steps<L>,
     ) -> Result<(u64, u64), AppendError>
         requires { IsReading reading }
+        ensures all { OnOk result (steps.new ≡ steps.old + event_count reading) }
+        ensures most { steps.new ≤ steps.old + event_count reading }
         ensures added { OnOk result (Adds self.old (entry_of source.now self.old.counts.moment reading) self.new) }
         ensures numbers { IfOk result (λ numbers. numbers ≡ (self.old.image.last, self.new.image.last)) }
         ensures claims { self.new.claims ≡ self.old.claims }
@@ -469,7 +488,7 @@ impl State {
         if let Some(refusal) = self.refuses(source, &reading) {
             return Err(refusal);
         }
-        match self.add_reading(alloc, source, reading) {
+        match self.add_reading(alloc, source, reading, steps) {
             Ok(numbers) => Ok(numbers),
             Err(NoMemory) => Err(AppendError::NoMemory),
         }
@@ -496,14 +515,17 @@ impl State {
     }
 
     /// Adds a reading that may be added.
-    fn add_reading(
+    fn add_reading<L: Ledger>(
         &mut self,
         alloc: Global,
         source: &Str,
         reading: Reading,
+        steps: &mut Steps<L>,
     ) -> Result<(u64, u64), NoMemory>
         requires reading { IsReading reading }
         requires free { refusal_to (offset_at self.old.counts.taken source.now) self.old.image.last reading ≡ None }
+        ensures all { OnOk result (steps.new ≡ steps.old + event_count reading) }
+        ensures most { steps.new ≤ steps.old + event_count reading }
         ensures added { OnOk result (Adds self.old (entry_of source.now self.old.counts.moment reading) self.new) }
         ensures numbers { IfOk result (λ numbers. numbers ≡ (self.old.image.last, self.new.image.last)) }
         ensures claims { self.new.claims ≡ self.old.claims }
@@ -514,24 +536,27 @@ impl State {
                 taken,
                 events,
                 skipped,
-            } => self.add_events(alloc, source, taken, events, skipped),
+            } => self.add_events(alloc, source, taken, events, skipped, steps),
             Reading::Table { taken, table, rows } => {
                 self.add_table(alloc, source, taken, table, rows)
             }
         }
     }
 
-    fn add_events(
+    fn add_events<L: Ledger>(
         &mut self,
         alloc: Global,
         source: &Str,
         taken: u64,
         events: EventList,
         skipped: u64,
+        steps: &mut Steps<L>,
     ) -> Result<(u64, u64), NoMemory>
         requires events { All IsEvent events }
         requires forwards { offset_at self.old.counts.taken source.now < taken }
         requires numbers { self.old.image.last + length events ≤ 2 ^ 62 }
+        ensures all { OnOk result (steps.new ≡ steps.old + length events) }
+        ensures most { steps.new ≤ steps.old + length events }
         ensures added { OnOk result (Adds self.old (Appended source.now taken events skipped self.old.counts.moment) self.new) }
         ensures numbers { IfOk result (λ numbers. numbers ≡ (self.old.image.last, self.new.image.last)) }
         ensures claims { self.new.claims ≡ self.old.claims }
@@ -549,7 +574,7 @@ impl State {
             skipped,
             moment: self.moment,
         })?;
-        let Ok(numbers) = self.image.append(stored, self.moment) else {
+        let Ok(numbers) = self.image.append(stored, self.moment, steps) else {
             self.tail.pop();
             return Err(NoMemory);
         };
@@ -586,7 +611,10 @@ impl State {
             rows,
             taken,
         })?;
-        self.image.set_table(table, stored)?;
+        let Ok(()) = self.image.set_table(alloc, table, stored) else {
+            self.tail.pop();
+            return Err(NoMemory);
+        };
         self.image.is_image();
         self.taken = offsets;
         self.position += 1;
@@ -642,19 +670,51 @@ impl State {
     }
 
     /// What a query sees at this moment: of the events those above this number, and all other tables.
+    fn view_counted<L: Ledger>(
+        &self,
+        alloc: Global,
+        above: u64,
+        moment: u64,
+        steps: &mut Steps<L>,
+    ) -> Result<CutView, NoMemory>
+        requires { moment ≤ LAST_MOMENT }
+        ensures view { IfOk result (λ view. view ≡ shown_by self.now above moment) }
+        ensures cost { steps.new ≤ steps.old + slice_cost above self.now.image }
+    {
+        let mut view = self.image.slice(alloc, above, steps)?;
+        let time = SharedRows::of(alloc, time_rows(alloc, moment)?)?;
+        view.set_computed(TableId::TIME, time);
+        let queries = self.schedule.queries.as_slice();
+        let schedule = self.listed.shown(alloc, queries, &self.cursors)?;
+        view.set_parts(TableId::OSQUERY_SCHEDULE, schedule);
+        let events = SharedRows::of(alloc, event_rows(alloc, &self.image)?)?;
+        view.set_computed(TableId::OSQUERY_EVENTS, events);
+        Ok(view)
+    }
+
+    /// What a query sees at this moment, with steps that nobody counts.
+    fn view_of<L: Ledger>(
+        &self,
+        alloc: Global,
+        above: u64,
+        moment: u64,
+        blank: Blank,
+    ) -> Result<CutView, NoMemory>
+        requires calendar { moment ≤ LAST_MOMENT }
+        requires name { blank.name ≡ L.name }
+        requires parts { blank.parts ≡ L.parts }
+        requires some { 0 < blank.parts }
+        ensures { IfOk result (λ view. view ≡ shown_by self.now above moment) }
+    {
+        self.view_counted(alloc, above, moment, &mut Steps::<L>::new(blank))
+    }
+
+    /// What a query sees at this moment: of the events those above this number, and all other tables.
     pub fn view_above(&self, alloc: Global, above: u64, moment: u64) -> Result<CutView, NoMemory>
         requires { moment ≤ LAST_MOMENT }
         ensures { IfOk result (λ view. view ≡ shown_by self.now above moment) }
     {
-        let mut view = self.image.slice(alloc, above)?;
-        view.set_computed(TableId::TIME, time_rows(alloc, moment)?)?;
-        let queries = self.schedule.queries.as_slice();
-        view.set_computed(
-            TableId::OSQUERY_SCHEDULE,
-            schedule_rows(alloc, queries, &self.cursors)?,
-        )?;
-        view.set_computed(TableId::OSQUERY_EVENTS, event_rows(alloc, &self.image)?)?;
-        Ok(view)
+        self.view_of::<Brand>(alloc, above, moment, Blank::new(1))
     }
 
     /// What a query sees at this moment where no event is new to it.
@@ -678,9 +738,15 @@ impl State {
     }
 
     /// The cut of the query at this place of the schedule.
-    fn cut_of(&self, alloc: Global, place: u32) -> Result<Cut, NoMemory>
+    fn cut_of<L: Ledger>(
+        &self,
+        alloc: Global,
+        place: u32,
+        steps: &mut Steps<L>,
+    ) -> Result<Cut, NoMemory>
         requires { place < length self.now.schedule.queries }
-        ensures { IfOk result (λ cut. Some cut ≡ option_map (cut_of self.now place) (slice_get self.now.schedule.queries place)) }
+        ensures cut { IfOk result (λ cut. Some cut ≡ option_map (cut_of self.now place) (slice_get self.now.schedule.queries place)) }
+        ensures cost { IfSome (option_map (cut_of self.now place) (slice_get self.now.schedule.queries place)) (λ cut. steps.new ≤ steps.old + slice_cost cut.lo self.now.image) }
     {
         let key = &self.schedule.queries.as_slice()[place as usize].key;
         let (last, end) = number_and_end(self.cursors.placed_run(place as usize));
@@ -694,13 +760,26 @@ impl State {
             position: self.position,
             moment: self.moment,
             last,
-            view: self.view_above(alloc, lo, self.moment)?,
+            view: self.view_counted(alloc, lo, self.moment, steps)?,
         })
     }
 
+    /// Makes the rows of `osquery_schedule` anew that commits have made stale, so that cuts share all of them.
+    fn renew_listed(&mut self, alloc: Global) -> Result<(), NoMemory>
+        ensures { self.new ≡ self.old }
+    {
+        let queries = self.schedule.queries.as_slice();
+        self.listed.renew(alloc, queries, &self.cursors)
+    }
+
     /// Claims the first due query that is not claimed, or where each one is the first due one, and gives its cut: what it
-    /// sees now. No entry is added.
-    pub fn claim_cut(&mut self, alloc: Global) -> Result<Option<Cut>, NoMemory>
+    /// sees now. No entry is added. Each part that is shared and each event that is copied is a step.
+    pub fn claim_cut<L: Ledger>(
+        &mut self,
+        alloc: Global,
+        steps: &mut Steps<L>,
+    ) -> Result<Option<Cut>, NoMemory>
+        ensures cost { MatchOption (next_cut self.old) (steps.new ≡ steps.old) (λ cut. steps.new ≤ steps.old + slice_cost cut.lo self.old.image) }
         ensures cut { IfOk result (λ given. given ≡ next_cut self.old) }
         ensures none { (result ≡ Ok None) ↔ (first_due self.old ≡ None) }
         ensures claimed { OnOk result (self.new ≡ claimed_at self.old (next_place self.old)) }
@@ -709,10 +788,14 @@ impl State {
         ensures cuts { (cut : CutValue) → IsCutOf self.old cut → IsCutOf self.new cut }
         ensures err { OnErr result (self.new ≡ self.old) }
     {
+        self.is_state();
         let Some(place) = self.next() else {
             return Ok(None);
         };
-        let Ok(cut) = self.cut_of(alloc, place) else {
+        if self.renew_listed(alloc).is_err() {
+            return Err(NoMemory);
+        }
+        let Ok(cut) = self.cut_of(alloc, place, steps) else {
             return Err(NoMemory);
         };
         self.claims[place as usize] = true;
@@ -752,7 +835,10 @@ impl State {
         ensures refused { (refusal : CommitRefusal) → (result ≡ Err refusal) ↔ (commit_refusal self.old cut ≡ Some refusal) }
         ensures err { OnErr result (self.new ≡ self.old) }
     {
-        let number = self.cursors.number(cut.key());
+        let queries = self.schedule.queries.as_slice();
+        let number = self
+            .cursors
+            .number_at(queries, cut.place() as usize, cut.key());
         if number != cut.last() {
             return Err(CommitRefusal::Superseded { number, cut });
         }
@@ -787,6 +873,7 @@ impl State {
             view: _,
         } = cut;
         self.cursors.record_commit(place, spare, number, hi, moment);
+        self.listed.outdate(place);
         unclaim(self.claims.as_mut_slice(), place);
         self.tail.put(Entry::Committed {
             batch: Batch {

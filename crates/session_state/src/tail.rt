@@ -1,6 +1,7 @@
 //! Entries that are not sealed yet, with room for more, so that what is promised room needs no memory.
 
-ghost use Rattle.std.specs.Prelude.{◌≡◌, ◌+◌, ◌-◌, ◌<◌, ◌≤◌, [], ◌∷◌, ◌++◌, length, take, OnOk, OnErr, IfOk, max};
+ghost use Rattle.std.specs.Prelude.{◌≡◌, ◌+◌, ◌-◌, ◌<◌, ◌≤◌, [], ◌∷◌, ◌++◌, All, length, take, OnOk, OnErr, IfOk, max};
+ghost use Rattle.session_state.specs.Sealing.{IsSealable};
 
 use entry_model::entry::{Entry, EntryList};
 use osq_value::{NoMemory, Sequence};
@@ -12,6 +13,7 @@ use std::marker::Model;
 pub struct Tail {
     entries: Vec<Entry>,
     room: u64,
+    ghost sealable: { All IsSealable entries.items },
 }
 
 impl Model for Tail {
@@ -78,6 +80,7 @@ impl Tail {
 
     /// Adds an entry beside the room. A refused entry is dropped.
     pub fn push(&mut self, entry: Entry) -> Result<(), NoMemory>
+        requires { IsSealable entry }
         ensures ok { OnOk result (self.new ≡ record self.old { entries = self.old.entries ++ entry ∷ [] }) }
         ensures err { OnErr result (self.new ≡ self.old) }
     {
@@ -88,7 +91,8 @@ impl Tail {
 
     /// Puts an entry where there is room for it. It takes no memory.
     pub fn put(&mut self, entry: Entry)
-        requires { 0 < self.old.room }
+        requires room { 0 < self.old.room }
+        requires sealable { IsSealable entry }
         ensures entries { self.new.entries ≡ self.old.entries ++ entry ∷ [] }
         ensures room { self.new.room + 1 ≡ self.old.room }
     {
@@ -99,6 +103,7 @@ impl Tail {
     /// Takes the entries off. The room stays.
     pub fn take(&mut self, alloc: Global) -> Result<EntryList, NoMemory>
         ensures taken { IfOk result (λ taken. taken ≡ self.old.entries) }
+        ensures sealable { IfOk result (All IsSealable) }
         ensures ok { OnOk result (self.new ≡ record self.old { entries = [] }) }
         ensures err { OnErr result (self.new ≡ self.old) }
     {

@@ -1,5 +1,5 @@
 -- What each call answers at the state of its turn, what the state is then, and what is noted.
-use Rattle.std.specs.Prelude.{◌≡◌, ℕ, ◌+◌, ◌<◌, ◌≤◌, ◌^◌, ◌↔◌, ◌⊎◌, Bool, IsTrue, List, [], ◌∷◌, length, map, max, replicate, set, IfOk, IfErr, OnOk, OnErr, MatchBool, Option, Some, None, Result, Ok, Err, false}
+use Rattle.std.specs.Prelude.{◌≡◌, ℕ, ◌+◌, ◌<◌, ◌≤◌, ◌^◌, ◌↔◌, ◌⊎◌, Bool, IsTrue, List, [], ◌∷◌, All, length, map, max, replicate, set, IfOk, IfErr, OnOk, OnErr, MatchBool, MatchOption, Option, Some, None, Result, Ok, Err, false}
 use Rattle.osq_value.specs.declared.memory.NoMemory.{NoMemory}
 use Rattle.osq_value.specs.declared.reading.Reading.{Reading}
 use Rattle.osq_value.specs.declared.value.Value.{Value}
@@ -8,6 +8,7 @@ use Rattle.entry_model.specs.declared.entry.Entry.{Entry}
 use Rattle.entry_model.specs.declared.entry.Entry.TheVariants.{Acked, Ticked, Configured}
 use Rattle.entry_model.specs.Next.{offset_at}
 use Rattle.event_store.specs.Contents.{Shown}
+use Rattle.event_store.specs.Costs.{slice_cost}
 use Rattle.session_state.specs.declared.state.TickRefusal.{TickRefusal}
 use Rattle.session_state.specs.declared.state.TickRefusal.TheVariants as tick
 use Rattle.session_state.specs.declared.state.AppendError.{AppendError}
@@ -21,6 +22,7 @@ use Rattle.session_state.specs.Readings.{entry_of, taken_of, event_count}
 use Rattle.session_state.specs.Expiries.{expiries, AddsAll}
 use Rattle.session_state.specs.Computed.{shown_by}
 use Rattle.session_state.specs.Cutting.{next_cut, next_place, claimed_at, released}
+use Rattle.session_state.specs.Sealing.{IsSealable}
 use Rattle.session_state.specs.Commits.{Commits, committed, commit_refusal}
 use Rattle.shared_store.specs.declared.noted.Noted.{Noted}
 use Rattle.shared_store.specs.declared.noted.Noted.TheVariants.{Added, Taken, Given}
@@ -58,11 +60,13 @@ abbrev pub Notes : Option CutValue → List Noted → Type 0
 Notes None notes = notes ≡ []
 Notes (Some cut) notes = notes ≡ Given cut ∷ []
 
-pub record Cuts (result : Result (Option CutValue) NoMemory) (was now : Kept) (notes : List Noted) : Type 0 where
+-- with so many steps before and after it
+pub record Cuts (before after : ℕ) (result : Result (Option CutValue) NoMemory) (was now : Kept) (notes : List Noted) : Type 0 where
   pub cut : IfOk result (λ given. given ≡ next_cut was)
   pub none : (result ≡ Ok None) ↔ (first_due was ≡ None)
   pub noted : IfOk result (λ given. Notes given notes)
   pub claimed : OnOk result (now ≡ claimed_at was (next_place was))
+  pub cost : MatchOption (next_cut was) (after ≡ before) (λ cut. after ≤ before + slice_cost cut.lo was.image)
   pub err : OnErr result (IsSame was now notes)
 
 pub record CommitsAt (cut : CutValue) (rows : List (List Value)) (result : Result ℕ CommitRefusal) (was now : Kept) (notes : List Noted) : Type 0 where
@@ -84,10 +88,12 @@ pub record Expires (result : Result ℕ NoMemory) (was now : Kept) (notes : List
 pub record Acknowledges (upto : ℕ) (result : Result Bool NoMemory) (was now : Kept) (notes : List Noted) : Type 0 where
   pub answer : IfOk result (λ done. IsTrue done ↔ (was.counts.acked < upto) × (upto ≤ was.counts.batches))
   pub added : IfOk result (λ done. MatchBool done (AddsNoted was (Acked upto) now notes) (IsSame was now notes))
+  pub claims : now.claims ≡ was.claims
   pub err : OnErr result (IsSame was now notes)
 
 pub record Takes (result : Result (List Entry) NoMemory) (was now : Kept) (notes : List Noted) : Type 0 where
   pub taken : IfOk result (λ taken. taken ≡ was.tail)
+  pub sealable : IfOk result (All IsSealable)
   pub marked : OnOk result ((now ≡ record was { tail = [] }) × (notes ≡ Taken ∷ []))
   pub err : OnErr result (IsSame was now notes)
 

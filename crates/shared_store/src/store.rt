@@ -12,7 +12,7 @@ ghost use Rattle.sql_texts.specs.Meaning.{meaning};
 ghost use Rattle.entry_model.specs.Fits.{Fits};
 ghost use Rattle.pack_rules.specs.Sound.{IsSound};
 ghost use Rattle.event_store.specs.Contents.{rows_in};
-ghost use Rattle.session_state.specs.Readings.{IsReading};
+ghost use Rattle.session_state.specs.Readings.{IsReading, event_count};
 ghost use Rattle.turn_lock.specs.Turns.{Grows, stamp};
 ghost use Rattle.shared_store.specs.Notes.{WasGiven, grown};
 ghost use Rattle.shared_store.specs.Shares.{StandsFor, IsNoOlder};
@@ -22,13 +22,14 @@ use crate::noted::{Gave, Grown, Took};
 use crate::shared::Shared;
 use entry_model::entry::EntryList;
 use entry_model::restored::Restored;
-use event_store::CutView;
+use event_store::{CutView, Steps};
 use osq_value::{NoMemory, Reading, RowList, Str, TextList};
 use pack_rules::schedule::Schedule;
 use session_state::{AppendError, CommitRefusal, Cut, State, TickRefusal};
 use std::alloc::Global;
 use std::snapshot::Snapshot;
 use std::sync::Wait;
+use std::sync::ledger::Ledger;
 use turn_lock::{Turn, TurnLock, TurnSeat};
 
 /// The right to make calls of a store. It has a number, and the list that its owner has seen.
@@ -202,22 +203,25 @@ impl Store {
     /// Adds a reading of the source, all of it or nothing, and answers the last number before and after: `State::append`
     /// in one turn.
     /// It refuses as `State::append` does.
-    pub fn append<R: Wait>(
+    pub fn append<R: Wait, L: Ledger>(
         &self,
         rt: &R,
         alloc: Global,
         seat: &mut StoreSeat,
         source: &Str,
         reading: Reading,
+        steps: &mut Steps<L>,
     ) -> Result<(u64, u64), AppendError>
         requires seat { IsSeatOf self.now seat.old × IsAtRest seat.old }
         requires reading { IsReading reading }
         ensures seat { IsSame seat.old seat.new × IsAtRest seat.new }
+        ensures all { OnOk result (steps.new ≡ steps.old + event_count reading) }
+        ensures most { steps.new ≤ steps.old + event_count reading }
         ensures turn { InTurn (start_of self.now) seat.old seat.new (Appends source.now reading result) }
     {
         let mut turn = self.turn(rt, seat);
         let before = Snapshot::of(&turn.value.state);
-        let result = turn.value.state.append(alloc, source, reading);
+        let result = turn.value.state.append(alloc, source, reading, steps);
         self.end(seat, turn, before);
         result
     }
@@ -225,20 +229,21 @@ impl Store {
     /// Gives the next cut, where at the turn a query is due, and none exactly where none is: `State::claim_cut` in one turn.
     ///
     /// The cut is made from entries that begin with those that the seat had seen.
-    pub fn claim_cut<R: Wait>(
+    pub fn claim_cut<R: Wait, L: Ledger>(
         &self,
         rt: &R,
         alloc: Global,
         seat: &mut StoreSeat,
+        steps: &mut Steps<L>,
     ) -> Result<Option<Cut>, NoMemory>
         requires { IsSeatOf self.now seat.old × IsAtRest seat.old }
         ensures seat { IsSame seat.old seat.new × IsAtRest seat.new }
-        ensures turn { InTurn (start_of self.now) seat.old seat.new (Cuts result) }
+        ensures turn { InTurn (start_of self.now) seat.old seat.new (Cuts steps.old steps.new result) }
         ensures given { IfOk result (λ given. IfSome given (λ cut. WasGiven cut (notes_of seat.new))) }
         ensures no_older { IfOk result (λ given. IfSome given (IsNoOlder (start_of self.now) (notes_of seat.old))) }
     {
         let mut turn = self.turn(rt, seat);
-        let result = turn.value.state.claim_cut(alloc);
+        let result = turn.value.state.claim_cut(alloc, steps);
         let said = Snapshot::of(&result);
         self.lock.pass(seat, turn, Snapshot::of(&Gave(said)));
         result

@@ -1,5 +1,8 @@
 //! An image of events, and a slice of it.
 
+ghost use Rattle.std.specs.Prelude.{◌≡◌, ◌<◌, All};
+ghost use Rattle.entry_model.specs.Legal.{IsEvent};
+
 use crate::call::Call;
 use crate::making::events;
 use crate::ready::{are_events, are_wide, nothing};
@@ -7,8 +10,40 @@ use crate::shown::{number_or_none, numbers, shown_tables, told};
 use case_text::rows_of;
 use event_store::image::{Image, StoreError};
 use event_store::view::CutView;
-use osq_value::{NoMemory, TableId};
+use event_store::{SharedRows, Steps};
+use osq_value::{EventList, NoMemory, TableId};
 use std::alloc::Global;
+use std::marker::Brand;
+use std::sync::ledger::{Blank, Ledger};
+
+/// Adds events, with steps that nobody counts.
+fn append_counted<L: Ledger>(
+    image: &mut Image,
+    events: EventList,
+    moment: u64,
+    blank: Blank,
+) -> Result<(u64, u64), StoreError>
+    requires events { All IsEvent events }
+    requires name { blank.name ≡ L.name }
+    requires parts { blank.parts ≡ L.parts }
+    requires some { 0 < blank.parts }
+{
+    image.append(events, moment, &mut Steps::<L>::new(blank))
+}
+
+/// A slice, with steps that nobody counts.
+fn slice_counted<L: Ledger>(
+    alloc: Global,
+    image: &Image,
+    above: u64,
+    blank: Blank,
+) -> Result<CutView, NoMemory>
+    requires name { blank.name ≡ L.name }
+    requires parts { blank.parts ≡ L.parts }
+    requires some { 0 < blank.parts }
+{
+    image.slice(alloc, above, &mut Steps::<L>::new(blank))
+}
 
 /// Adds events, and answers the last number before and after.
 fn append(alloc: Global, image: &mut Image, call: Call<'_>) -> Result<String, NoMemory> {
@@ -16,7 +51,7 @@ fn append(alloc: Global, image: &mut Image, call: Call<'_>) -> Result<String, No
     if !are_events(&events) {
         return told(alloc, "no events");
     }
-    match image.append(events, call.number("moment")) {
+    match append_counted::<Brand>(image, events, call.number("moment"), Blank::new(1)) {
         Ok(found) => numbers(alloc, found),
         Err(StoreError::NumbersSpent) => told(alloc, "numbers spent"),
         Err(StoreError::NoMemory) => Err(NoMemory),
@@ -29,7 +64,7 @@ fn set_table(alloc: Global, image: &mut Image, call: Call<'_>) -> Result<String,
     if table.0 < 3 || 12 <= table.0 || !are_wide(table, &rows) {
         return told(alloc, "no rows of a table that is set");
     }
-    image.set_table(table, rows)?;
+    image.set_table(alloc, table, rows)?;
     told(alloc, "done")
 }
 
@@ -38,7 +73,11 @@ fn expire(alloc: Global, image: &mut Image, call: Call<'_>) -> Result<String, No
     if 3 <= table.0 {
         return told(alloc, "no table of events");
     }
-    image.expire(table, call.number("floor"));
+    let floor = call.number("floor");
+    if floor <= image.floor(table) || image.last() < floor {
+        return told(alloc, "no floor above the last one");
+    }
+    image.expire(table, floor);
     told(alloc, "done")
 }
 
@@ -67,7 +106,7 @@ fn set_computed(alloc: Global, slice: &mut CutView, call: Call<'_>) -> Result<St
     if table.0 < 12 || 15 <= table.0 || !are_wide(table, &rows) {
         return told(alloc, "no rows of a table that is computed");
     }
-    slice.set_computed(table, rows)?;
+    slice.set_computed(table, SharedRows::of(alloc, rows)?);
     told(alloc, "done")
 }
 
@@ -81,12 +120,13 @@ pub(crate) struct Sliced {
 impl Sliced {
     pub(crate) fn new(alloc: Global) -> Result<Sliced, NoMemory> {
         let image = Image::restore(alloc, &nothing(alloc))?;
-        let slice = image.slice(alloc, 0)?;
+        let slice = slice_counted::<Brand>(alloc, &image, 0, Blank::new(1))?;
         Ok(Sliced { image, slice })
     }
 
     fn cut(&mut self, alloc: Global, call: Call<'_>) -> Result<String, NoMemory> {
-        self.slice = self.image.slice(alloc, call.number("above"))?;
+        let above = call.number("above");
+        self.slice = slice_counted::<Brand>(alloc, &self.image, above, Blank::new(1))?;
         told(alloc, "done")
     }
 

@@ -1,6 +1,7 @@
 //! A session and its open cuts.
 
-ghost use Rattle.std.specs.Prelude.{◌≡◌, IfSome};
+ghost use Rattle.std.specs.Prelude.{◌≡◌, ◌<◌, IfOk, IfSome};
+ghost use Rattle.session_state.specs.Readings.{IsReading};
 ghost use Rattle.entry_model.specs.Fits.{Fits};
 ghost use Rattle.session_state.specs.Cut.{CutValue};
 ghost use Rattle.session_state.specs.CutOf.{IsCutOf};
@@ -11,12 +12,14 @@ use crate::making::{reading, schedule};
 use crate::ready::{answer, is_moment, is_reading, is_sound, nothing};
 use crate::shown::{numbers, rows_or_none, shown_tables, table_name, told, yes_or_no};
 use entry_model::restored::Restored;
+use event_store::Steps;
 use kept_queries::rows_behind;
-use osq_value::{NoMemory, Str, TextList};
+use osq_value::{NoMemory, Reading, Str, TextList};
 use session_state::{AppendError, CommitRefusal, Cut, State, TickRefusal};
 use sql_texts::text::query_of_text;
 use std::alloc::Global;
-use std::marker::Model;
+use std::marker::{Brand, Model};
+use std::sync::ledger::{Blank, Ledger};
 
 /// A session's state, and the cuts that it gave and that are not spent, in the order in which they were claimed.
 #[derive(Drop)]
@@ -112,6 +115,38 @@ fn tick(alloc: Global, state: &mut State, call: Call<'_>) -> Result<String, NoMe
     }
 }
 
+/// Adds a reading, with steps that nobody counts.
+fn append_counted<L: Ledger>(
+    alloc: Global,
+    state: &mut State,
+    source: &Str,
+    reading: Reading,
+    blank: Blank,
+) -> Result<(u64, u64), AppendError>
+    requires reading { IsReading reading }
+    requires name { blank.name ≡ L.name }
+    requires parts { blank.parts ≡ L.parts }
+    requires some { 0 < blank.parts }
+    ensures { (cut : CutValue) → IsCutOf state.old cut → IsCutOf state.new cut }
+{
+    state.append(alloc, source, reading, &mut Steps::<L>::new(blank))
+}
+
+/// The next cut, with steps that nobody counts.
+fn claim_counted<L: Ledger>(
+    alloc: Global,
+    state: &mut State,
+    blank: Blank,
+) -> Result<Option<Cut>, NoMemory>
+    requires name { blank.name ≡ L.name }
+    requires parts { blank.parts ≡ L.parts }
+    requires some { 0 < blank.parts }
+    ensures own { IfOk result (λ given. IfSome given (IsCutOf state.new)) }
+    ensures cuts { (cut : CutValue) → IsCutOf state.old cut → IsCutOf state.new cut }
+{
+    state.claim_cut(alloc, &mut Steps::<L>::new(blank))
+}
+
 fn append(alloc: Global, state: &mut State, call: Call<'_>) -> Result<String, NoMemory>
     ensures { (cut : CutValue) → IsCutOf state.old cut → IsCutOf state.new cut }
 {
@@ -120,7 +155,7 @@ fn append(alloc: Global, state: &mut State, call: Call<'_>) -> Result<String, No
     if !is_reading(&reading) {
         return told(alloc, "no reading");
     }
-    match state.append(alloc, &source, reading) {
+    match append_counted::<Brand>(alloc, state, &source, reading, Blank::new(1)) {
         Ok(found) => numbers(alloc, found),
         Err(error) => not_appended(alloc, error),
     }
@@ -246,7 +281,7 @@ impl Session {
     /// Claims the next cut, which is then the last of the open ones.
     fn claim(&mut self, alloc: Global) -> Result<String, NoMemory> {
         self.cuts.reserve(1)?;
-        let Some(cut) = self.state.claim_cut(alloc)? else {
+        let Some(cut) = claim_counted::<Brand>(alloc, &mut self.state, Blank::new(1))? else {
             return told(alloc, "none");
         };
         let text = told_cut(alloc, &cut);

@@ -1,6 +1,7 @@
 //! Single turns of a seat.
 
-ghost use Rattle.std.specs.Prelude.{◌≡◌, ◌+◌, IfOk, OnOk, OnErr};
+ghost use Rattle.std.specs.Prelude.{◌≡◌, ◌+◌, ◌<◌, IfOk, IfSome, OnOk, OnErr};
+ghost use Rattle.session_state.specs.Readings.{IsReading};
 ghost use Rattle.sql_texts.specs.Meaning.{meaning};
 ghost use Rattle.event_store.specs.Contents.{rows_in};
 ghost use Rattle.turn_lock.specs.Words.{IsAtRest, IsSame};
@@ -10,13 +11,45 @@ ghost use Rattle.shared_store.specs.Notes.{WasGiven};
 ghost use Rattle.shared_store.specs.Turns.{notes_of};
 
 use crate::given::reading;
-use osq_value::{NoMemory, RowList, Str};
+use event_store::Steps;
+use osq_value::{NoMemory, Reading, RowList, Str};
 use session_state::{AppendError, CommitRefusal, Cut};
 use shared_store::{Store, StoreSeat};
 use sql_meaning::plain_rows;
 use sql_texts::text::query_of_text;
 use std::alloc::Global;
+use std::marker::Brand;
 use std::sync::Wait;
+use std::sync::ledger::{Blank, Ledger};
+
+/// Adds a reading, with steps that nobody counts.
+fn append_counted<R: Wait, L: Ledger>(
+    rt: &R,
+    alloc: Global,
+    store: &Store,
+    seat: &mut StoreSeat,
+    source: &Str,
+    reading: Reading,
+    blank: Blank,
+) -> Result<(u64, u64), AppendError>
+    requires seat { IsSeatOf store.now seat.old × IsAtRest seat.old }
+    requires reading { IsReading reading }
+    requires name { blank.name ≡ L.name }
+    requires parts { blank.parts ≡ L.parts }
+    requires some { 0 < blank.parts }
+    ensures seat { IsSame seat.old seat.new × IsAtRest seat.new }
+    ensures added { OnOk result (own_count seat.new ≡ own_count seat.old + 1) }
+    ensures refused { OnErr result (own_count seat.new ≡ own_count seat.old) }
+{
+    store.append(
+        rt,
+        alloc,
+        seat,
+        source,
+        reading,
+        &mut Steps::<L>::new(blank),
+    )
+}
 
 /// Adds a reading of one file, which ends at this byte of the source.
 pub(crate) fn add_one<R: Wait>(
@@ -38,7 +71,25 @@ pub(crate) fn add_one<R: Wait>(
     let Ok(reading) = reading(alloc, taken) else {
         return Err(AppendError::NoMemory);
     };
-    store.append(rt, alloc, seat, &source, reading)
+    append_counted::<R, Brand>(rt, alloc, store, seat, &source, reading, Blank::new(1))
+}
+
+/// The next cut, with steps that nobody counts.
+fn claim_counted<R: Wait, L: Ledger>(
+    rt: &R,
+    alloc: Global,
+    store: &Store,
+    seat: &mut StoreSeat,
+    blank: Blank,
+) -> Result<Option<Cut>, NoMemory>
+    requires seat { IsSeatOf store.now seat.old × IsAtRest seat.old }
+    requires name { blank.name ≡ L.name }
+    requires parts { blank.parts ≡ L.parts }
+    requires some { 0 < blank.parts }
+    ensures seat { IsSame seat.old seat.new × IsAtRest seat.new }
+    ensures given { IfOk result (λ given. IfSome given (λ cut. WasGiven cut (notes_of seat.new))) }
+{
+    store.claim_cut(rt, alloc, seat, &mut Steps::<L>::new(blank))
 }
 
 /// The next cut, where a query is due; want of memory stands for none.
@@ -52,7 +103,7 @@ pub(crate) fn claimed<R: Wait>(
     ensures seat { IsSame seat.old seat.new × IsAtRest seat.new }
     ensures given { IfOk result (λ cut. WasGiven cut (notes_of seat.new)) }
 {
-    match store.claim_cut(rt, alloc, seat)? {
+    match claim_counted::<R, Brand>(rt, alloc, store, seat, Blank::new(1))? {
         None => Err(NoMemory),
         Some(cut) => Ok(cut),
     }

@@ -6,18 +6,18 @@ use Rattle.daemon_rounds.proofs.Answered.{accepted, answers_first, brings_batch,
 use Rattle.daemon_rounds.proofs.answering.answer_next.Goals as goal
 
 pub returns-in-Ok-None-clause-none : goal.returns-in-Ok-None-clause-none
-returns-in-Ok-None-clause-none c e =
+returns-in-Ok-None-clause-none g c e =
     none_due c.args.state.now c.claim_cut.new.self c.is_state.ensures c.in-Ok-None.ensures.claimed (c.claim_cut.ensures.none.0 (c.in-Ok-None.is ∙ ap Ok c.in-Ok-None.field-0-is))
 
 pub rows_of-requires : goal.rows_of-requires
-rows_of-requires c =
+rows_of-requires g c =
     let cut = c.in-Ok-Some.cut in
     let g = given c.args.state.now cut (sym c.in-Ok-Some.field-0-is ∙ c.in-Ok-Some.ensures.cut) in
     let is = accepted c.args.state.now c.is_state.ensures cut g c.claim_cut.new.self c.in-Ok-Some.ensures.claimed in
     ap is_accepted (c.as_str.ensures ∙ ap (λ (k : QueryKey). k.text) c.key.ensures) ∙ is
 
 pub unreachable-requires : goal.unreachable-requires
-unreachable-requires c =
+unreachable-requires g c =
     let cut = c.in-Ok-Some.cut in
     let g = given c.args.state.now cut (sym c.in-Ok-Some.field-0-is ∙ c.in-Ok-Some.ensures.cut) in
     let why = (c.commit.ensures.refused _).0 (c.in-Err-Superseded.is ∙ ap Err c.in-Err-Superseded.field-0-is) in
@@ -25,7 +25,7 @@ unreachable-requires c =
     cc
 
 pub unreachable-requires-in-Err-Stale : goal.unreachable-requires-in-Err-Stale
-unreachable-requires-in-Err-Stale c =
+unreachable-requires-in-Err-Stale g c =
     let cut = c.in-Ok-Some.cut in
     let g = given c.args.state.now cut (sym c.in-Ok-Some.field-0-is ∙ c.in-Ok-Some.ensures.cut) in
     let why = (c.commit.ensures.refused _).0 (c.in-Err-Stale.is ∙ ap Err c.in-Err-Stale.field-0-is) in
@@ -33,7 +33,7 @@ unreachable-requires-in-Err-Stale c =
     cc
 
 pub returns-in-Ok-commit-clause-answered : goal.returns-in-Ok-commit-clause-answered
-returns-in-Ok-commit-clause-answered c e =
+returns-in-Ok-commit-clause-answered g c e =
     let s = c.args.state.now in
     let t = c.claim_cut.new.self in
     let cut = c.in-Ok-Some.cut in
@@ -45,7 +45,7 @@ returns-in-Ok-commit-clause-answered c e =
     (batch_of cut (t.counts.batches + 1) _, brings_batch s is cut g t claimed _ _ done stands c.in-Ok-commit.ensures.claims, own_place s is cut g t claimed _ _ done stands, tellable s is cut g t claimed _ _ done stands, answers_first s is cut g t claimed _ _ done stands)
 
 pub returns-in-Ok-commit-clause-fewer : goal.returns-in-Ok-commit-clause-fewer
-returns-in-Ok-commit-clause-fewer c e =
+returns-in-Ok-commit-clause-fewer g c e =
     let s = c.args.state.now in
     let t = c.claim_cut.new.self in
     let cut = c.in-Ok-Some.cut in
@@ -53,7 +53,7 @@ returns-in-Ok-commit-clause-fewer c e =
     fewer s c.is_state.ensures cut g t c.in-Ok-Some.ensures.claimed _ _ c.in-Ok-commit.ensures.committed (stands_cut s _ cut c.in-Ok-Some.field-0-is c.in-Ok-Some.ensures.stands)
 
 pub returns-in-Err-NumbersSpent-clause-spent : goal.returns-in-Err-NumbersSpent-clause-spent
-returns-in-Err-NumbersSpent-clause-spent c e =
+returns-in-Err-NumbersSpent-clause-spent g c e =
     let cut = c.in-Ok-Some.cut in
     let g = given c.args.state.now cut (sym c.in-Ok-Some.field-0-is ∙ c.in-Ok-Some.ensures.cut) in
     let why = (c.commit.ensures.refused _).0 (c.in-Err-NumbersSpent.is ∙ ap Err c.in-Err-NumbersSpent.field-0-is) in

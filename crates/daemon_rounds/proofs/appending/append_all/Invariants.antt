@@ -1,9 +1,4 @@
-use Rattle.std.proofs.Common.{length}
-use Rattle.daemon_rounds.proofs.Appended.{AreAppended}
 use Rattle.daemon_rounds.proofs.appending.append_all.Given as goal
 
-abbrev pub invariant-loop-reading : goal.invariant-loop-reading
-invariant-loop-reading l = AreAppended l.initial.state l.source l.initial.rest.items l.rest.items l.state
-
-abbrev pub decreases-loop-reading : goal.decreases-loop-reading
-decreases-loop-reading l = length l.rest.items
+abbrev pub ghosts-append_each : goal.ghosts-append_each
+ghosts-append_each a = record { name = a.blank.name; parts = a.blank.parts }

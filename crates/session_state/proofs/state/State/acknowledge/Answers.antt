@@ -10,7 +10,7 @@ use Rattle.session_state.proofs.state.State.acknowledge.Goals as goal
 pub returns-clause-added : goal.returns-clause-added
 returns-clause-added c =
     let s = kept c.self.inside in
-    rw (← c.self.view_is) (adds s _ (Acked c.args.upto) refl c.self.invariant.image (λ K h. let acked = ap (λ (c : Counts). c.acked) h.counts in let batches = ap (λ (c : Counts). c.batches) h.counts in (omega arith, omega arith)) (record {
+    rw (← c.self.view_is) (adds s _ (Acked c.args.upto) refl c.self.invariant.state.image (λ K h. let acked = ap (λ (c : Counts). c.acked) h.counts in let batches = ap (λ (c : Counts). c.batches) h.counts in (omega arith, omega arith)) (record {
       counts = refl;
       image = refl;
       schedule = refl;

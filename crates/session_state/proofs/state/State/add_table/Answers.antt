@@ -18,9 +18,9 @@ returns-clause-added c =
     let counts = s.counts in
     let forwards = rw (← c.self.view_is) at c.requires.forwards in
     let offsets = c.in_ok-offsets.ensures ∙ ap (λ (taken : List Taken). with_offset taken a.source.now a.taken) c.as_slice.ensures in
-    rw (← c.self.view_is) (adds s _ (TableSet a.source.now a.table a.rows a.taken) refl c.self.invariant.image (λ K h. may_set K s a.source.now a.table a.rows a.taken h forwards c.requires.recorded c.requires.wide) (record {
+    rw (← c.self.view_is) (adds s _ (TableSet a.source.now a.table a.rows a.taken) refl c.self.invariant.state.image (λ K h. may_set K s a.source.now a.table a.rows a.taken h forwards c.requires.recorded c.requires.wide) (record {
       counts = λ i. record { position = counts.position + 1; sessions = counts.sessions; moment = counts.moment; taken = offsets i; runs = counts.runs; batches = counts.batches; acked = counts.acked };
-      image = c.in_ok-set_table.ensures.set ∙ ap (λ (rows : List (List Value)). with_table s.image a.table.0 rows) c.in_ok-stored.ensures;
+      image = c.in-Ok.ensures.set ∙ ap (λ (rows : List (List Value)). with_table s.image a.table.0 rows) c.in_ok-stored.ensures;
       schedule = refl;
       ticked = refl;
       marks = sym (append-nil s.marks);

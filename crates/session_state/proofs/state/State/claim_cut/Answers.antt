@@ -1,27 +1,35 @@
-use Rattle.std.proofs.Common.{sym, subst}
+use Rattle.std.proofs.Common.{◌≡◌, Some, sym, subst, ◌∙◌}
+use Rattle.std.specs.Prelude.{option_map, slice_get}
+use Rattle.session_state.specs.Cutting.{cut_of}
 use Rattle.session_state.specs.Inside.{kept}
-use Rattle.session_state.specs.Kept.{IsState}
+use Rattle.session_state.specs.Kept.{Kept, IsState}
 use Rattle.session_state.proofs.Cutting.{not_none, given_stands, given_own_of}
 use Rattle.session_state.proofs.state.State.claim_cut.Goals as goal
 
 pub returns-in_default-cut_of-clause-none : goal.returns-in_default-cut_of-clause-none
-returns-in_default-cut_of-clause-none c =
-    let is = subst IsState c.self.view_is c.self.invariant in (
+returns-in_default-cut_of-clause-none g c =
+    let is = subst IsState (c.self.view_is ∙ c.renew_listed.ensures) c.self.invariant.state in (
       λ e. absurd (cc),
       λ none. absurd (let k = not_none c.args.self.now is c.in-Some.place c.in-Some.ensures.within (sym c.in-Some.ensures.place) none in cc),
     )
 
 pub returns-clause-none : goal.returns-clause-none
-returns-clause-none c =
-    let is = subst IsState c.self.view_is c.self.invariant in (
+returns-clause-none g c =
+    let is = subst IsState (c.self.view_is ∙ c.renew_listed.ensures) c.self.invariant.state in (
       λ e. absurd (cc),
       λ none. absurd (let k = not_none c.args.self.now is c.in-Some.place c.in-Some.ensures.within (sym c.in-Some.ensures.place) none in cc),
     )
 
 pub returns-clause-stands : goal.returns-clause-stands
-returns-clause-stands c =
-    given_stands c.args.self.now (subst IsState c.self.view_is c.self.invariant) c.in-Some.place c.in-Some.ensures.within (sym c.in-Some.ensures.place) c.in-Ok.cut c.in-Ok.ensures
+returns-clause-stands g c =
+    given_stands c.args.self.now (subst IsState (c.self.view_is ∙ c.renew_listed.ensures) c.self.invariant.state) c.in-Some.place c.in-Some.ensures.within (sym c.in-Some.ensures.place) c.in-Ok.cut (subst (λ (s : Kept). Some c.in-Ok.cut ≡ option_map (cut_of s c.in-Some.place) (slice_get s.schedule.queries c.in-Some.place)) c.renew_listed.ensures c.in-Ok.ensures.cut)
 
 pub returns-clause-own : goal.returns-clause-own
-returns-clause-own c =
-    given_own_of c.args.self.now (subst IsState c.self.view_is c.self.invariant) c.in-Some.place c.in-Some.ensures.within (sym c.in-Some.ensures.place) c.in-Ok.cut c.in-Ok.ensures (kept c.self.inside) c.self.view_is _
+returns-clause-own g c =
+    given_own_of c.args.self.now (subst IsState (c.self.view_is ∙ c.renew_listed.ensures) c.self.invariant.state) c.in-Some.place c.in-Some.ensures.within (sym c.in-Some.ensures.place) c.in-Ok.cut (subst (λ (s : Kept). Some c.in-Ok.cut ≡ option_map (cut_of s c.in-Some.place) (slice_get s.schedule.queries c.in-Some.place)) c.renew_listed.ensures c.in-Ok.ensures.cut) (kept c.self.inside) (c.self.view_is ∙ c.renew_listed.ensures) _
+
+pub returns-then-is_err-clause-none : goal.returns-then-is_err-clause-none
+returns-then-is_err-clause-none g c = (
+  λ e. absurd (cc),
+  λ none. absurd (let k = not_none c.args.self.now c.is_state.ensures c.in-Some.place c.in-Some.ensures.within (sym c.in-Some.ensures.place) none in cc),
+)

@@ -4,6 +4,10 @@ use Rattle.pack_rules.specs.declared.schedule.Schedule.{Schedule}
 use Rattle.entry_model.specs.declared.entry.Entry.TheVariants.{Configured}
 use Rattle.query_cursors.specs.Places.{Indexed, places_of}
 use Rattle.pack_rules.specs.Sound.{IsSound}
+use Rattle.pack_rules.specs.declared.schedule.Scheduled.{Scheduled}
+use Rattle.entry_model.specs.declared.restored.Run.{Run}
+use Rattle.session_state.specs.Computed.{schedule_shown}
+use Rattle.session_state.specs.Listed.{AreFresh}
 use Rattle.session_state.specs.Inside.{kept}
 use Rattle.session_state.specs.Kept.{Counts}
 use Rattle.session_state.specs.Tails.{EntriesAndRoom}
@@ -17,10 +21,10 @@ returns-clause-configured c =
     let s = kept c.self.inside in
     let counts = s.counts in
     let moment = max a.moment s.counts.moment in
-    let known = c.self.invariant.moment in
+    let known = c.self.invariant.state.moment in
     let low = c.requires.calendar in
     let runs = ap (λ (r : Indexed). r.runs) c.set_places.ensures ∙ ap (λ (r : Indexed). r.runs) c.in-Ok.ensures.cursors in
-    rw (← c.self.view_is) (adds s _ (Configured a.document a.schedule moment) refl c.self.invariant.image (λ K h. (c.requires.sound, record { later = (let now = ap (λ (c : Counts). c.moment) h.counts in omega (arith, now)); calendar = omega (arith, known, low) })) (record {
+    rw (← c.self.view_is) (adds s _ (Configured a.document a.schedule moment) refl c.self.invariant.state.image (λ K h. (c.requires.sound, record { later = (let now = ap (λ (c : Counts). c.moment) h.counts in omega (arith, now)); calendar = omega (arith, known, low) })) (record {
       counts = λ i. record { position = counts.position + 1; sessions = counts.sessions; moment = c.max-moment.ensures i; taken = counts.taken; runs = runs i; batches = counts.batches; acked = counts.acked };
       image = refl;
       schedule = c.in_ok-kept.ensures;
@@ -34,22 +38,25 @@ invariant_of-self-2 c =
     let s = kept c.self.inside in
     let same : length c.in_ok-kept.kept.queries ≡ length c.args.schedule.queries = ap (λ (schedule : Schedule). length schedule.queries) c.in_ok-kept.ensures in
     let count : c.len-queries.result ≡ length c.in_ok-kept.kept.queries = c.len-queries.ensures ∙ sym same in
-    let known = c.self.invariant.moment in
+    let known = c.self.invariant.state.moment in
     let calendar = c.requires.calendar in
     let runs = ap (λ (r : Indexed). r.runs) c.set_places.ensures ∙ ap (λ (r : Indexed). r.runs) c.in-Ok.ensures.cursors in
-    reserved s _ c.self.invariant (record {
-      image = refl;
-      position = refl;
-      low = omega (arith, c.if-self-max-ge-MOST.false, c.max.ensures, c.room.ensures, count);
-      sessions = refl;
-      moment = omega (arith, c.max-moment.ensures, known, calendar);
-      runs = runs;
-      batches = refl;
-      acked = refl;
-      schedule = subst IsSound (sym c.in_ok-kept.ensures) c.requires.sound;
-      claims = ap (λ (claims : List Bool). length claims) c.in_ok-claims.ensures ∙ simp length-replicate c.len.ensures;
-      tail_room = ap (λ (t : EntriesAndRoom). t.room) c.in-Ok.ensures.tail ∙ (λ i. max ((c.in_ok-push.ensures.ok i).room) (count i));
-      run_room = ap (λ (r : Indexed). r.room) c.set_places.ensures ∙ ap (λ (r : Indexed). r.room) c.in-Ok.ensures.cursors ∙ ap (max s.run_room) count;
-      places = ap (λ (r : Indexed). r.places) c.set_places.ensures ∙ c.in_ok-places.ensures ∙ (λ i. places_of (sym runs i) (c.as_slice.ensures i));
-      marks = c.push_reserved.ensures.items ∙ ap (λ (marks : List ℕ). marks ++ s.counts.position ∷ []) c.in_ok-reserve.ensures.items;
-    })
+    record {
+      state = reserved s _ c.self.invariant.state (record {
+        image = refl;
+        position = refl;
+        low = omega (arith, c.if-self-max-ge-MOST.false, c.max.ensures, c.room.ensures, count);
+        sessions = refl;
+        moment = omega (arith, c.max-moment.ensures, known, calendar);
+        runs = runs;
+        batches = refl;
+        acked = refl;
+        schedule = subst IsSound (sym c.in_ok-kept.ensures) c.requires.sound;
+        claims = ap (λ (claims : List Bool). length claims) c.in_ok-claims.ensures ∙ simp length-replicate c.len.ensures;
+        tail_room = ap (λ (t : EntriesAndRoom). t.room) c.in-Ok.ensures.tail ∙ (λ i. max ((c.in_ok-push.ensures.ok i).room) (count i));
+        run_room = ap (λ (r : Indexed). r.room) c.set_places.ensures ∙ ap (λ (r : Indexed). r.room) c.in-Ok.ensures.cursors ∙ ap (max s.run_room) count;
+        places = ap (λ (r : Indexed). r.places) c.set_places.ensures ∙ c.in_ok-places.ensures ∙ (λ i. places_of (sym runs i) (c.as_slice-queries_now.ensures i));
+        marks = c.push_reserved.ensures.items ∙ ap (λ (marks : List ℕ). marks ++ s.counts.position ∷ []) c.in_ok-reserve.ensures.items;
+      });
+      listed = subst (λ (runs : List Run). AreFresh (schedule_shown runs c.in_ok-kept.kept.queries) c.in_ok-listed.listed) (sym runs) (subst (λ (queries : List Scheduled). AreFresh (schedule_shown s.counts.runs queries) c.in_ok-listed.listed) c.as_slice-queries_now.ensures c.in_ok-listed.ensures);
+    }

@@ -14,8 +14,8 @@ returns-clause-expired c =
     let table = c.args.table in
     let floor = c.in-Some.floor in
     let s = kept c.self.inside in
-    let owed : owed_at s table.0 ≡ Some floor = ap (λ (s : Kept). owed_at s table.0) c.self.view_is ∙ sym c.in-Some.ensures in
-    rw (← c.self.view_is) (owed_adds s _ table.0 floor owed (adds s _ (Expired table floor s.counts.moment) refl c.self.invariant.image (λ K h. may_expire K s table.0 floor h c.requires.evented owed) (record {
+    let owed : owed_at s table.0 ≡ Some floor = ap (λ (s : Kept). owed_at s table.0) c.self.view_is ∙ sym c.in-Some.ensures.owed in
+    rw (← c.self.view_is) (owed_adds s _ table.0 floor owed (adds s _ (Expired table floor s.counts.moment) refl c.self.invariant.state.image (λ K h. may_expire K s table.0 floor h c.requires.evented owed) (record {
       counts = refl;
       image = c.expire.ensures;
       schedule = refl;

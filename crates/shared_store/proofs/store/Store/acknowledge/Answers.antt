@@ -25,4 +25,4 @@ returns-clause-turn g c =
     let call = c.acknowledge-result.ensures in
     let left = by_done start notes was now c.acknowledge-result.result (Acked c.args.upto) c.acknowledge-result.ensures.added c.acknowledge-result.ensures.err c.turn-turn.ensures.begins.stands in
     let ends = ends_like start mid c.end.new.seat was c.of-before.result.value now c.of-before.ensures c.end.ensures.seat.0 c.end.ensures.seen left in
-    (mid, was, now, grown was.tail now.tail, c.turn-turn.ensures.begins, ends, record { answer = call.answer; added = noted_done was now c.acknowledge-result.result (Acked c.args.upto) call.added; err = noted_err was now c.acknowledge-result.result call.err })
+    (mid, was, now, grown was.tail now.tail, c.turn-turn.ensures.begins, ends, record { answer = call.answer; added = noted_done was now c.acknowledge-result.result (Acked c.args.upto) call.added; claims = call.claims; err = noted_err was now c.acknowledge-result.result call.err })

@@ -31,7 +31,7 @@ returns-clause-turn g c =
     let same : c.of.result.value.0.value ≡ result = ap (λ (x : Gave). x.0.value) c.of.ensures ∙ c.of-said.ensures in
     let left = by_cut start notes was now result call.cut call.claimed call.own call.stands call.err c.turn-turn.ensures.begins.stands in
     let ends = ends_said given_by start mid c.pass.new.seat now c.of.result.value.0.value result same c.pass.ensures.seat.0 c.pass.ensures.seen left in
-    (mid, was, now, given_by result, c.turn-turn.ensures.begins, ends, record { cut = call.cut; none = call.none; noted = noted_cut result; claimed = call.claimed; err = ungiven was now result call.err })
+    (mid, was, now, given_by result, c.turn-turn.ensures.begins, ends, record { cut = call.cut; none = call.none; noted = noted_cut result; claimed = call.claimed; cost = call.cost; err = ungiven was now result call.err })
 
 pub returns-clause-given : goal.returns-clause-given
 returns-clause-given g c =

@@ -31,4 +31,4 @@ returns-clause-turn g c =
     let same : c.of.result.value.0.value ≡ result = ap (λ (x : Took). x.0.value) c.of.ensures ∙ c.of-said.ensures in
     let left = by_take start notes was now result call.ok call.err c.turn-turn.ensures.begins.stands in
     let ends = ends_said taken_by start mid c.pass.new.seat now c.of.result.value.0.value result same c.pass.ensures.seat.0 c.pass.ensures.seen left in
-    (mid, was, now, taken_by result, c.turn-turn.ensures.begins, ends, record { taken = call.taken; marked = noted_take was now result call.ok; err = unmarked was now result call.err })
+    (mid, was, now, taken_by result, c.turn-turn.ensures.begins, ends, record { taken = call.taken; sealable = call.sealable; marked = noted_take was now result call.ok; err = unmarked was now result call.err })

@@ -1,0 +1,4 @@
+use Rattle.event_store.proofs.loading.restore.Given as goal
+
+abbrev pub ghosts-restore_counted : goal.ghosts-restore_counted
+ghosts-restore_counted a = record { name = a.blank.name; parts = a.blank.parts }
