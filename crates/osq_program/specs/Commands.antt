@@ -1,6 +1,8 @@
 -- What words ask of the program.
 use Rattle.std.specs.Prelude.{◌≡◌, ◌≢◌, ◌⊎◌, ℕ, List, None, Some}
+use Rattle.program_words.specs.declared.command.CollectWords.{CollectWords}
 use Rattle.program_words.specs.declared.command.CommandWords.{CommandWords}
+use Rattle.program_words.specs.declared.command.CommandWords.TheVariants.{Collect}
 use Rattle.program_words.specs.Commands.{sources_in, words_of}
 
 -- the plan of one text
@@ -10,3 +12,7 @@ pub record Explain : Type 0 where
 -- the words are those of no command, or there are other sources than they name
 abbrev pub IsMisused : List (List ℕ) → ℕ → Type 0
 IsMisused words count = (words_of words ≡ None) ⊎ ((command : CommandWords) × (words_of words ≡ Some command) × (count ≢ sources_in command))
+
+-- the words are those of a collector
+abbrev pub IsCollecting : List (List ℕ) → Type 0
+IsCollecting words = (collect : CollectWords) × (words_of words ≡ Some (Collect collect))

@@ -1,10 +1,11 @@
 -- What a run of each command does.
 use Rattle.std.specs.Prelude.{Bool, true, false}
 use Rattle.program_words.specs.declared.command.CommandWords.{CommandWords}
-use Rattle.program_words.specs.declared.command.CommandWords.TheVariants.{Replay as AsksReplay, Query as AsksQuery, Check as AsksCheck}
+use Rattle.program_words.specs.declared.command.CommandWords.TheVariants.{Replay as AsksReplay, Query as AsksQuery, Check as AsksCheck, Collect as AsksCollect}
 use Rattle.program_words.specs.declared.command.QueryWords.{QueryWords}
 use Rattle.osq_program.specs.declared.status.Status.{Status}
 use Rattle.osq_program.specs.Checking.{IsCheck}
+use Rattle.osq_program.specs.Collecting.{IsCollect}
 use Rattle.osq_program.specs.Explaining.{IsExplain}
 use Rattle.osq_program.specs.Querying.{IsQuery}
 use Rattle.osq_program.specs.Replaying.{IsReplay}
@@ -21,3 +22,4 @@ abbrev pub MeetsCommand : CommandWords → Observed → Status → Type 0
 MeetsCommand (AsksReplay words) seen status = IsReplay words seen status
 MeetsCommand (AsksQuery words) seen status = DoesQuery words seen status
 MeetsCommand (AsksCheck words) seen status = IsCheck words seen status
+MeetsCommand (AsksCollect words) seen status = IsCollect words seen status

@@ -15,6 +15,7 @@ pub record Observed : Type 1 where
   pub has_read : List ℕ → Type 0  -- the clock was read for each of these readings, one after another
   pub source_tells : Type 0
   pub all_bytes : List (List ℕ)  -- what each source had to give
+  pub rest_bytes : List (List ℕ)  -- and what is left of it
   pub failed_at : ℕ → Type 0  -- the source at this place failed
   pub sink_tells : Type 0
   pub results_before : List ℕ
@@ -23,3 +24,6 @@ pub record Observed : Type 1 where
   pub status_before : List ℕ
   pub status_after : List ℕ
   pub status_failed : Type 0
+  pub ledger_before : List ℕ
+  pub ledger_after : List ℕ
+  pub ledger_failed : Type 0

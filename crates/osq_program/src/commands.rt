@@ -1,15 +1,17 @@
 //! What is done for the words of each command.
 
-ghost use Rattle.std.specs.Prelude.{◌≡◌, ℕ, List, [], ◌∷◌, true, None, vec_len, length};
+ghost use Rattle.std.specs.Prelude.{◌≡◌, ◌≢◌, ℕ, List, [], ◌∷◌, true, None, vec_len, length};
 ghost use Rattle.program_words.specs.Bounds.{IsBounded, RunBounds};
 ghost use Rattle.program_words.specs.declared.command.CheckWords.{CheckWords};
+ghost use Rattle.program_words.specs.declared.command.CollectWords.{CollectWords};
 ghost use Rattle.program_words.specs.declared.command.QueryWords.{QueryWords};
-ghost use Rattle.program_words.specs.declared.command.CommandWords.TheVariants.{Check as AsksCheck, Query as AsksQuery};
+ghost use Rattle.program_words.specs.declared.command.CommandWords.TheVariants.{Check as AsksCheck, Collect as AsksCollect, Query as AsksQuery};
 ghost use Rattle.program_words.specs.Commands.{sources_in};
 ghost use Rattle.osq_program.specs.Answers.{IsUsageStatus};
 ghost use Rattle.osq_program.specs.Doing.{MeetsCommand, DoesQuery};
 
 use crate::check::run_check;
+use crate::collect::run_collect;
 use crate::explain::run_explain;
 use crate::link::Link;
 use crate::outside::{Observes, Outside};
@@ -53,7 +55,7 @@ pub(crate) fn run_command<S: Source, O: Sink, F: Files, C: Clock, K: Keeper, L: 
     requires bounded { IsBounded words.now }
     ensures usage { ¬ IsUsageStatus result }
     ensures link { outside.new.link ≡ outside.old.link }
-    ensures ledger { outside.new.ledger ≡ outside.old.ledger }
+    ensures ledger { ((collect : CollectWords) → words.now ≢ AsksCollect collect) → outside.new.ledger ≡ outside.old.ledger }
     ensures sources { vec_len outside.new.sources ≡ vec_len outside.old.sources }
     ensures query_files { (query : QueryWords) → words.now ≡ AsksQuery query → query.config ≡ None → outside.new.files ≡ outside.old.files }
     ensures explain_unread { (query : QueryWords) → words.now ≡ AsksQuery query → query.explain ≡ true
@@ -66,5 +68,6 @@ pub(crate) fn run_command<S: Source, O: Sink, F: Files, C: Clock, K: Keeper, L: 
         CommandWords::Replay(words) => run_replay(alloc, words, outside),
         CommandWords::Query(words) => do_query(alloc, words, outside),
         CommandWords::Check(words) => run_check(alloc, words, outside),
+        CommandWords::Collect(words) => run_collect(alloc, words, outside),
     }
 }

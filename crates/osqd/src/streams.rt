@@ -1,6 +1,6 @@
 //! The machine's streams, each as one type.
 
-use std::fs::File;
+use std::fs::{File, OpenOptions};
 use std::io::{self, ErrorKind, Read, Stderr, Stdout, Write};
 
 /// A source's file. One that can't be opened fails at its first read.
@@ -31,15 +31,29 @@ impl Read for Input {
     }
 }
 
-/// Where results and status lines go. There is no ledger yet.
+/// Where results, status lines and the lines of a ledger go.
 #[derive(Drop)]
 pub enum Output {
     /// Standard output, for results.
     Results(Stdout),
     /// Standard error, for status lines.
     Status(Stderr),
+    /// The ledger's file, open at its end.
+    Ledger(File),
+    /// A file that couldn't be opened: each write fails.
+    Unopened,
     /// Nothing keeps what is written here.
     Nowhere,
+}
+
+impl Output {
+    /// The end of the ledger's file of this path, which is made where there is none.
+    pub(crate) fn ledger<R: std::rt::Files<File = File>>(rt: &R, path: &str) -> Output {
+        match OpenOptions::new().append(true).create(true).open(rt, path) {
+            Ok(file) => Output::Ledger(file),
+            Err(_) => Output::Unopened,
+        }
+    }
 }
 
 impl Write for Output {
@@ -47,6 +61,8 @@ impl Write for Output {
         match self {
             Output::Results(stdout) => stdout.write(buf),
             Output::Status(stderr) => stderr.write(buf),
+            Output::Ledger(file) => file.write(buf),
+            Output::Unopened => Err(io::Error::from(ErrorKind::NotFound)),
             Output::Nowhere => Ok(buf.len()),
         }
     }
@@ -55,6 +71,8 @@ impl Write for Output {
         match self {
             Output::Results(stdout) => stdout.flush(),
             Output::Status(stderr) => stderr.flush(),
+            Output::Ledger(file) => file.flush(),
+            Output::Unopened => Err(io::Error::from(ErrorKind::NotFound)),
             Output::Nowhere => Ok(()),
         }
     }

@@ -5,15 +5,15 @@ use Rattle.std.specs.List.{list_any}
 use Rattle.std.proofs.lemmas.Bool.Decides.{nat_tests, same_from_decides}
 use Rattle.std.proofs.lemmas.Slice.Eq.{bytes_eq-Decides}
 use Rattle.program_words.specs.declared.name.Name.{Name}
-use Rattle.program_words.specs.declared.name.Name.TheVariants.{Config, Host, Platform, Agent, Text, Audit, Changes, Tables, Start, Step, Ticks, Records, Explain}
+use Rattle.program_words.specs.declared.name.Name.TheVariants.{Config, Host, Platform, Agent, Text, Audit, Changes, Tables, Start, Step, Ticks, Records, Explain, Frames, Ledger}
 use Rattle.program_words.specs.declared.command.CommandName.{CommandName}
-use Rattle.program_words.specs.declared.command.CommandName.TheVariants.{Replay, Query, Check}
-use Rattle.program_words.specs.declared.command.CommandWords.TheVariants.{Replay as AsReplay, Query as AsQuery, Check as AsCheck}
+use Rattle.program_words.specs.declared.command.CommandName.TheVariants.{Replay, Query, Check, Collect}
+use Rattle.program_words.specs.declared.command.CommandWords.TheVariants.{Replay as AsReplay, Query as AsQuery, Check as AsCheck, Collect as AsCollect}
 use Rattle.osq_value.specs.declared.source.SourceKind.{SourceKind}
 use Rattle.osq_value.specs.declared.source.SourceKind.TheVariants.{Audit as AuditLog, Changes as ChangeList, Tables as TableLines}
 use Rattle.program_words.specs.Names.{is_source, place, same_name, takes}
 use Rattle.program_words.specs.Given.{Given, is_named, none_repeats, number_of, number_or, number_taken, repeats, same_value, stands, value_of, value_or}
-use Rattle.program_words.specs.Commands.{are_options, asked_by, check_of, command_with, default_agent, default_platform, has_few_sources, has_required, is_right, query_of, replay_of, required, sources_named, sources_of}
+use Rattle.program_words.specs.Commands.{are_options, asked_by, check_of, collect_of, command_with, default_agent, default_platform, has_few_sources, has_required, is_right, query_of, replay_of, required, sources_named, sources_of}
 use Rattle.program_words.specs.Laws.{AnyOrder}
 use Rattle.program_words.proofs.Swaps.{count_by-swap, filter-swap, find-swap, list_all-same, list_all-swap, list_any-swap}
 
@@ -116,10 +116,15 @@ module _ (front : List Given) (g h : Given) (behind : List Given) (different : s
   check_of-swap =
       cc (value_or-swap [] Config, value_or-swap [] Host, value_or-swap default_platform Platform, value_or-swap default_agent Agent)
 
+  collect_of-swap : collect_of (front ++ g ∷ h ∷ behind) ≡ collect_of (front ++ h ∷ g ∷ behind)
+  unfolding collect_of
+  collect_of-swap = cc (value_or-swap [] Frames, value_or-swap [] Ledger, number_or-swap 1000000 Ticks)
+
   asked_by-swap : (command : CommandName) → asked_by command (front ++ g ∷ h ∷ behind) ≡ asked_by command (front ++ h ∷ g ∷ behind)
   asked_by-swap Replay = ap AsReplay replay_of-swap
   asked_by-swap Query = ap AsQuery query_of-swap
   asked_by-swap Check = ap AsCheck check_of-swap
+  asked_by-swap Collect = ap AsCollect collect_of-swap
 
   has_required-swap : (command : CommandName) → has_required command (front ++ g ∷ h ∷ behind) ≡ has_required command (front ++ h ∷ g ∷ behind)
   unfolding has_required

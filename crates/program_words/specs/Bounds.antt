@@ -1,7 +1,8 @@
 -- What holds of the words of every command.
-use Rattle.std.specs.Prelude.{ℕ, ◌≤◌, ◌<◌, ◌^◌, ◌≢◌, AllPairs, List, length, Option, IfSome}
+use Rattle.std.specs.Prelude.{◌≡◌, ℕ, ◌≤◌, ◌<◌, ◌^◌, ◌≢◌, AllPairs, List, length, Option, IfSome}
+use Rattle.program_words.specs.declared.command.CollectWords.{CollectWords}
 use Rattle.program_words.specs.declared.command.CommandWords.{CommandWords}
-use Rattle.program_words.specs.declared.command.CommandWords.TheVariants.{Replay, Query, Check}
+use Rattle.program_words.specs.declared.command.CommandWords.TheVariants.{Replay, Query, Check, Collect}
 use Rattle.program_words.specs.declared.command.Paths.{Paths}
 use Rattle.osq_value.specs.declared.source.SourceName.{SourceName}
 
@@ -28,10 +29,17 @@ pub record HostBounds (host : List ℕ) : Type 0 where
   pub some_bytes : 1 ≤ length host
   pub bytes_in : length host ≤ 255
 
+-- a collector has one source
+pub record CollectBounds (words : CollectWords) : Type 0 where
+  pub one : length words.sources ≡ 1
+  pub some_ticks : 1 ≤ words.ticks
+  pub ticks_in : words.ticks ≤ 1000000
+
 unfoldable pub IsBounded : CommandWords → Type 0
 IsBounded (Replay words) = RunBounds words.start words.step words.ticks words.records words.sources × HostBounds words.host
 IsBounded (Query words) = RunBounds words.start words.step words.ticks words.records words.sources
 IsBounded (Check words) = HostBounds words.host
+IsBounded (Collect words) = CollectBounds words
 
 unfoldable pub ArePathsBounded : Paths → Type 0
 ArePathsBounded paths = ClockBounds paths.start paths.step × SourceBounds paths.sources

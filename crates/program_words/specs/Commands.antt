@@ -3,14 +3,15 @@ use Rattle.std.specs.Prelude.{ℕ, ◌++◌, ◌&&◌, ◌||◌, not, Bool, byte
 use Rattle.std.specs.List.{list_all, list_any}
 use Rattle.std.specs.Option.{option_map}
 use Rattle.program_words.specs.declared.name.Name.{Name}
-use Rattle.program_words.specs.declared.name.Name.TheVariants.{Config, Host, Platform, Agent, Text, Audit, Changes, Tables, Start, Step, Ticks, Records, Explain}
+use Rattle.program_words.specs.declared.name.Name.TheVariants.{Config, Host, Platform, Agent, Text, Audit, Changes, Tables, Start, Step, Ticks, Records, Explain, Frames, Ledger}
 use Rattle.program_words.specs.declared.command.CommandName.{CommandName}
-use Rattle.program_words.specs.declared.command.CommandName.TheVariants.{Replay as ReplayName, Query as QueryName, Check as CheckName}
+use Rattle.program_words.specs.declared.command.CommandName.TheVariants.{Replay as ReplayName, Query as QueryName, Check as CheckName, Collect as CollectName}
 use Rattle.program_words.specs.declared.command.CommandWords.{CommandWords}
-use Rattle.program_words.specs.declared.command.CommandWords.TheVariants.{Replay, Query, Check}
+use Rattle.program_words.specs.declared.command.CommandWords.TheVariants.{Replay, Query, Check, Collect}
 use Rattle.program_words.specs.declared.command.ReplayWords.{ReplayWords}
 use Rattle.program_words.specs.declared.command.QueryWords.{QueryWords}
 use Rattle.program_words.specs.declared.command.CheckWords.{CheckWords}
+use Rattle.program_words.specs.declared.command.CollectWords.{CollectWords}
 use Rattle.program_words.specs.declared.command.Paths.{Paths}
 use Rattle.osq_value.specs.declared.source.SourceKind.{SourceKind}
 use Rattle.osq_value.specs.declared.source.SourceKind.TheVariants.{Audit as AuditLog, Changes as ChangeList, Tables as TableLines}
@@ -24,19 +25,22 @@ command_named word =
     if bytes_eq word (codes "replay") then Some ReplayName
     else (if bytes_eq word (codes "query") then Some QueryName
     else (if bytes_eq word (codes "check") then Some CheckName
-    else None))
+    else (if bytes_eq word (codes "collect") then Some CollectName
+    else None)))
 
 -- the options that a command must have
 unfoldable pub required : CommandName → List Name
 required ReplayName = Config ∷ Host ∷ []
 required QueryName = Text ∷ []
 required CheckName = Config ∷ Host ∷ []
+required CollectName = Frames ∷ Ledger ∷ []
 
 -- those that it may have
 unfoldable pub optional : CommandName → List Name
 optional ReplayName = Platform ∷ Agent ∷ Audit ∷ Changes ∷ Tables ∷ Start ∷ Step ∷ Ticks ∷ Records ∷ []
 optional QueryName = Config ∷ Audit ∷ Changes ∷ Tables ∷ Start ∷ Step ∷ Ticks ∷ Records ∷ Explain ∷ []
 optional CheckName = Platform ∷ Agent ∷ []
+optional CollectName = Ticks ∷ []
 
 abbrev pub is_one_of : List Name → Name → Bool
 is_one_of names name = list_any (same_name name) names
@@ -111,10 +115,19 @@ check_of gs = record {
   agent = value_or default_agent Agent gs;
 }
 
+-- the stream of frames is the one source
+unfoldable pub collect_of : List Given → CollectWords
+collect_of gs = record {
+  sources = (record { kind = ChangeList; name = value_or [] Frames gs }) ∷ [];
+  ledger = value_or [] Ledger gs;
+  ticks = number_or 1000000 Ticks gs;
+}
+
 abbrev pub asked_by : CommandName → List Given → CommandWords
 asked_by ReplayName gs = Replay (replay_of gs)
 asked_by QueryName gs = Query (query_of gs)
 asked_by CheckName gs = Check (check_of gs)
+asked_by CollectName gs = Collect (collect_of gs)
 
 abbrev pub command_with : List Given → CommandName → Option CommandWords
 command_with gs command = if are_options command gs then Some (asked_by command gs) else None
@@ -135,11 +148,12 @@ words_of [] = None
 words_of (word ∷ words) =
     if has_refused (word ∷ words) then None else option_and_then (command_with (options_of words)) (command_named word)
 
--- the sources that a command names, with the moments of its clock
+-- the sources that a command names, with the moments of its clock and the file that it adds to
 abbrev pub paths_in : CommandWords → Paths
-paths_in (Replay words) = record { sources = words.sources; start = words.start; step = words.step }
-paths_in (Query words) = record { sources = words.sources; start = words.start; step = words.step }
-paths_in (Check words) = record { sources = []; start = None; step = 60 }
+paths_in (Replay words) = record { sources = words.sources; start = words.start; step = words.step; ledger = None }
+paths_in (Query words) = record { sources = words.sources; start = words.start; step = words.step; ledger = None }
+paths_in (Check words) = record { sources = []; start = None; step = 60; ledger = None }
+paths_in (Collect words) = record { sources = words.sources; start = None; step = 60; ledger = Some words.ledger }
 
 abbrev pub paths_of : List (List ℕ) → Option Paths
 paths_of words = option_map paths_in (words_of words)

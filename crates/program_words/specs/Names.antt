@@ -3,7 +3,7 @@ use Rattle.std.specs.Prelude.{ℕ, ◌-◌, ◌^◌, Bool, true, false, bytes_eq
 use Rattle.std.specs.Option.{option_map_or}
 use Rattle.std.specs.List.{find}
 use Rattle.program_words.specs.declared.name.Name.{Name}
-use Rattle.program_words.specs.declared.name.Name.TheVariants.{Config, Host, Platform, Agent, Text, Audit, Changes, Tables, Start, Step, Ticks, Records, Explain, Other}
+use Rattle.program_words.specs.declared.name.Name.TheVariants.{Config, Host, Platform, Agent, Text, Audit, Changes, Tables, Start, Step, Ticks, Records, Explain, Frames, Ledger, Other}
 use Rattle.program_words.specs.declared.name.Takes.{Takes}
 use Rattle.program_words.specs.declared.name.Takes.TheVariants.{Nothing, AnyText, ShortText, Number, Unknown}
 
@@ -12,7 +12,8 @@ unfoldable pub names : List (List ℕ × Name)
 names =
     (codes "config", Config) ∷ (codes "host", Host) ∷ (codes "platform", Platform) ∷ (codes "agent", Agent) ∷ (codes "text", Text)
     ∷ (codes "audit", Audit) ∷ (codes "changes", Changes) ∷ (codes "tables", Tables) ∷ (codes "start", Start) ∷ (codes "step", Step)
-    ∷ (codes "ticks", Ticks) ∷ (codes "records", Records) ∷ (codes "explain", Explain) ∷ []
+    ∷ (codes "ticks", Ticks) ∷ (codes "records", Records) ∷ (codes "explain", Explain)
+    ∷ (codes "frames", Frames) ∷ (codes "ledger", Ledger) ∷ []
 
 -- the name that is spelled so, or Other: no name is shortened
 unfoldable pub name_of : List ℕ → Name
@@ -33,6 +34,8 @@ takes Step = Number 0 604800
 takes Ticks = Number 1 1000000
 takes Records = Number 1 1000000
 takes Explain = Nothing
+takes Frames = AnyText
+takes Ledger = AnyText
 takes Other = Unknown
 
 -- an option that names a source
@@ -57,7 +60,9 @@ place Step = 9
 place Ticks = 10
 place Records = 11
 place Explain = 12
-place Other = 13
+place Frames = 13
+place Ledger = 14
+place Other = 15
 
 abbrev pub same_name : Name → Name → Bool
 same_name a b = nat_eq (place a) (place b)

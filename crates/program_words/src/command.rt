@@ -17,6 +17,7 @@ pub(crate) enum CommandName {
     Replay,
     Query,
     Check,
+    Collect,
 }
 
 impl CommandName {
@@ -29,6 +30,7 @@ impl CommandName {
             "replay" => Some(CommandName::Replay),
             "query" => Some(CommandName::Query),
             "check" => Some(CommandName::Check),
+            "collect" => Some(CommandName::Collect),
             _ => None,
         }
     }
@@ -42,6 +44,7 @@ impl CommandName {
             CommandName::Replay => &[Name::Config, Name::Host],
             CommandName::Query => &[Name::Text],
             CommandName::Check => &[Name::Config, Name::Host],
+            CommandName::Collect => &[Name::Frames, Name::Ledger],
         }
     }
 
@@ -74,6 +77,7 @@ impl CommandName {
                 Name::Explain,
             ],
             CommandName::Check => &[Name::Platform, Name::Agent],
+            CommandName::Collect => &[Name::Ticks],
         }
     }
 
@@ -106,7 +110,7 @@ impl CommandName {
     }
 
     /// How many sources the command reads with these options.
-    #[tactic(auto, unfolding(crate::specs::Commands::replay_of, crate::specs::Commands::query_of))]
+    #[tactic(auto, unfolding(crate::specs::Commands::replay_of, crate::specs::Commands::query_of, crate::specs::Commands::collect_of))]
     pub(crate) fn count_sources(self, options: OptionWords<'_, '_>) -> usize
         requires few { has_few_sources (options_in options) ≡ true }
         ensures { result ≡ sources_in (asked_by self (options_in options.entry)) }
@@ -114,6 +118,7 @@ impl CommandName {
         match self {
             CommandName::Replay | CommandName::Query => options.count_sources().unwrap_or(0),
             CommandName::Check => 0,
+            CommandName::Collect => 1,
         }
     }
 
@@ -187,6 +192,17 @@ pub struct CheckWords {
     pub agent: Str,
 }
 
+/// The words of a collector.
+#[derive(Drop)]
+pub struct CollectWords {
+    /// The stream of frames, as the one source.
+    pub sources: SourceNameList,
+    /// The path of the ledger's file.
+    pub ledger: Str,
+    /// How many rounds over the stream there are at most.
+    pub ticks: u64,
+}
+
 /// The words of a command.
 #[derive(Drop)]
 pub enum CommandWords {
@@ -196,17 +212,21 @@ pub enum CommandWords {
     Query(QueryWords),
     /// Looks at a configuration.
     Check(CheckWords),
+    /// Records frames, and answers them.
+    Collect(CollectWords),
 }
 
-/// What the program opens for a command: its sources, and its clock.
+/// What the program opens for a command: its sources, its clock, and the file that a ledger is added to.
 #[derive(Drop)]
 pub struct Paths {
-    /// The sources, in the order audit, changes, tables, each in the order of the words.
+    /// The sources, in the order audit, changes, tables, each in the order of the words; for a collector its one stream of frames.
     pub sources: SourceNameList,
     /// The clock's first reading, where it isn't the machine's clock.
     pub start: Option<u64>,
     /// Seconds between two readings of that clock.
     pub step: u64,
+    /// The path of the ledger's file, where the command adds to one.
+    pub ledger: Option<Str>,
 }
 
 impl CommandWords {
@@ -219,16 +239,25 @@ impl CommandWords {
                 sources: words.sources,
                 start: words.start,
                 step: words.step,
+                ledger: None,
             },
             CommandWords::Query(words) => Paths {
                 sources: words.sources,
                 start: words.start,
                 step: words.step,
+                ledger: None,
             },
             CommandWords::Check(_) => Paths {
                 sources: Sequence::new(alloc),
                 start: None,
                 step: 60,
+                ledger: None,
+            },
+            CommandWords::Collect(words) => Paths {
+                sources: words.sources,
+                start: None,
+                step: 60,
+                ledger: Some(words.ledger),
             },
         }
     }
@@ -241,6 +270,7 @@ impl CommandWords {
             CommandWords::Replay(words) => words.sources.len(),
             CommandWords::Query(words) => words.sources.len(),
             CommandWords::Check(_) => 0,
+            CommandWords::Collect(words) => words.sources.len(),
         }
     }
 }

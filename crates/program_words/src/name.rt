@@ -20,6 +20,8 @@ pub(crate) enum Name {
     Ticks,
     Records,
     Explain,
+    Frames,
+    Ledger,
     /// The name of no option.
     Other,
 }
@@ -59,6 +61,8 @@ impl Name {
             "ticks" => Name::Ticks,
             "records" => Name::Records,
             "explain" => Name::Explain,
+            "frames" => Name::Frames,
+            "ledger" => Name::Ledger,
             _ => Name::Other,
         }
     }
@@ -74,7 +78,9 @@ impl Name {
             | Name::Text
             | Name::Audit
             | Name::Changes
-            | Name::Tables => Takes::AnyText,
+            | Name::Tables
+            | Name::Frames
+            | Name::Ledger => Takes::AnyText,
             Name::Host => Takes::ShortText,
             Name::Start => Takes::Number(0, i64::MAX as u64),
             Name::Step => Takes::Number(0, 604800),

@@ -3,14 +3,16 @@
 ghost use Rattle.std.specs.Option.{option_map};
 ghost use Rattle.std.specs.Prelude.{◌≡◌, ◌↔◌, IfOk, IfSome, MatchOption, None, Some, Err, map, true};
 ghost use Rattle.program_words.specs.Bounds.{ArePathsBounded, IsBounded};
-ghost use Rattle.program_words.specs.Commands.{asked_by, check_of, has_few_sources, has_refused, is_refused, paths_of, query_of, replay_of, sources_in, sources_of, words_of};
+ghost use Rattle.program_words.specs.Commands.{asked_by, check_of, collect_of, has_few_sources, has_refused, is_refused, paths_of, query_of, replay_of, sources_in, sources_of, words_of};
 ghost use Rattle.program_words.specs.Left.{options_in};
 
-use crate::command::{CheckWords, CommandName, CommandWords, Paths, QueryWords, ReplayWords};
+use crate::command::{
+    CheckWords, CollectWords, CommandName, CommandWords, Paths, QueryWords, ReplayWords,
+};
 use crate::error::WordsError;
 use crate::name::Name;
 use crate::options::OptionWords;
-use osq_value::{NoMemory, Sequence, SourceKind, SourceNameList};
+use osq_value::{NoMemory, Sequence, SourceKind, SourceName, SourceNameList};
 use std::alloc::Global;
 
 /// The platform of a host for which none is given.
@@ -24,6 +26,9 @@ const STEP: u64 = 60;
 
 /// The most records of one step of a source.
 const RECORDS: u64 = 10000;
+
+/// The most rounds of a command that only reads on.
+const ROUNDS: u64 = 1000000;
 
 /// The word is refused wherever it stands.
 #[tactic(auto, unfolding(crate::specs::Commands::is_refused, crate::specs::Commands::refused))]
@@ -97,7 +102,7 @@ fn query_of(alloc: Global, options: OptionWords<'_, '_>) -> Result<QueryWords, N
         sources: sources_of(alloc, options)?,
         start: options.number_of(Name::Start),
         step: options.number_or(STEP, Name::Step),
-        ticks: options.number_or(1000000, Name::Ticks),
+        ticks: options.number_or(ROUNDS, Name::Ticks),
         records: options.number_or(RECORDS, Name::Records),
         explain: options.stands(Name::Explain),
     })
@@ -115,6 +120,22 @@ fn check_of(alloc: Global, options: OptionWords<'_, '_>) -> Result<CheckWords, N
     })
 }
 
+#[tactic(auto, unfolding(crate::specs::Commands::collect_of))]
+fn collect_of(alloc: Global, options: OptionWords<'_, '_>) -> Result<CollectWords, NoMemory>
+    ensures { IfOk result (λ words. words ≡ collect_of (options_in options.entry)) }
+{
+    let mut sources = Sequence::new(alloc);
+    sources.push(SourceName {
+        kind: SourceKind::Changes,
+        name: options.text_or(alloc, "", Name::Frames)?,
+    })?;
+    Ok(CollectWords {
+        sources,
+        ledger: options.text_or(alloc, "", Name::Ledger)?,
+        ticks: options.number_or(ROUNDS, Name::Ticks),
+    })
+}
+
 fn asked_by(
     alloc: Global,
     command: CommandName,
@@ -126,6 +147,7 @@ fn asked_by(
         CommandName::Replay => Ok(CommandWords::Replay(replay_of(alloc, options)?)),
         CommandName::Query => Ok(CommandWords::Query(query_of(alloc, options)?)),
         CommandName::Check => Ok(CommandWords::Check(check_of(alloc, options)?)),
+        CommandName::Collect => Ok(CommandWords::Collect(collect_of(alloc, options)?)),
     }
 }
 

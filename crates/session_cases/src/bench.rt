@@ -55,6 +55,7 @@ fn prepare(alloc: Global, outside: &mut Memory, given: Given<'_>) -> Result<(), 
     outside.sources = given.sources(alloc)?;
     outside.results = given.sink(alloc, "results")?;
     outside.status = given.sink(alloc, "status")?;
+    outside.ledger = given.sink(alloc, "ledger")?;
     outside.files = given.files(alloc)?;
     outside.clock = StepClock {
         next: given.number("start"),

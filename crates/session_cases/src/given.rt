@@ -24,7 +24,7 @@ pub(crate) const KEYS: [&str; 10] = [
 ];
 
 /// The objects whose calls may fail.
-const OBJECTS: [&str; 4] = ["files", "keeper", "results", "status"];
+const OBJECTS: [&str; 5] = ["files", "keeper", "results", "status", "ledger"];
 
 /// The first member of an object that is none of these.
 fn odd_member<'a>(item: &'a Json, keys: &[&str]) -> Option<&'a str> {

@@ -1,7 +1,7 @@
 //! Commands as text.
 
 use osq_value::{NoMemory, SourceKind, SourceNameList};
-use program_words::{CheckWords, CommandWords, Paths, QueryWords, ReplayWords};
+use program_words::{CheckWords, CollectWords, CommandWords, Paths, QueryWords, ReplayWords};
 
 /// The most sources that are named.
 const MOST: usize = 8;
@@ -83,12 +83,23 @@ fn push_check(text: &mut String, words: &CheckWords) -> Result<(), NoMemory> {
     )
 }
 
+fn push_collect(text: &mut String, words: &CollectWords) -> Result<(), NoMemory> {
+    write!(
+        text,
+        "collect ledger {} ticks {}",
+        words.ledger.as_str(),
+        words.ticks
+    )?;
+    push_sources(text, &words.sources)
+}
+
 /// Adds a command, without an end of the line.
 pub(crate) fn push_command(text: &mut String, command: &CommandWords) -> Result<(), NoMemory> {
     match command {
         CommandWords::Replay(words) => push_replay(text, words),
         CommandWords::Query(words) => push_query(text, words),
         CommandWords::Check(words) => push_check(text, words),
+        CommandWords::Collect(words) => push_collect(text, words),
     }
 }
 
@@ -111,6 +122,9 @@ pub(crate) fn push_paths(text: &mut String, paths: &Paths) -> Result<(), NoMemor
     text.push_str("opens")?;
     push_clock(text, paths.start, paths.step)?;
     push_sources(text, &paths.sources)?;
+    if let Some(ledger) = &paths.ledger {
+        write!(text, " ledger {}", ledger.as_str())?;
+    }
     text.push_str("\n")?;
     Ok(())
 }

@@ -9,3 +9,7 @@ run_replay-requires-clause-bounded g c κs within = (subst IsBounded c.in-Replay
 pub do_query-requires-clause-bounded : goal.do_query-requires-clause-bounded
 unfolding IsBounded
 do_query-requires-clause-bounded g c κs within = subst IsBounded c.in-Query.is c.requires.bounded
+
+pub run_collect-requires-clause-bounded : goal.run_collect-requires-clause-bounded
+unfolding IsBounded
+run_collect-requires-clause-bounded g c κs within = subst IsBounded c.in-Collect.is c.requires.bounded

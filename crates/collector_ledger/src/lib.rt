@@ -1,0 +1,8 @@
+//! The file of a collector's ledger: the lines of the recorded frames.
+#![tactic(auto)]
+
+pub mod file;
+pub mod opened;
+
+pub use file::ledger_of;
+pub use opened::{OpenedLedger, open_ledger};
