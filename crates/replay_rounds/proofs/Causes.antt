@@ -1,5 +1,6 @@
 -- Why a run was refused.
-use Rattle.std.proofs.Common.{◌≡◌, ◌≢◌, ℕ, List, refl}
+use Rattle.std.proofs.Common.{◌≡◌, ◌≢◌, ℕ, List, Err, refl}
+use Rattle.std.specs.Prelude.{Result}
 use Rattle.daemon_rounds.specs.declared.error.FinishError.{FinishError}
 use Rattle.daemon_rounds.specs.declared.error.FinishError.TheVariants as finish
 use Rattle.daemon_rounds.specs.declared.error.OpenError.{OpenError}
@@ -10,6 +11,7 @@ use Rattle.entry_model.specs.declared.entry.Entry.{Entry}
 use Rattle.replay_rounds.specs.Fixed.{Fixed}
 use Rattle.replay_rounds.specs.Refusals.{unfilled_by, unfinished_by, unopened_by}
 use Rattle.replay_rounds.specs.Running.{IsWritten}
+use Rattle.replay_rounds.specs.declared.refused.Refused.{Refused}
 use Rattle.replay_rounds.specs.declared.refused.RunError.{RunError}
 use Rattle.replay_rounds.specs.declared.refused.RunError.TheVariants as run
 
@@ -114,3 +116,7 @@ by_sink (run.SourceFault place) x kept written fault other = other (λ h. cc)
 by_sink (run.SourceShrank place old found) x kept written fault other = other (λ h. cc)
 by_sink run.NumbersSpent x kept written fault other = other (λ h. cc)
 by_sink run.NoMemory x kept written fault other = other (λ h. cc)
+
+-- what is answered is the refusal
+pub same_refusal : {A : Type 0} (x y : Refused) → ◌≡◌ {A = Result A Refused} (Err x) (Err y) → x ≡ y
+same_refusal x y h = cc

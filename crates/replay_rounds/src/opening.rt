@@ -30,6 +30,15 @@ fn numbers_in(restored: &Restored) -> Numbers {
     }
 }
 
+/// What a session that was opened is refused with, where what is to be told of its configuration isn't written. The session ends.
+fn unwritten<O: Sink>(alloc: Global, session: Session, status: &mut O, refused: Refused) -> Refused
+    ensures same { result ≡ refused }
+    ensures grown { O.tells → IsGrown (O.written status.old) (O.written status.new) }
+    ensures later { O.faults status.old ≤ O.faults status.new }
+{
+    told(alloc, session.feeds.as_slice(), status, refused)
+}
+
 /// Opens a session over the values of a kept list, and writes what is to be told of its configuration. No two sources have one name.
 pub(crate) fn open_noted<S: Source, C: Clock, O: Sink>(
     alloc: Global,
@@ -71,9 +80,6 @@ pub(crate) fn open_noted<S: Source, C: Clock, O: Sink>(
         session.configured_at,
     ) {
         Ok(()) => Ok(session),
-        Err(error) => {
-            let feeds = session.feeds.as_slice();
-            Err(told(alloc, feeds, status, unnoted(error, kept)))
-        }
+        Err(error) => Err(unwritten(alloc, session, status, unnoted(error, kept))),
     }
 }

@@ -18,4 +18,4 @@ returns-in-Err-clause-spent g c refused is error =
 
 pub returns-in-Err-write_notes-clause-grown : goal.returns-in-Err-write_notes-clause-grown
 returns-in-Err-write_notes-clause-grown g c tells =
-    grown_then _ _ _ (c.write_notes.ensures.grown tells) (c.told.ensures.grown tells)
+    grown_then _ _ _ (c.write_notes.ensures.grown tells) (c.unwritten.ensures.grown tells)

@@ -8,7 +8,7 @@ use Rattle.replay_rounds.specs.Fixed.{fixed_of}
 use Rattle.replay_rounds.specs.Noting.{IsBetween}
 use Rattle.replay_rounds.specs.Running.{IsWritten, ReadsAll}
 use Rattle.replay_rounds.specs.declared.refused.Refused.{Refused}
-use Rattle.replay_rounds.proofs.Causes.{by_sink}
+use Rattle.replay_rounds.proofs.Causes.{by_sink, same_refusal}
 use Rattle.replay_rounds.proofs.Done.{has_run}
 use Rattle.replay_rounds.proofs.Grown.{grown_then, of_error, of_value}
 use Rattle.replay_rounds.proofs.Looping.{goes_on_here, grown_of, kept_first, kept_on, looped_first, looped_on, opens_here, partly_first, partly_on, still_written, written_on}
@@ -36,23 +36,23 @@ returns-in-Err-open_noted-clause-written g c told =
 
 pub returns-in-Err-open_noted-clause-moment : goal.returns-in-Err-open_noted-clause-moment
 returns-in-Err-open_noted-clause-moment g c refused moment is error =
-    let same : c.in-Err-open_noted.refused ≡ refused = (cc) in
+    let same : c.in-Err-open_noted.refused ≡ refused = same_refusal _ _ is in
     let (read, beyond) = c.open_noted.ensures.moment c.in-Err-open_noted.refused moment c.in-Err-open_noted.is (ap (λ (r : Refused). r.error) same ∙ error) in
     (beyond, ([], (c.open_noted.new.clock, read, refl)))
 
 pub returns-in-Err-open_noted-clause-fault : goal.returns-in-Err-open_noted-clause-fault
 returns-in-Err-open_noted-clause-fault g c refused place is error =
-    let same : c.in-Err-open_noted.refused ≡ refused = (cc) in
+    let same : c.in-Err-open_noted.refused ≡ refused = same_refusal _ _ is in
     c.open_noted.ensures.fault c.in-Err-open_noted.refused place c.in-Err-open_noted.is (ap (λ (r : Refused). r.error) same ∙ error)
 
 pub returns-in-Err-open_noted-clause-shrank : goal.returns-in-Err-open_noted-clause-shrank
 returns-in-Err-open_noted-clause-shrank g c refused place kept found is error =
-    let same : c.in-Err-open_noted.refused ≡ refused = (cc) in
+    let same : c.in-Err-open_noted.refused ≡ refused = same_refusal _ _ is in
     (c.in-Ok.restored.taken, λ tells. ap (λ (r : Restored). r.taken) (c.in-Ok.ensures.value tells), c.open_noted.ensures.shrank c.in-Err-open_noted.refused place kept found c.in-Err-open_noted.is (ap (λ (r : Refused). r.error) same ∙ error))
 
 pub returns-in-Err-open_noted-clause-spent : goal.returns-in-Err-open_noted-clause-spent
 returns-in-Err-open_noted-clause-spent g c refused is error =
-    let same : c.in-Err-open_noted.refused ≡ refused = (cc) in
+    let same : c.in-Err-open_noted.refused ≡ refused = same_refusal _ _ is in
     let (reading, read) = c.in-Err-open_noted.ensures.read in
     spent_nowhere g.K.Keeper.tells g.O.Sink.tells g.S.Source.tells g.S.Source.left g.S.Source.faults c.args.setup.now c.args.configured.now.config c.args.configured.now.documents c.args.sources.now (g.K.Keeper.kept c.args.keeper.now) (g.O.Sink.written c.args.results.now) g.C.Clock.reads c.args.clock.now c.open_noted.new.clock reading c.in-Ok.restored (g.K.Keeper.kept c.load_values.new.keeper) c.open_noted.new.sources read c.in-Ok.ensures.value c.in-Ok.ensures.same c.requires.distinct (c.open_noted.ensures.spent c.in-Err-open_noted.refused c.in-Err-open_noted.is (ap (λ (r : Refused). r.error) same ∙ error))
 
@@ -78,29 +78,29 @@ returns-in-Err-take_tick-clause-written g c told =
 
 pub returns-in-Err-take_tick-clause-keeper_cause : goal.returns-in-Err-take_tick-clause-keeper_cause
 returns-in-Err-take_tick-clause-keeper_cause g c refused is error =
-    let same : c.in-Err-take_tick.refused ≡ refused = (cc) in
+    let same : c.in-Err-take_tick.refused ≡ refused = sym c.told.ensures.same ∙ same_refusal _ _ is in
     let rose = c.take_tick.ensures.keeper_cause c.in-Err-take_tick.refused c.in-Err-take_tick.is (ap (λ (r : Refused). r.error) same ∙ error) in
     let loaded = c.load_values.ensures.later in
     omega (arith, rose, loaded)
 
 pub returns-in-Err-take_tick-clause-refused : goal.returns-in-Err-take_tick-clause-refused
 returns-in-Err-take_tick-clause-refused g c told refused is error fits =
-    let same : c.in-Err-take_tick.refused ≡ refused = (cc) in
+    let same : c.in-Err-take_tick.refused ≡ refused = sym c.told.ensures.same ∙ same_refusal _ _ is in
     (c.take_tick.ensures.opened c.in-Err-take_tick.refused c.in-Err-take_tick.is).0 (ap (λ (r : Refused). r.error) same ∙ error)
 
 pub returns-in-Err-take_tick-clause-illegal : goal.returns-in-Err-take_tick-clause-illegal
 returns-in-Err-take_tick-clause-illegal g c told refused is error legal =
-    let same : c.in-Err-take_tick.refused ≡ refused = (cc) in
+    let same : c.in-Err-take_tick.refused ≡ refused = sym c.told.ensures.same ∙ same_refusal _ _ is in
     (c.take_tick.ensures.opened c.in-Err-take_tick.refused c.in-Err-take_tick.is).0 (ap (λ (r : Refused). r.error) same ∙ error)
 
 pub returns-in-Err-take_tick-clause-moment : goal.returns-in-Err-take_tick-clause-moment
 returns-in-Err-take_tick-clause-moment g c refused moment is error =
-    let same : c.in-Err-take_tick.refused ≡ refused = (cc) in
+    let same : c.in-Err-take_tick.refused ≡ refused = sym c.told.ensures.same ∙ same_refusal _ _ is in
     absurd ((c.take_tick.ensures.opened c.in-Err-take_tick.refused c.in-Err-take_tick.is).1 moment (ap (λ (r : Refused). r.error) same ∙ error))
 
 pub returns-in-Err-take_tick-clause-fault : goal.returns-in-Err-take_tick-clause-fault
 returns-in-Err-take_tick-clause-fault g c refused place is error =
-    let same : c.in-Err-take_tick.refused ≡ refused = (cc) in
+    let same : c.in-Err-take_tick.refused ≡ refused = sym c.told.ensures.same ∙ same_refusal _ _ is in
     let failed = c.take_tick.ensures.fault c.in-Err-take_tick.refused place c.in-Err-take_tick.is (ap (λ (r : Refused). r.error) same ∙ error) in
     let kept_is = c.in-Ok.ensures.same in
     let opens = opens_here g.K.Keeper.tells g.O.Sink.tells g.S.Source.tells g.S.Source.left g.S.Source.faults c.args.setup.now c.args.configured.now.config c.args.configured.now.documents c.args.sources.now (g.K.Keeper.kept c.args.keeper.now) (g.O.Sink.written c.args.results.now) g.C.Clock.reads c.args.clock.now c.open_noted.new.clock c.in-Ok.restored (g.K.Keeper.kept c.load_values.new.keeper) c.in-Ok-open_noted.session.feeds.items c.as_mut_slice-feeds.result.now c.open_noted.new.sources c.in-Ok-open_noted.session.configured_at c.in-Ok-open_noted.session.state c.in-Ok.ensures.value kept_is c.requires.distinct c.in-Ok-open_noted.ensures.opened c.as_mut_slice-feeds.ensures.value in
@@ -109,12 +109,12 @@ returns-in-Err-take_tick-clause-fault g c refused place is error =
 
 pub returns-in-Err-take_tick-clause-shrank : goal.returns-in-Err-take_tick-clause-shrank
 returns-in-Err-take_tick-clause-shrank g c refused place kept found is error =
-    let same : c.in-Err-take_tick.refused ≡ refused = (cc) in
+    let same : c.in-Err-take_tick.refused ≡ refused = sym c.told.ensures.same ∙ same_refusal _ _ is in
     absurd ((c.take_tick.ensures.opened c.in-Err-take_tick.refused c.in-Err-take_tick.is).2 place kept found (ap (λ (r : Refused). r.error) same ∙ error))
 
 pub returns-in-Err-take_tick-clause-spent : goal.returns-in-Err-take_tick-clause-spent
 returns-in-Err-take_tick-clause-spent g c refused is error =
-    let same : c.in-Err-take_tick.refused ≡ refused = (cc) in
+    let same : c.in-Err-take_tick.refused ≡ refused = sym c.told.ensures.same ∙ same_refusal _ _ is in
     let why = ap (λ (r : Refused). r.error) same ∙ error in
     let kept_is = c.in-Ok.ensures.same in
     let opens = opens_here g.K.Keeper.tells g.O.Sink.tells g.S.Source.tells g.S.Source.left g.S.Source.faults c.args.setup.now c.args.configured.now.config c.args.configured.now.documents c.args.sources.now (g.K.Keeper.kept c.args.keeper.now) (g.O.Sink.written c.args.results.now) g.C.Clock.reads c.args.clock.now c.open_noted.new.clock c.in-Ok.restored (g.K.Keeper.kept c.load_values.new.keeper) c.in-Ok-open_noted.session.feeds.items c.as_mut_slice-feeds.result.now c.open_noted.new.sources c.in-Ok-open_noted.session.configured_at c.in-Ok-open_noted.session.state c.in-Ok.ensures.value kept_is c.requires.distinct c.in-Ok-open_noted.ensures.opened c.as_mut_slice-feeds.ensures.value in
@@ -124,7 +124,7 @@ returns-in-Err-take_tick-clause-spent g c refused is error =
 
 pub returns-in-Err-take_tick-clause-sink_cause : goal.returns-in-Err-take_tick-clause-sink_cause
 returns-in-Err-take_tick-clause-sink_cause g c refused is error =
-    let same : c.in-Err-take_tick.refused ≡ refused = (cc) in
+    let same : c.in-Err-take_tick.refused ≡ refused = sym c.told.ensures.same ∙ same_refusal _ _ is in
     inl (c.take_tick.ensures.sink_cause c.in-Err-take_tick.refused c.in-Err-take_tick.is (ap (λ (r : Refused). r.error) same ∙ error))
 
 pub returns-in-Err-take_tick-clause-notes : goal.returns-in-Err-take_tick-clause-notes
@@ -163,44 +163,44 @@ returns-in-Err-next_moment-clause-written g c told =
 
 pub returns-in-Err-next_moment-clause-keeper_cause : goal.returns-in-Err-next_moment-clause-keeper_cause
 returns-in-Err-next_moment-clause-keeper_cause g c refused is error =
-    let same : c.in-Err-next_moment.refused ≡ refused = (cc) in
+    let same : c.in-Err-next_moment.refused ≡ refused = sym c.told-in-Err-next_moment.ensures.same ∙ same_refusal _ _ is in
     absurd (subst (IsBetween _ _) (ap (λ (r : Refused). r.error) same ∙ error) c.in-Err-next_moment.ensures.cause)
 
 pub returns-in-Err-next_moment-clause-refused : goal.returns-in-Err-next_moment-clause-refused
 returns-in-Err-next_moment-clause-refused g c told refused is error =
-    let same : c.in-Err-next_moment.refused ≡ refused = (cc) in
+    let same : c.in-Err-next_moment.refused ≡ refused = sym c.told-in-Err-next_moment.ensures.same ∙ same_refusal _ _ is in
     absurd (subst (IsBetween _ _) (ap (λ (r : Refused). r.error) same ∙ error) c.in-Err-next_moment.ensures.cause)
 
 pub returns-in-Err-next_moment-clause-illegal : goal.returns-in-Err-next_moment-clause-illegal
 returns-in-Err-next_moment-clause-illegal g c told refused is error =
-    let same : c.in-Err-next_moment.refused ≡ refused = (cc) in
+    let same : c.in-Err-next_moment.refused ≡ refused = sym c.told-in-Err-next_moment.ensures.same ∙ same_refusal _ _ is in
     absurd (subst (IsBetween _ _) (ap (λ (r : Refused). r.error) same ∙ error) c.in-Err-next_moment.ensures.cause)
 
 pub returns-in-Err-next_moment-clause-moment : goal.returns-in-Err-next_moment-clause-moment
 returns-in-Err-next_moment-clause-moment g c refused moment is error =
-    let same : c.in-Err-next_moment.refused ≡ refused = (cc) in
+    let same : c.in-Err-next_moment.refused ≡ refused = sym c.told-in-Err-next_moment.ensures.same ∙ same_refusal _ _ is in
     let (read, beyond) = subst (IsBetween _ _) (ap (λ (r : Refused). r.error) same ∙ error) c.in-Err-next_moment.ensures.cause in
     let r = c.loop.invariant.looping.running.added in
     (beyond, (r.reading ∷ r.readings, reads_more g.C.Clock.reads c.args.clock.now c.loop.clock c.next_moment.new.clock (r.reading ∷ r.readings) moment r.read read))
 
 pub returns-in-Err-next_moment-clause-fault : goal.returns-in-Err-next_moment-clause-fault
 returns-in-Err-next_moment-clause-fault g c refused place is error =
-    let same : c.in-Err-next_moment.refused ≡ refused = (cc) in
+    let same : c.in-Err-next_moment.refused ≡ refused = sym c.told-in-Err-next_moment.ensures.same ∙ same_refusal _ _ is in
     absurd (subst (IsBetween _ _) (ap (λ (r : Refused). r.error) same ∙ error) c.in-Err-next_moment.ensures.cause)
 
 pub returns-in-Err-next_moment-clause-shrank : goal.returns-in-Err-next_moment-clause-shrank
 returns-in-Err-next_moment-clause-shrank g c refused place kept found is error =
-    let same : c.in-Err-next_moment.refused ≡ refused = (cc) in
+    let same : c.in-Err-next_moment.refused ≡ refused = sym c.told-in-Err-next_moment.ensures.same ∙ same_refusal _ _ is in
     absurd (subst (IsBetween _ _) (ap (λ (r : Refused). r.error) same ∙ error) c.in-Err-next_moment.ensures.cause)
 
 pub returns-in-Err-next_moment-clause-spent : goal.returns-in-Err-next_moment-clause-spent
 returns-in-Err-next_moment-clause-spent g c refused is error =
-    let same : c.in-Err-next_moment.refused ≡ refused = (cc) in
+    let same : c.in-Err-next_moment.refused ≡ refused = sym c.told-in-Err-next_moment.ensures.same ∙ same_refusal _ _ is in
     absurd (subst (IsBetween _ _) (ap (λ (r : Refused). r.error) same ∙ error) c.in-Err-next_moment.ensures.cause)
 
 pub returns-in-Err-next_moment-clause-sink_cause : goal.returns-in-Err-next_moment-clause-sink_cause
 returns-in-Err-next_moment-clause-sink_cause g c refused is error =
-    let same : c.in-Err-next_moment.refused ≡ refused = (cc) in
+    let same : c.in-Err-next_moment.refused ≡ refused = sym c.told-in-Err-next_moment.ensures.same ∙ same_refusal _ _ is in
     let rose = subst (IsBetween _ _) (ap (λ (r : Refused). r.error) same ∙ error) c.in-Err-next_moment.ensures.cause in
     let before = c.loop.invariant.status_later in
     let behind = c.told-in-Err-next_moment.ensures.later in
@@ -237,14 +237,14 @@ returns-in-Err-take_tick-2-clause-written g c told =
 
 pub returns-in-Err-take_tick-2-clause-keeper_cause : goal.returns-in-Err-take_tick-2-clause-keeper_cause
 returns-in-Err-take_tick-2-clause-keeper_cause g c refused is error =
-    let same : c.in-Err-take_tick-2.refused ≡ refused = (cc) in
+    let same : c.in-Err-take_tick-2.refused ≡ refused = sym c.told-in-Err-take_tick-2.ensures.same ∙ same_refusal _ _ is in
     let rose = c.take_tick-in-loop.ensures.keeper_cause c.in-Err-take_tick-2.refused c.in-Err-take_tick-2.is (ap (λ (r : Refused). r.error) same ∙ error) in
     let before = c.loop.invariant.keeper_later in
     omega (arith, rose, before)
 
 pub returns-in-Err-take_tick-2-clause-sink_cause : goal.returns-in-Err-take_tick-2-clause-sink_cause
 returns-in-Err-take_tick-2-clause-sink_cause g c refused is error =
-    let same : c.in-Err-take_tick-2.refused ≡ refused = (cc) in
+    let same : c.in-Err-take_tick-2.refused ≡ refused = sym c.told-in-Err-take_tick-2.ensures.same ∙ same_refusal _ _ is in
     let rose = c.take_tick-in-loop.ensures.sink_cause c.in-Err-take_tick-2.refused c.in-Err-take_tick-2.is (ap (λ (r : Refused). r.error) same ∙ error) in
     let before = c.loop.invariant.results_later in
     inl (omega (arith, rose, before))
@@ -255,33 +255,33 @@ returns-in-Err-take_tick-2-clause-notes g c tells =
 
 pub returns-in-Err-take_tick-2-clause-refused : goal.returns-in-Err-take_tick-2-clause-refused
 returns-in-Err-take_tick-2-clause-refused g c told refused is error fits =
-    let same : c.in-Err-take_tick-2.refused ≡ refused = (cc) in
+    let same : c.in-Err-take_tick-2.refused ≡ refused = sym c.told-in-Err-take_tick-2.ensures.same ∙ same_refusal _ _ is in
     (c.take_tick-in-loop.ensures.opened c.in-Err-take_tick-2.refused c.in-Err-take_tick-2.is).0 (ap (λ (r : Refused). r.error) same ∙ error)
 
 pub returns-in-Err-take_tick-2-clause-illegal : goal.returns-in-Err-take_tick-2-clause-illegal
 returns-in-Err-take_tick-2-clause-illegal g c told refused is error legal =
-    let same : c.in-Err-take_tick-2.refused ≡ refused = (cc) in
+    let same : c.in-Err-take_tick-2.refused ≡ refused = sym c.told-in-Err-take_tick-2.ensures.same ∙ same_refusal _ _ is in
     (c.take_tick-in-loop.ensures.opened c.in-Err-take_tick-2.refused c.in-Err-take_tick-2.is).0 (ap (λ (r : Refused). r.error) same ∙ error)
 
 pub returns-in-Err-take_tick-2-clause-moment : goal.returns-in-Err-take_tick-2-clause-moment
 returns-in-Err-take_tick-2-clause-moment g c refused moment is error =
-    let same : c.in-Err-take_tick-2.refused ≡ refused = (cc) in
+    let same : c.in-Err-take_tick-2.refused ≡ refused = sym c.told-in-Err-take_tick-2.ensures.same ∙ same_refusal _ _ is in
     absurd ((c.take_tick-in-loop.ensures.opened c.in-Err-take_tick-2.refused c.in-Err-take_tick-2.is).1 moment (ap (λ (r : Refused). r.error) same ∙ error))
 
 pub returns-in-Err-take_tick-2-clause-fault : goal.returns-in-Err-take_tick-2-clause-fault
 returns-in-Err-take_tick-2-clause-fault g c refused place is error =
-    let same : c.in-Err-take_tick-2.refused ≡ refused = (cc) in
+    let same : c.in-Err-take_tick-2.refused ≡ refused = sym c.told-in-Err-take_tick-2.ensures.same ∙ same_refusal _ _ is in
     let failed = c.take_tick-in-loop.ensures.fault c.in-Err-take_tick-2.refused place c.in-Err-take_tick-2.is (ap (λ (r : Refused). r.error) same ∙ error) in
     fails_since g.S.Source.faults place c.args.sources.now c.loop.sources c.take_tick-in-loop.new.sources c.loop.invariant.looping.later failed
 
 pub returns-in-Err-take_tick-2-clause-shrank : goal.returns-in-Err-take_tick-2-clause-shrank
 returns-in-Err-take_tick-2-clause-shrank g c refused place kept found is error =
-    let same : c.in-Err-take_tick-2.refused ≡ refused = (cc) in
+    let same : c.in-Err-take_tick-2.refused ≡ refused = sym c.told-in-Err-take_tick-2.ensures.same ∙ same_refusal _ _ is in
     absurd ((c.take_tick-in-loop.ensures.opened c.in-Err-take_tick-2.refused c.in-Err-take_tick-2.is).2 place kept found (ap (λ (r : Refused). r.error) same ∙ error))
 
 pub returns-in-Err-take_tick-2-clause-spent : goal.returns-in-Err-take_tick-2-clause-spent
 returns-in-Err-take_tick-2-clause-spent g c refused is error =
-    let same : c.in-Err-take_tick-2.refused ≡ refused = (cc) in
+    let same : c.in-Err-take_tick-2.refused ≡ refused = sym c.told-in-Err-take_tick-2.ensures.same ∙ same_refusal _ _ is in
     let why = ap (λ (r : Refused). r.error) same ∙ error in
     spent_on g.K.Keeper.tells g.O.Sink.tells g.S.Source.tells g.S.Source.left g.S.Source.faults c.args.setup.now c.args.configured.now.config c.args.configured.now.documents c.args.sources.now (g.K.Keeper.kept c.args.keeper.now) (g.O.Sink.written c.args.results.now) g.C.Clock.reads c.args.clock.now c.loop.clock c.next_moment.new.clock (g.K.Keeper.kept c.loop.keeper) (g.K.Keeper.kept c.take_tick-in-loop.new.keeper) c.loop.feeds c.take_tick-in-loop.new.feeds c.loop.sources c.take_tick-in-loop.new.sources c.loop.last c.in-Ok-next_moment.moment c.loop.state c.take_tick-in-loop.new.state c.loop.invariant.looping.running.added c.loop.invariant.ready.going.distinct c.in-Ok-next_moment.ensures.read
     (λ tells. c.take_tick-in-loop.ensures.unkept tells c.in-Err-take_tick-2.refused c.in-Err-take_tick-2.is why) (c.take_tick-in-loop.ensures.spent c.in-Err-take_tick-2.refused c.in-Err-take_tick-2.is why)

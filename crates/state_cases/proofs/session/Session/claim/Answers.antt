@@ -8,10 +8,10 @@ use Rattle.state_cases.proofs.session.Session.claim.Goals as goal
 
 pub invariant_of-self-in_default : goal.invariant_of-self-in_default
 invariant_of-self-in_default c =
-    subst (All (IsCutOf c.claim_cut.new.self)) (sym c.reserve.ensures.items) (still_all (IsCutOf c.self.inside.state) (IsCutOf c.claim_cut.new.self) c.self.inside.cuts.items c.claim_cut.ensures.cuts c.self.invariant)
+    subst (All (IsCutOf c.claim_counted.new.state)) (sym c.reserve.ensures.items) (still_all (IsCutOf c.self.inside.state) (IsCutOf c.claim_counted.new.state) c.self.inside.cuts.items c.claim_counted.ensures.cuts c.self.invariant)
 
 pub invariant_of-self-2 : goal.invariant_of-self-2
 invariant_of-self-2 c =
-    let open_still : All (IsCutOf c.claim_cut.new.self) c.reserve.new.self.items = subst (All (IsCutOf c.claim_cut.new.self)) (sym c.reserve.ensures.items) (still_all (IsCutOf c.self.inside.state) (IsCutOf c.claim_cut.new.self) c.self.inside.cuts.items c.claim_cut.ensures.cuts c.self.invariant) in
-    let own : IsCutOf c.claim_cut.new.self c.in-Some.cut = subst (λ (given : Option CutValue). IfSome given (IsCutOf c.claim_cut.new.self)) c.in-Some.is c.in_ok-cut.ensures.own in
-    subst (All (IsCutOf c.claim_cut.new.self)) (sym c.push_reserved.ensures.items) (All-push (IsCutOf c.claim_cut.new.self) c.reserve.new.self.items c.in-Some.cut open_still own)
+    let open_still : All (IsCutOf c.claim_counted.new.state) c.reserve.new.self.items = subst (All (IsCutOf c.claim_counted.new.state)) (sym c.reserve.ensures.items) (still_all (IsCutOf c.self.inside.state) (IsCutOf c.claim_counted.new.state) c.self.inside.cuts.items c.claim_counted.ensures.cuts c.self.invariant) in
+    let own : IsCutOf c.claim_counted.new.state c.in-Some.cut = subst (λ (given : Option CutValue). IfSome given (IsCutOf c.claim_counted.new.state)) c.in-Some.is c.in_ok-cut.ensures.own in
+    subst (All (IsCutOf c.claim_counted.new.state)) (sym c.push_reserved.ensures.items) (All-push (IsCutOf c.claim_counted.new.state) c.reserve.new.self.items c.in-Some.cut open_still own)

@@ -1,0 +1,4 @@
+use Rattle.store_threads.proofs.turns.claimed.Given as goal
+
+abbrev pub ghosts-claim_counted : goal.ghosts-claim_counted
+ghosts-claim_counted g a = record { name = a.blank.name; parts = a.blank.parts }
