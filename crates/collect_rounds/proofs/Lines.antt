@@ -21,7 +21,8 @@ rest-append begun (b ∷ bytes) more =
       | false ↦ rest-append (begun ++ b ∷ []) bytes more
     ]
 
-plain-append : (bytes : List ℕ) (b : ℕ) → HasNoFeed bytes → b ≢ 10 → HasNoFeed (bytes ++ b ∷ [])
+-- a byte more that is no line feed
+pub plain-append : (bytes : List ℕ) (b : ℕ) → HasNoFeed bytes → b ≢ 10 → HasNoFeed (bytes ++ b ∷ [])
 plain-append [] b plain other = (other, tt)
 plain-append (x ∷ bytes) b plain other = (plain.0, plain-append bytes b plain.1 other)
 

@@ -5,7 +5,6 @@ use Rattle.std.proofs.lemmas.List.{append_assoc, append-nil}
 use Rattle.std.proofs.lemmas.Slice.Eq.{bytes_eq-Decides}
 use Rattle.std.proofs.lemmas.Bool.Decides.{Decides-eqb}
 use Rattle.std.proofs.lemmas.Bool.{true≢false}
-use Rattle.serde_json.specs.Data.{Data}
 use Rattle.serde_json.specs.Read.{read}
 use Rattle.serde_json.proofs.OnLiterals.{serde_json_on_literals}
 use Rattle.record_lines.specs.Lines.{HasNoFeed, lines_behind, lines_of, rest_of}
@@ -18,11 +17,12 @@ use Rattle.collector_answers.specs.declared.answer.BadAnswer.TheVariants.{NotJso
 use Rattle.collector_answers.specs.declared.judging.Judged.{Judged}
 use Rattle.collector_answers.specs.declared.judging.Judged.TheVariants.{Framed, Bad}
 use Rattle.collector_answers.specs.Judging.{AreJudged, IsJudged, LIMIT, frames_of}
+use Rattle.collector_answers.proofs.Told.{none_some}
 use Rattle.collector_ledger.specs.Files.{IsLedgerOf, file_lines, has_rest}
 use Rattle.collector_ledger.proofs.Taken.{all_received-alike, all_received-append, frames_of-append, judged-append}
 use Rattle.collect_rounds.specs.Collecting.{added_lines, after_lines, behind_rest, is_recorded}
 use Rattle.collect_rounds.specs.Laws.{Reopens}
-use Rattle.collect_rounds.proofs.Lines.{lines-more, plain-rest, rest-more}
+use Rattle.collect_rounds.proofs.Lines.{lines-more, plain-append, plain-rest, rest-more}
 
 -- ---- the frames that are recorded
 
@@ -77,10 +77,6 @@ news-recorded recorded (Framed frame digest ∷ others) host = by (is_recorded r
 abbrev HaveNoFeed : List (List ℕ) → Type 0
 HaveNoFeed [] = Unit {0}
 HaveNoFeed (line ∷ lines) = HasNoFeed line × HaveNoFeed lines
-
-plain-append : (bytes : List ℕ) (b : ℕ) → HasNoFeed bytes → b ≢ 10 → HasNoFeed (bytes ++ b ∷ [])
-plain-append [] b plain other = (other, tt)
-plain-append (x ∷ bytes) b plain other = (plain.0, plain-append bytes b plain.1 other)
 
 plain-behind : (begun bytes : List ℕ) → HasNoFeed begun → HaveNoFeed (lines_behind begun bytes)
 plain-behind begun [] plain = tt
@@ -163,9 +159,6 @@ first_or (b ∷ bytes) = b
 no_frame : (frame : Frame) → [] ≡ text_of frame → ⊥
 unfolding text_of
 no_frame frame e = let same : 0 ≡ 123 = ap first_or e in let gone : ⊥ = omega (arith, same) in gone
-
-none_some : (value : Data) → None ≡ Some value → ⊥
-none_some value e = let gone : ⊥ = cc in gone
 
 empty-judged : IsJudged [] (Bad NotJson)
 empty-judged = ((omega arith), (λ frame held is. no_frame frame is.is), (λ value json. none_some value (sym no_json ∙ json.is)))

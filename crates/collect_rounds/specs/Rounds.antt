@@ -8,7 +8,7 @@ use Rattle.collector_answers.specs.declared.judging.Judged.{Judged}
 use Rattle.collector_answers.specs.Judging.{AreJudged, LIMIT}
 use Rattle.collect_rounds.specs.declared.collector.Collector.{Collector}
 use Rattle.collect_rounds.specs.Collecting.{added_lines, after_lines, answers_to, behind_rest}
-use Rattle.collect_rounds.specs.Runs.{HasStopped, STEP_BYTES, Written}
+use Rattle.collect_rounds.specs.Runs.{HasStopped, ROUND_BYTES, STEP_BYTES, Written}
 use Rattle.collect_rounds.specs.Takes.{rest_after}
 
 -- The whole lines of what was given are written and answered, and the cutter has the line that was begun.
@@ -36,6 +36,6 @@ IsRound false more rest = STEP_BYTES ≤ length more
 -- a round was run from there on
 abbrev pub TakesRound : {E : Type 0} → HostDigests → Bool → List ℕ → List ℕ → List ℕ → Written → Written → Collector → Result Bool E → Type 0
 TakesRound recorded has_rest given left rest before now collector (Ok is_end) =
-    (more : List ℕ) × (left ≡ more ++ rest) × IsRound is_end more rest × IsAt recorded has_rest (given ++ more) before now collector
+    (more : List ℕ) × (left ≡ more ++ rest) × (length more ≤ ROUND_BYTES) × IsRound is_end more rest × IsAt recorded has_rest (given ++ more) before now collector
 TakesRound recorded has_rest given left rest before now collector (Err error) =
     (more : List ℕ) × (left ≡ more ++ rest) × HasStopped recorded has_rest (given ++ more) before now

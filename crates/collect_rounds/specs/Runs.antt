@@ -1,5 +1,5 @@
 -- What a run of a collector leaves.
-use Rattle.std.specs.Prelude.{◌≡◌, ℕ, ◌*◌, ◌≤◌, ◌<◌, ◌^◌, Bool, true, false, List, [], ◌++◌, length, take, Result, Ok, Err}
+use Rattle.std.specs.Prelude.{◌≡◌, ℕ, ◌+◌, ◌*◌, ◌≤◌, ◌<◌, ◌^◌, Bool, true, false, List, [], ◌++◌, length, take, Result, Ok, Err}
 use Rattle.record_lines.specs.Lines.{lines_of}
 use Rattle.collector_core.specs.Received.{HostDigests}
 use Rattle.collector_answers.specs.declared.judging.Judged.{Judged}
@@ -13,6 +13,10 @@ STEP_BYTES = 2 ^ 24
 -- one read takes at most so many bytes
 abbrev pub PIECE_BYTES : ℕ
 PIECE_BYTES = 65536
+
+-- and so reads at most so many
+abbrev pub ROUND_BYTES : ℕ
+ROUND_BYTES = STEP_BYTES + PIECE_BYTES
 
 -- two streams of bytes that a collector writes
 pub record Written : Type 0 where
@@ -47,10 +51,10 @@ pub record HasStopped (recorded : HostDigests) (has_rest : Bool) (given : List �
   pub ordered : 0 < answered → length all ≤ added
 
 -- Where the objects tell: at Ok the run collected all that the source gave, which is all it had where it is at its end, and else so many
--- rounds' bytes at least; at a refusal it stopped on the way.
+-- rounds' bytes at least, and in either case no more than so many rounds read at most; at a refusal it stopped on the way.
 abbrev pub Runs : {E : Type 0} → HostDigests → Bool → List ℕ → List ℕ → ℕ → Written → Written → Result Bool E → Type 0
-Runs recorded has_rest left rest rounds before after (Ok true) = (rest ≡ []) × HasCollected recorded has_rest left before after
+Runs recorded has_rest left rest rounds before after (Ok true) = (rest ≡ []) × (length left ≤ rounds * ROUND_BYTES) × HasCollected recorded has_rest left before after
 Runs recorded has_rest left rest rounds before after (Ok false) =
-    (given : List ℕ) × (left ≡ given ++ rest) × (rounds * STEP_BYTES ≤ length given) × HasCollected recorded has_rest given before after
+    (given : List ℕ) × (left ≡ given ++ rest) × (rounds * STEP_BYTES ≤ length given) × (length given ≤ rounds * ROUND_BYTES) × HasCollected recorded has_rest given before after
 Runs recorded has_rest left rest rounds before after (Err error) =
     (given : List ℕ) × (left ≡ given ++ rest) × HasStopped recorded has_rest given before after

@@ -1,5 +1,5 @@
 -- How answers begin.
-use Rattle.std.proofs.Common.{Result, Ok, Err, ◌≡◌, ℕ, zero, suc, ◌==◌, Bool, true, false, List, [], ◌∷◌, ◌++◌, Option, Some, None, unwrap_or, refl, sym, ap, ◌∙◌, codes, append_assoc, arith}
+use Rattle.std.proofs.Common.{Result, Ok, Err, ◌≡◌, ℕ, zero, suc, ◌==◌, Bool, true, false, List, [], ◌∷◌, ◌++◌, Option, Some, None, unwrap_or, refl, sym, ap, ◌∙◌, codes, arith}
 use Rattle.std.specs.Prelude.{if◌then◌else◌, ◌&&◌, nat_lt, option_map, IfOk}
 use Rattle.osq_value.specs.declared.memory.NoMemory.{NoMemory}
 use Rattle.std.specs.Fmt.{decimal}
@@ -17,7 +17,7 @@ use Rattle.collector_answers.specs.declared.read.Counted.{Counted}
 use Rattle.collector_answers.specs.Fields.{IsPlain, ShowsPlain, TakesBad, TakesCounted}
 use Rattle.collector_answers.specs.Lines.{bad_line, conflict_line, counted_line, front_of, kind_name, line_of, told}
 use Rattle.collector_answers.specs.Reads.{IsDigest, IsHeld, IsHeldTold, Reads, Shows}
-use Rattle.collector_answers.proofs.Told.{counted, counted_is, none_some, told_is}
+use Rattle.collector_answers.proofs.Told.{counted, counted_is, none_some, spread, told_is}
 
 -- no list begins with both
 abbrev pub apart : List ℕ → List ℕ → Bool
@@ -75,9 +75,6 @@ front_by (Repeat host number recorded) = front_of (codes "repeat")
 front_by (Gap host number recorded) = front_of (codes "gap")
 front_by (Conflict host number recorded kept found) = front_of (codes "conflict")
 front_by (Bad kind) = codes "{\"answer\":\"bad\",\"kind\":\""
-
-spread : (a b c d e f : List ℕ) → a ++ b ++ c ++ d ++ e ++ f ≡ a ++ (b ++ (c ++ (d ++ (e ++ f))))
-spread a b c d e f = simp append_assoc
 
 counted_begins : (front host : List ℕ) (number recorded : ℕ) → (rest : List ℕ) × (counted_line front host number recorded ≡ front ++ rest)
 counted_begins front host number recorded =

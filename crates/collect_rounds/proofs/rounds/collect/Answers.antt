@@ -41,8 +41,8 @@ loop-preserved g c =
       runs = λ told tells.
           let run = i.runs told tells in
           let round = c.in_ok-take_round.ensures.round told tells recorded has_rest run.given start run.at in
-          runs-further recorded has_rest (g.S.Source.left c.args.source.now) (g.S.Source.left c.loop.source) rest start now later c.loop.collector c.take_round.new.collector c.loop.counter run round.0 round.1
-          (subst (λ (b : Bool). IsRound b round.0 rest) c.if-branch.false round.2) round.3;
+          runs-further recorded has_rest (g.S.Source.left c.args.source.now) (g.S.Source.left c.loop.source) rest start now later c.loop.collector c.take_round.new.collector c.loop.counter run round.0 round.1 round.2
+          (subst (λ (b : Bool). IsRound b round.0 rest) c.if-branch.false round.3) round.4;
       room = i.room;
       source = (let before = i.source in omega (arith, before, risen));
       ledger = (let before = i.ledger in omega (arith, before, both.0));
@@ -58,7 +58,7 @@ returns-in_err-take_round-clause-runs g c = λ told tells.
     let has_rest = c.args.opened.has_rest in
     let run = c.loop.invariant.runs told tells in
     let round = c.in_err-take_round.ensures.round told tells recorded has_rest run.given start run.at in
-    runs-stopped recorded has_rest (g.S.Source.left c.args.source.now) (g.S.Source.left c.loop.source) (g.S.Source.left c.take_round.new.source) start now later c.loop.collector c.take_round.new.collector c.loop.counter run round.0 round.1
+    runs-stopped recorded has_rest (g.S.Source.left c.args.source.now) (g.S.Source.left c.loop.source) (g.S.Source.left c.take_round.new.source) start now later c.loop.collector c.loop.counter run round.0 round.1
     c.args.rounds c.from_residual-in_err-take_round.result c.from_residual-in_err-take_round.ensures.0 round.2
 
 pub returns-then-branch-clause-runs : goal.returns-then-branch-clause-runs
@@ -71,8 +71,8 @@ returns-then-branch-clause-runs g c = λ told tells.
     let rest = g.S.Source.left c.take_round.new.source in
     let run = c.loop.invariant.runs told tells in
     let round = c.in_ok-take_round.ensures.round told tells recorded has_rest run.given start run.at in
-    runs-out recorded has_rest (g.S.Source.left c.args.source.now) (g.S.Source.left c.loop.source) rest start now later c.loop.collector c.take_round.new.collector c.loop.counter run round.0 round.1
-    (subst (λ (b : Bool). IsRound b round.0 rest) c.if-branch.true round.2) round.3
+    runs-out recorded has_rest (g.S.Source.left c.args.source.now) (g.S.Source.left c.loop.source) rest start now later c.loop.collector c.take_round.new.collector c.loop.counter run round.0 round.1 round.2
+    c.args.rounds c.loop-test.true (subst (λ (b : Bool). IsRound b round.0 rest) c.if-branch.true round.3) round.4
 
 pub returns-clause-runs : goal.returns-clause-runs
 returns-clause-runs g c = λ told tells.

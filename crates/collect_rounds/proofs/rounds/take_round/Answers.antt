@@ -20,6 +20,7 @@ returns-then-count-eq0-clause-round g c = λ told tells recorded has_rest given 
     round-ended recorded has_rest given (g.S.Source.left c.args.source.now) (g.S.Source.left c.loop-read.source) (g.S.Source.left c.read.new.self) before now c.loop-read.collector c.loop-read.read on
     (c.in_ok-count.ensures.end told (ap (λ (n : ℕ). Ok n) none) (omega (arith, room)))
     (c.in_ok-count.ensures.bytes told ∙ ap (λ (n : ℕ). take n c.read.new.into ++ g.S.Source.left c.read.new.self) none)
+    c.loop-read.invariant.within
 
 pub loop-read-preserved : goal.loop-read-preserved
 loop-read-preserved g c =
@@ -35,6 +36,7 @@ loop-read-preserved g c =
           let gave = c.in_ok-count.ensures.bytes told ∙ ap (λ (x : List ℕ). x ++ rest) (sym c.split_at.ensures.front) in
           goes-further recorded has_rest given (g.S.Source.left c.args.source.now) (g.S.Source.left c.loop-read.source) rest c.split_at.result.0.now before now later c.loop-read.collector c.take_piece.new.collector c.loop-read.read on gave
           c.in_ok-count.count c.split_at.ensures.front_len (c.in_ok-take_piece.ensures.next tells recorded has_rest (given ++ on.more) before on.at);
+      within = (let below = c.loop-read-test.true in let count = c.in_ok-count.ensures.count in let room : length c.read.new.into ≡ PIECE_BYTES = search rules in omega arith);
       room = search rules;
       source = (let before = i.source in omega (arith, before, risen));
       ledger = (let before = i.ledger in omega (arith, before, both.0));
@@ -59,4 +61,4 @@ pub returns-clause-round : goal.returns-clause-round
 returns-clause-round g c = λ told tells recorded has_rest given before at.
     let now : Written = record { ledger = g.O.Sink.written c.loop-read.ledger; answers = g.O.Sink.written c.loop-read.answers } in
     let on = c.loop-read.invariant.goes told tells recorded has_rest given before at in
-    round-full recorded has_rest given (g.S.Source.left c.args.source.now) (g.S.Source.left c.loop-read.source) before now c.loop-read.collector c.loop-read.read on c.loop-read-test.false
+    round-full recorded has_rest given (g.S.Source.left c.args.source.now) (g.S.Source.left c.loop-read.source) before now c.loop-read.collector c.loop-read.read on c.loop-read-test.false c.loop-read.invariant.within

@@ -1,7 +1,7 @@
 use Rattle.std.proofs.Common.{◌≡◌, ◌≤◌, ◌-◌, ℕ, Bool, List, length}
 use Rattle.collector_core.specs.Received.{HostDigests}
 use Rattle.collect_rounds.specs.Rounds.{IsAt}
-use Rattle.collect_rounds.specs.Runs.{PIECE_BYTES, STEP_BYTES, Written}
+use Rattle.collect_rounds.specs.Runs.{PIECE_BYTES, ROUND_BYTES, STEP_BYTES, Written}
 use Rattle.collect_rounds.proofs.Rounding.{GoesOn}
 use Rattle.collect_rounds.proofs.rounds.take_round.Given as goal
 
@@ -10,6 +10,7 @@ invariant-loop-read g l = record {
   goes : g.S.Source.tells → g.O.Sink.tells → (recorded : HostDigests) (has_rest : Bool) (given : List ℕ) (before : Written)
       → IsAt recorded has_rest given before (record { ledger = g.O.Sink.written l.fn.ledger; answers = g.O.Sink.written l.fn.answers }) l.fn.collector
       → GoesOn recorded has_rest given (g.S.Source.left l.fn.source) (g.S.Source.left l.source) before (record { ledger = g.O.Sink.written l.ledger; answers = g.O.Sink.written l.answers }) l.collector l.read;
+  within : l.read ≤ ROUND_BYTES;
   room : length l.room ≡ PIECE_BYTES;
   source : g.S.Source.faults l.fn.source ≤ g.S.Source.faults l.source;
   ledger : g.O.Sink.faults l.fn.ledger ≤ g.O.Sink.faults l.ledger;
