@@ -1,3 +1,5 @@
+//! The members of a line's object that a change has.
+
 ghost use Rattle.std.specs.Prelude.{◌≡◌, codes};
 ghost use Rattle.serde_json.specs.Find.{get, get_member};
 ghost use Rattle.serde_json.specs.View.{members_view, view};

@@ -7,7 +7,7 @@ use Rattle.osq_value.specs.declared.moment.TheConstants.{LAST_MOMENT}
 use Rattle.osq_value.specs.declared.value.Value.{Value}
 use Rattle.osq_value.specs.declared.value.Value.TheVariants.{Null}
 use Rattle.osq_value.specs.Catalogue.{columns_of, tables, width_of}
-use Rattle.sql_texts.specs.Meaning.{is_accepted, names_evented}
+use Rattle.sql_texts.proofs.KnownMeaning.{is_accepted-known, names_evented-known}
 use Rattle.pack_rules.specs.declared.schedule.QueryKey.{QueryKey}
 use Rattle.entry_model.specs.declared.entry.Entry.TheVariants.{Opened, Configured, Ticked, Appended, TableSet, Expired, Committed, Acked}
 use Rattle.entry_model.specs.Views.{is_evented_table, owed_floor}
@@ -113,91 +113,90 @@ plain = record {
   acked_unknown = record { legal = opened_legal; ends = λ h. (let k : 1 ≤ 0 = h.1.0.1 in omega (arith, k)) };
 }
 
-module _ (accepted : is_accepted asked.text ≡ true) (evented : names_evented asked.text ≡ true) where
-  asking_sound : IsSound asking
-  asking_sound = record {
-    count = omega arith;
-    order = refl;
-    runnable = All-cons IsRunnable (record { key = asked; interval = 60 }) [] (record { accepted = accepted; evented = λ e. evented; at_least = omega arith; at_most = omega arith }) (All-nil IsRunnable);
-    expiry_least = omega arith;
-    expiry_most = omega arith;
-    max_least = omega arith;
-    max_most = omega arith;
-  }
+asking_sound : IsSound asking
+asking_sound = record {
+  count = omega arith;
+  order = refl;
+  runnable = All-cons IsRunnable (record { key = asked; interval = 60 }) [] (record { accepted = is_accepted-known; evented = λ e. names_evented-known; at_least = omega arith; at_most = omega arith }) (All-nil IsRunnable);
+  expiry_least = omega arith;
+  expiry_most = omega arith;
+  max_least = omega arith;
+  max_most = omega arith;
+}
 
-  before_legal : Legal before_batch
-  before_legal =
-      Legal-push (Opened 1 ∷ Configured [] asking 1000 ∷ Ticked 1000 ∷ []) (Appended log 184 (change ∷ change ∷ []) 0 1000)
-      (refl, ((asking_sound, record { later = omega arith; calendar = omega arith }), ((record { later = omega arith; calendar = omega arith }, refl, λ table is. refl), tt)))
-      (omega arith, refl, All-cons IsEvent change (change ∷ []) is_event (All-cons IsEvent change [] is_event (All-nil IsEvent)), omega arith)
+before_legal : Legal before_batch
+before_legal =
+    Legal-push (Opened 1 ∷ Configured [] asking 1000 ∷ Ticked 1000 ∷ []) (Appended log 184 (change ∷ change ∷ []) 0 1000)
+    (refl, ((asking_sound, record { later = omega arith; calendar = omega arith }), ((record { later = omega arith; calendar = omega arith }, refl, λ table is. refl), tt)))
+    (omega arith, refl, All-cons IsEvent change (change ∷ []) is_event (All-cons IsEvent change [] is_event (All-nil IsEvent)), omega arith)
 
-  answered_legal : Legal answered
-  answered_legal =
-      Legal-push before_batch (Committed answer) before_legal (record {
-        next = refl;
-        bound = omega arith;
-        due = (0, omega arith, refl);
-        within = omega arith;
-        current = refl;
-        lower = refl;
-        upper = refl;
-        now = refl;
-        answer = refl;
-      })
+answered_legal : Legal answered
+answered_legal =
+    Legal-push before_batch (Committed answer) before_legal (record {
+      next = refl;
+      bound = omega arith;
+      due = (0, omega arith, refl);
+      within = omega arith;
+      current = refl;
+      lower = refl;
+      upper = refl;
+      now = refl;
+      answer = refl;
+    })
 
-  -- at a tick behind the batch
-  again_legal : (moment : ℕ) → 1000 ≤ moment → moment ≤ LAST_MOMENT → Legal (answered ++ Ticked moment ∷ [])
-  again_legal moment later calendar =
-      Legal-push answered (Ticked moment) answered_legal (record { later = later; calendar = calendar }, refl, each_evented (λ table. owed_floor answered table ≡ None) refl refl refl)
+-- at a tick behind the batch
+again_legal : (moment : ℕ) → 1000 ≤ moment → moment ≤ LAST_MOMENT → Legal (answered ++ Ticked moment ∷ [])
+again_legal moment later calendar =
+    Legal-push answered (Ticked moment) answered_legal (record { later = later; calendar = calendar }, refl, each_evented (λ table. owed_floor answered table ≡ None) refl refl refl)
 
-  not_among : (query : QueryKey) → ¬ Contains [] query
-  not_among query h = let within : h.0 < 0 = h.1 in omega (arith, within)
+not_among : (query : QueryKey) → ¬ Contains [] query
+not_among query h = let within : h.0 < 0 = h.1 in omega (arith, within)
 
-  another_name : Contains (asked ∷ []) (record asked { name = codes "r" }) → true ≡ false
-  another_name h =
-      let within : h.0 < 1 = h.1 in
-      let first : h.0 ≡ 0 = omega (arith, within) in
-      let is : asked ≡ record asked { name = codes "r" } = subst (λ (n : ℕ). get_or (asked ∷ []) n (record asked { name = codes "r" }) ≡ record asked { name = codes "r" }) first h.2 in
-      ap (λ (key : QueryKey). bytes_eq key.name (codes "q")) is
+another_name : Contains (asked ∷ []) (record asked { name = codes "r" }) → true ≡ false
+another_name h =
+    let within : h.0 < 1 = h.1 in
+    let first : h.0 ≡ 0 = omega (arith, within) in
+    let is : asked ≡ record asked { name = codes "r" } = subst (λ (n : ℕ). get_or (asked ∷ []) n (record asked { name = codes "r" }) ≡ record asked { name = codes "r" }) first h.2 in
+    ap (λ (key : QueryKey). bytes_eq key.name (codes "q")) is
 
-  asks : AskedVerdicts
-  asks = record {
-    tick_while_due = record { legal = before_legal; ends = λ h. (let k : asked ∷ [] ≡ [] = h.1.1.1.1.0.1 in cc) };
-    committed = record { legal = answered_legal; has = refl };
-    another_number = record { legal = before_legal; ends = λ h. (let k : 2 ≡ 1 = h.1.1.1.1.0.next in omega (arith, k)) };
-    another_lo = record { legal = before_legal; ends = λ h. (let k : 1 ≡ 0 = h.1.1.1.1.0.lower in omega (arith, k)) };
-    another_hi = record { legal = before_legal; ends = λ h. (let k : 1 ≡ 2 = h.1.1.1.1.0.upper in omega (arith, k)) };
-    another_moment = record { legal = before_legal; ends = λ h. (let k : 999 ≡ 1000 = h.1.1.1.1.0.now in omega (arith, k)) };
-    a_row_more = record { legal = before_legal; ends = λ h. (let k = ap (λ (rows : List (List Value)). length rows) h.1.1.1.1.0.answer in omega (arith, k)) };
-    another_query = record { legal = before_legal; ends = λ h. (let k = another_name h.1.1.1.1.0.due in cc) };
-    cut_before_tick = record { legal = before_legal; ends = λ h. (let k : true ≡ false = h.1.1.1.1.0.current in cc) };
-    cut_past_end = record { legal = before_legal; ends = λ h. (let k : 5 ≤ 4 = h.1.1.1.1.0.within in omega (arith, k)) };
-    not_due = record { legal = answered_legal; ends = λ h. not_among asked h.1.1.1.1.1.0.due };
-    due_after_59 = record { legal = again_legal 1059 (omega arith) (omega arith); ends = λ h. not_among asked h.1.1.1.1.1.1.0.due };
-    due_after_60 = record {
-      legal = Legal-push (answered ++ Ticked 1060 ∷ []) (Committed (second 1060)) (again_legal 1060 (omega arith) (omega arith)) (record {
-        next = refl;
-        bound = omega arith;
-        due = (0, omega arith, refl);
-        within = omega arith;
-        current = refl;
-        lower = refl;
-        upper = refl;
-        now = refl;
-        answer = refl;
-      });
-      has = refl;
-    };
-    acked = record {
-      legal = Legal-push answered (Acked 1) answered_legal (omega arith, omega arith);
-      has = refl;
-    };
-    acked_above = record { legal = answered_legal; ends = λ h. (let k : 2 ≤ 1 = h.1.1.1.1.1.0.1 in omega (arith, k)) };
-    acked_again = record {
-      legal = Legal-push answered (Acked 1) answered_legal (omega arith, omega arith);
-      ends = λ h. (let k : 1 < 1 = h.1.1.1.1.1.1.0.0 in omega (arith, k));
-    };
-  }
+asks : AskedVerdicts
+asks = record {
+  tick_while_due = record { legal = before_legal; ends = λ h. (let k : asked ∷ [] ≡ [] = h.1.1.1.1.0.1 in cc) };
+  committed = record { legal = answered_legal; has = refl };
+  another_number = record { legal = before_legal; ends = λ h. (let k : 2 ≡ 1 = h.1.1.1.1.0.next in omega (arith, k)) };
+  another_lo = record { legal = before_legal; ends = λ h. (let k : 1 ≡ 0 = h.1.1.1.1.0.lower in omega (arith, k)) };
+  another_hi = record { legal = before_legal; ends = λ h. (let k : 1 ≡ 2 = h.1.1.1.1.0.upper in omega (arith, k)) };
+  another_moment = record { legal = before_legal; ends = λ h. (let k : 999 ≡ 1000 = h.1.1.1.1.0.now in omega (arith, k)) };
+  a_row_more = record { legal = before_legal; ends = λ h. (let k = ap (λ (rows : List (List Value)). length rows) h.1.1.1.1.0.answer in omega (arith, k)) };
+  another_query = record { legal = before_legal; ends = λ h. (let k = another_name h.1.1.1.1.0.due in cc) };
+  cut_before_tick = record { legal = before_legal; ends = λ h. (let k : true ≡ false = h.1.1.1.1.0.current in cc) };
+  cut_past_end = record { legal = before_legal; ends = λ h. (let k : 5 ≤ 4 = h.1.1.1.1.0.within in omega (arith, k)) };
+  not_due = record { legal = answered_legal; ends = λ h. not_among asked h.1.1.1.1.1.0.due };
+  due_after_59 = record { legal = again_legal 1059 (omega arith) (omega arith); ends = λ h. not_among asked h.1.1.1.1.1.1.0.due };
+  due_after_60 = record {
+    legal = Legal-push (answered ++ Ticked 1060 ∷ []) (Committed (second 1060)) (again_legal 1060 (omega arith) (omega arith)) (record {
+      next = refl;
+      bound = omega arith;
+      due = (0, omega arith, refl);
+      within = omega arith;
+      current = refl;
+      lower = refl;
+      upper = refl;
+      now = refl;
+      answer = refl;
+    });
+    has = refl;
+  };
+  acked = record {
+    legal = Legal-push answered (Acked 1) answered_legal (omega arith, omega arith);
+    has = refl;
+  };
+  acked_above = record { legal = answered_legal; ends = λ h. (let k : 2 ≤ 1 = h.1.1.1.1.1.0.1 in omega (arith, k)) };
+  acked_again = record {
+    legal = Legal-push answered (Acked 1) answered_legal (omega arith, omega arith);
+    ends = λ h. (let k : 1 < 1 = h.1.1.1.1.1.1.0.0 in omega (arith, k));
+  };
+}
 
 pub verdicts : Verdicts
-verdicts = record { plain = plain; asked = λ accepted evented. asks accepted evented }
+verdicts = record { plain = plain; asked = asks }

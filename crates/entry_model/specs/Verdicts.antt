@@ -1,10 +1,10 @@
 -- Lists of entries, each with what is to be said of it, worked out by hand.
-use Rattle.std.specs.Prelude.{◌≡◌, ℕ, suc, true, List, [], ◌∷◌, ◌++◌, take, codes}
+use Rattle.std.specs.Prelude.{◌≡◌, ℕ, suc, List, [], ◌∷◌, ◌++◌, take, codes}
 use Rattle.osq_value.specs.declared.value.TheConstants.TableId.{SOCKET_EVENTS, FILE_EVENTS, GROUPS}
 use Rattle.osq_value.specs.declared.value.Event.{Event}
 use Rattle.osq_value.specs.declared.value.Value.{Value}
 use Rattle.osq_value.specs.declared.value.Value.TheVariants.{Null, Text}
-use Rattle.sql_texts.specs.Meaning.{meaning, is_accepted, names_evented}
+use Rattle.sql_texts.specs.Meaning.{meaning}
 use Rattle.pack_rules.specs.declared.schedule.Mode.TheVariants.{Evented}
 use Rattle.pack_rules.specs.declared.schedule.Form.TheVariants as form
 use Rattle.pack_rules.specs.declared.schedule.QueryKey.{QueryKey}
@@ -108,7 +108,7 @@ pub record PlainVerdicts : Type 0 where
   pub acked_unknown : IsLegalTo 1 (Opened 1 ∷ Acked 1 ∷ [])
 
 abbrev pub asked : QueryKey
-asked = record { name = codes "q"; text = codes "SELECT action FROM file_events"; mode = Evented }
+asked = record { name = codes "q"; text = codes "SELECT * FROM file_events"; mode = Evented }
 
 -- one query, which is asked each minute
 abbrev pub asking : Schedule
@@ -145,7 +145,7 @@ abbrev pub second : ℕ → Batch
 second moment =
     record { number = 2; query = asked; lo = 2; hi = 2; cut = 6; moment = moment; rows = meaning asked.text (view_of (answered ++ Ticked moment ∷ []) 2 moment) }
 
--- batches, where the query's text is one that a session may run
+-- batches
 pub record AskedVerdicts : Type 0 where
   pub tick_while_due : IsLegalTo 4 (before_batch ++ Ticked 1060 ∷ [])
   pub committed : IsLegal answered answered_value
@@ -171,4 +171,4 @@ pub record AskedVerdicts : Type 0 where
 
 pub record Verdicts : Type 0 where
   pub plain : PlainVerdicts
-  pub asked : is_accepted asked.text ≡ true → names_evented asked.text ≡ true → AskedVerdicts
+  pub asked : AskedVerdicts

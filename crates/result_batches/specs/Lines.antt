@@ -5,7 +5,6 @@ use Rattle.std.specs.Fmt.{decimal, signed_decimal}
 use Rattle.calendar_text.specs.Calendar.{IsCalendarText}
 use Rattle.osq_value.specs.declared.value.Value.{Value}
 use Rattle.osq_value.specs.declared.value.Value.TheVariants.{Null, Int, Text}
-use Rattle.sql_texts.specs.Meaning.{names_of}
 use Rattle.pack_rules.specs.declared.schedule.Mode.{Mode}
 use Rattle.pack_rules.specs.declared.schedule.Mode.TheVariants.{Evented, Snapshot}
 use Rattle.pack_rules.specs.declared.schedule.Form.{Form}
@@ -82,9 +81,3 @@ pub record AreAddedLines (host : List ℕ) (names : List (List ℕ)) (batch : Ba
   pub calendar : List ℕ
   pub shown : IsCalendarText batch.moment calendar
   pub text : lines ≡ added_lines (head_text host calendar batch) (objects names batch.rows)
-
--- the lines of batches, one batch after another, each with the names that its query gives
-abbrev pub AreResults : List ℕ → List Batch → List ℕ → Type 0
-AreResults host [] text = text ≡ []
-AreResults host (batch ∷ rest) text =
-    (lines : List ℕ) × (others : List ℕ) × AreAddedLines host (names_of batch.query.text) batch lines × AreResults host rest others × (text ≡ lines ++ others)
