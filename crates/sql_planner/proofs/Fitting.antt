@@ -1,6 +1,6 @@
 -- Loops over rows, tables and conjuncts that were gone over up to a place.
-use Rattle.std.proofs.Common.{◌≡◌, ℕ, zero, suc, ◌+◌, ◌<◌, ◌≤◌, refl, sym, ap, ap₂, ◌∙◌, subst, arith, Bool, true, false, ◌&&◌, List, [], ◌∷◌, ◌++◌, length, map, take, get_or, slice_get, Option, Some, None, unwrap_or, IfSome, Bor}
-use Rattle.std.specs.List.{All, list_all}
+use Rattle.std.proofs.Common.{◌≡◌, ℕ, zero, suc, ◌+◌, ◌<◌, ◌≤◌, refl, sym, ap, ap₂, ◌∙◌, subst, arith, Bool, true, false, ◌&&◌, List, [], ◌∷◌, ◌++◌, length, map, take, get_or, slice_get, Option, Some, None, IfSome, Bor}
+use Rattle.std.specs.List.{All}
 use Rattle.std.specs.Option.{option_copied}
 use Rattle.std.proofs.lemmas.List.{append_assoc, append-nil, get_or-append-add, map-append, take_more}
 use Rattle.std.proofs.lemmas.List.Elements.{All-append, All-cons, All-head, All-nil, All-tail}
@@ -44,8 +44,8 @@ pub steps-within : (width : ℕ) (steps : List ExprStep) (at : ℕ) (item : Expr
 steps-within width steps at item inside is before here =
     subst (AreStepsWithin width) (sym (steps_more steps at item inside is))
     (λ row more wide first value.
-        here row more wide (affinity_after first (steps_of (take at steps))) (value_after (alone (row ++ more)) first value (steps_of (take at steps)))
-        ∙ ap (λ (v : Value). value_by (alone row) (affinity_after first (steps_of (take at steps))) v (step_of item)) (before row more wide first value))
+    here row more wide (affinity_after first (steps_of (take at steps))) (value_after (alone (row ++ more)) first value (steps_of (take at steps)))
+    ∙ ap (λ (v : Value). value_by (alone row) (affinity_after first (steps_of (take at steps))) v (step_of item)) (before row more wide first value))
 
 -- one more item of which P holds
 all-more : {X : Type 0} (P : X → Type 0) (xs : List X) (at : ℕ) (x : X) → at < length xs → x ≡ get_or xs at x → All P (take at xs) → P x → All P (take (at + 1) xs)

@@ -1,4 +1,4 @@
-use Rattle.std.proofs.Common.{ap, ◌∙◌, sym}
+use Rattle.std.proofs.Common.{ap, ◌∙◌}
 use Rattle.sql_query.specs.Exprs.{binary, chain, column, literal, no_steps, then}
 use Rattle.sql_query.specs.View.{expr_of}
 use Rattle.sql_planner.proofs.Fitting.{test-behind}

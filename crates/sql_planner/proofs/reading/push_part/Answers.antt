@@ -16,8 +16,8 @@ returns-in-Some c =
     subst (λ (found : Option Constraint). IfSome found (λ test. (b : ℕ) → IfSome c.args.width (λ known. known ≡ b) → IsTestOf c.args.table.0 b e test)) c.in-Some.is c.in_ok-test.ensures in
     on_ok_weaker c.push.result
     (λ is parts before known halves.
-        subst (λ (tests : List Constraint). AreHalves c.args.table.0 before (parts ++ e ∷ []) tests on) (sym is)
-        (halves-test c.args.table.0 before parts on c.args.tests.now e c.in-Some.test (test before known) halves))
+    subst (λ (tests : List Constraint). AreHalves c.args.table.0 before (parts ++ e ∷ []) tests on) (sym is)
+    (halves-test c.args.table.0 before parts on c.args.tests.now e c.in-Some.test (test before known) halves))
     c.push.ensures.ok
 
 pub returns-in_ok-copy_expr-in-None : goal.returns-in_ok-copy_expr-in-None
@@ -26,7 +26,7 @@ returns-in_ok-copy_expr-in-None c =
     let on = map expr_of c.args.on.now in
     on_ok_weaker c.push-in-None.result
     (λ is parts before known halves.
-        subst (AreHalves c.args.table.0 before (parts ++ e ∷ []) c.args.tests.now)
-        (sym (ap (map expr_of) is ∙ map-append expr_of c.args.on.now (c.in_ok-copy_expr-in-None.field-0 ∷ []) ∙ ap (λ (x : ExprTree). on ++ x ∷ []) c.in_ok-copy_expr-in-None.ensures))
-        (halves-on c.args.table.0 before parts on c.args.tests.now e halves))
+    subst (AreHalves c.args.table.0 before (parts ++ e ∷ []) c.args.tests.now)
+    (sym (ap (map expr_of) is ∙ map-append expr_of c.args.on.now (c.in_ok-copy_expr-in-None.field-0 ∷ []) ∙ ap (λ (x : ExprTree). on ++ x ∷ []) c.in_ok-copy_expr-in-None.ensures))
+    (halves-on c.args.table.0 before parts on c.args.tests.now e halves))
     c.push-in-None.ensures.ok
