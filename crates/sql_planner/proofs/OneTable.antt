@@ -1,5 +1,5 @@
 -- Queries of one table: what is tested where it is read.
-use Rattle.std.proofs.Common.{◌≡◌, ℕ, ◌+◌, ◌<◌, length, drop, take, arith, refl, sym, ap, ◌∙◌, Bool, true, false, cond, ◌&&◌, true≢false, List, [], ◌∷◌, ◌++◌, filter, map, get_or, Option, Some, None, unwrap_or}
+use Rattle.std.proofs.Common.{◌≡◌, ℕ, ◌+◌, ◌<◌, length, take, arith, refl, sym, ap, ◌∙◌, Bool, true, false, cond, ◌&&◌, true≢false, List, [], ◌∷◌, ◌++◌, filter, map, get_or, Option, Some, None, unwrap_or}
 use Rattle.std.proofs.lemmas.List.{take_more, map-append}
 use Rattle.osq_value.specs.declared.value.Value.{Value}
 use Rattle.osq_value.specs.declared.value.Value.TheVariants.{Null}
@@ -15,7 +15,7 @@ use Rattle.sql_query.specs.declared.tree.Expr.{Expr}
 use Rattle.sql_query.specs.declared.place.Place.{Place}
 use Rattle.sql_meaning.specs.Expressions.{alone, holds, is_true, is_true_truth, value_of}
 use Rattle.sql_meaning.specs.Finished.{seen}
-use Rattle.sql_meaning.specs.Joins.{View, joins, product}
+use Rattle.sql_meaning.specs.Joins.{View, product}
 use Rattle.sql_meaning.specs.Steps.{behind_from, environments}
 use Rattle.sql_scalar.specs.Operators.{apply_of}
 use Rattle.sql_scalar.specs.Truth.{truth_of}
@@ -133,11 +133,3 @@ only-one view [] source one is inner none = absurd (omega (arith, one))
 only-one view (first ∷ []) source one is inner none =
     ap (λ (s : QuerySource). product view (source_of s ∷ [])) (sym is) ∙ product-one view (source_of source) inner (ap (map expr_of) none)
 only-one view (first ∷ second ∷ rest) source one is inner none = absurd (omega (arith, one))
-
--- a first table, whose rows the others are joined to
-pub plain-first : (view : View) (sources : List QuerySource) (source : QuerySource) → 0 < length sources → source ≡ get_or sources 0 source → source.is_outer ≡ false → source.on.parts ≡ []
-    → product view (map source_of sources) ≡ joins view (view source.table.0) (map source_of (drop 1 sources))
-plain-first view [] source some is inner none = absurd (omega (arith, some))
-plain-first view (first ∷ rest) source some is inner none =
-    ap (λ (s : QuerySource). product view (source_of s ∷ map source_of rest)) (sym is)
-    ∙ ap (λ (rows : List (List Value)). joins view rows (map source_of rest)) (product-one view (source_of source) inner (ap (map expr_of) none))

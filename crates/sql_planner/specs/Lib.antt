@@ -5,4 +5,7 @@ pub mod Likes
 pub mod Literals
 pub mod Plans
 pub mod Pushed
+pub mod Pushing
+pub mod Reading
 pub mod Running
+pub mod Within

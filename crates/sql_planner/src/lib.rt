@@ -8,9 +8,13 @@ mod joining;
 mod likes;
 pub mod plan;
 mod planning;
+mod pushing;
+mod reading;
 mod running;
 mod single;
 mod tables;
+mod wide;
+mod within;
 
 pub use explaining::explain;
 pub use plan::{JoinForm, Plan, Scan, ScanList};

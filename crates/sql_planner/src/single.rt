@@ -30,16 +30,6 @@ pub(crate) fn only_table(sources: &[QuerySource]) -> Option<&QuerySource>
     if is_plain(source) { Some(source) } else { None }
 }
 
-/// The first table of FROM, where it is an inner one without a condition. Its rows are then those that the others are joined to.
-pub(crate) fn first_plain(sources: &[QuerySource]) -> Option<&QuerySource>
-    ensures { IfSome result (λ source. (view : View) → product_of view (map source_of sources.now) ≡ joins_of view (view source.now.table.0) (map source_of (drop 1 sources.now))) }
-{
-    let [source, ..] = sources else {
-        return None;
-    };
-    if is_plain(source) { Some(source) } else { None }
-}
-
 /// Whether a table is an inner one without a condition.
 fn is_plain(source: &QuerySource) -> bool
     ensures inner { result ≡ true → source.now.is_outer ≡ false }
@@ -142,7 +132,7 @@ fn comparison_of(part: &Expr) -> Option<Compared>
 }
 
 /// Whether the column of a table has that affinity.
-fn has_affinity(table: TableId, column: u32, affinity: Option<Affinity>) -> bool
+pub(crate) fn has_affinity(table: TableId, column: u32, affinity: Option<Affinity>) -> bool
     ensures { result ≡ true → affinity_at table.0 column ≡ affinity }
 {
     let Some(column) = column_of(table, column) else {

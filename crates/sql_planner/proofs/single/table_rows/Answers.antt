@@ -1,7 +1,5 @@
 use Rattle.std.proofs.Common.{◌≡◌, ◌∙◌, List, ap, map, subst, sym, true}
-use Rattle.std.specs.List.{filter}
 use Rattle.std.proofs.lemmas.Result.{IfOk-weaker}
-use Rattle.osq_value.specs.declared.value.Value.{Value}
 use Rattle.sql_query.specs.declared.tree.Expr.{Expr}
 use Rattle.sql_query.specs.Resolved.{query_of}
 use Rattle.sql_query.specs.View.{expr_of}
