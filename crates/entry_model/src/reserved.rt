@@ -1,14 +1,16 @@
 //! Runs with room for more, so that a batch is recorded without memory.
 
-ghost use Rattle.std.specs.Prelude.{◌≡◌, ◌<◌, ◌^◌, All, OnOk, OnErr, false, max};
-ghost use Rattle.entry_model.specs.Reserved.{has_run, noted};
+ghost use Rattle.std.specs.Prelude.{◌≡◌, ◌<◌, ◌^◌, All, OnOk, OnErr, Some, false, length, max, set, slice_get};
+ghost use Rattle.entry_model.specs.declared.restored.Run.{Run as RunOf};
+ghost use Rattle.entry_model.specs.Reserved.{HaveOwnKeys, has_run, noted, place_of};
+ghost use Rattle.entry_model.specs.Runs.{changed_run};
 
-use crate::restored::{Run, RunList, change_run};
+use crate::restored::{Run, RunList};
 use osq_value::NoMemory;
 use pack_rules::schedule::QueryKey;
 use std::marker::Model;
 
-/// Runs, and for how many more there is room.
+/// Runs of different queries, and for how many more there is room.
 #[derive(Drop)]
 pub struct ReservedRuns {
     runs: Vec<Run>,
@@ -17,18 +19,32 @@ pub struct ReservedRuns {
 
 impl Model for ReservedRuns {
     ghost use Rattle.std.specs.Prelude.{◌+◌, ◌≤◌, vec_len, vec_capacity};
-    ghost use Rattle.entry_model.specs.Reserved.{RunsAndRoom};
+    ghost use Rattle.entry_model.specs.Reserved.{HaveOwnKeys, RunsAndRoom};
 
     ghost Value = { RunsAndRoom };
 
     ghost view = { λ r. record { runs = r.runs.items; room = r.room } };
 
-    ghost invariant = { λ r. vec_len r.runs + r.room ≤ vec_capacity r.runs };
+    ghost invariant = { λ r. (vec_len r.runs + r.room ≤ vec_capacity r.runs) × HaveOwnKeys r.runs.items };
+}
+
+/// Changes the run at this place, which has one more batch.
+fn change_at(runs: &mut [Run], at: usize, number: u64, hi: u64, moment: u64)
+    requires within { at < length runs.old }
+    requires counts { All (λ run. run.count < 2 ^ 63) runs.old }
+    ensures { (run : RunOf) → slice_get runs.old at ≡ Some run → runs.new ≡ set runs.old at (changed_run number hi moment run) }
+{
+    let run = &mut runs[at];
+    run.number = number;
+    run.hi = hi;
+    run.moment = moment;
+    run.count += 1;
 }
 
 impl ReservedRuns {
     /// These runs, with no room for more.
     pub fn of(runs: RunList) -> ReservedRuns
+        requires { HaveOwnKeys runs }
         ensures { result ≡ record { runs = runs; room = 0 } }
     {
         ReservedRuns {
@@ -57,14 +73,27 @@ impl ReservedRuns {
         Ok(())
     }
 
-    /// Notes one more batch of the query. It takes no memory: a query without a run has its run where there is room.
-    pub fn record_run(&mut self, key: QueryKey, number: u64, hi: u64, moment: u64)
+    /// Notes one more batch of the query whose run stands at this place, in one step. It takes no memory: a query without
+    /// a run has its run where there is room.
+    pub fn record_run(
+        &mut self,
+        place: Option<usize>,
+        key: QueryKey,
+        number: u64,
+        hi: u64,
+        moment: u64,
+    )
         requires counts { All (λ run. run.count < 2 ^ 63) self.old.runs }
         requires room { has_run self.old.runs key ≡ false → 0 < self.old.room }
+        requires place { place ≡ place_of self.old.runs key }
         ensures { self.new ≡ noted self.old key number hi moment }
     {
-        if change_run(self.runs.as_mut_slice(), &key, number, hi, moment) {
-            return;
+        match place {
+            Some(place) => {
+                change_at(self.runs.as_mut_slice(), place, number, hi, moment);
+                return;
+            }
+            None => {}
         }
         self.runs.push_reserved(Run {
             key,

@@ -4,7 +4,8 @@ use Rattle.osq_value.specs.declared.moment.TheConstants.{LAST_MOMENT}
 use Rattle.entry_model.specs.declared.restored.Restored.{Restored}
 use Rattle.entry_model.specs.declared.restored.SetTable.{SetTable}
 use Rattle.entry_model.specs.Fits.{IsRisingFrom, LiveFits, RunFits, TableFits}
-use Rattle.entry_summary.specs.Distinct.{HaveOwnKeys, HaveOwnNumbers, HaveOwnTables}
+use Rattle.entry_model.specs.Reserved.{HaveOwnKeys}
+use Rattle.entry_summary.specs.Distinct.{HaveOwnNumbers, HaveOwnTables}
 
 pub record AreEvents (r : Restored) : Type 0 where
   pub floors : All (λ floor. floor ≤ r.last) r.floors

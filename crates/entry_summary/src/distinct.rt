@@ -6,7 +6,8 @@
 ghost use Rattle.std.specs.Prelude.{◌≡◌, ◌==◌, ◌↔◌, IsTrue, bytes_eq};
 ghost use Rattle.std.specs.List.{list_any};
 ghost use Rattle.pack_rules.specs.Keys.{same_key};
-ghost use Rattle.entry_summary.specs.Distinct.{HaveOwnKeys, HaveOwnNumbers, HaveOwnSources, HaveOwnTables};
+ghost use Rattle.entry_model.specs.Reserved.{HaveOwnKeys};
+ghost use Rattle.entry_summary.specs.Distinct.{HaveOwnNumbers, HaveOwnSources, HaveOwnTables};
 
 use entry_model::restored::{Run, SetTable, Taken};
 use osq_value::{Str, TableId};
@@ -58,7 +59,7 @@ fn has_key(runs: &[Run], key: &QueryKey) -> bool
 }
 
 /// No query has two runs.
-pub(crate) fn have_own_keys(runs: &[Run]) -> bool
+pub fn have_own_keys(runs: &[Run]) -> bool
     ensures { IsTrue result ↔ HaveOwnKeys runs.now }
 {
     for at in 0..runs.len() {

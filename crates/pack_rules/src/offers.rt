@@ -1,17 +1,25 @@
 //! What a configuration offers a host.
 
-ghost use Rattle.std.specs.Prelude.{◌≡◌, ◌++◌, length, Some, IfOk, OnOk};
+ghost use Rattle.std.specs.Prelude.{◌≡◌, ◌++◌, length, Some, option_map, IfOk, IfSome, OnOk};
 ghost use Rattle.sql_texts.specs.Texts.{query_in};
 ghost use Rattle.pack_rules.specs.Offers.{all_pack_queries, entries_in_pack, mode_in, mode_of, name_in_pack, named, offered, own_queries, own_query, pack_queries, pack_query, taken_mode};
 
 use crate::host::Host;
 use crate::rules::rules_hold;
 use crate::schedule::{Mode, QueryKey, Scheduled, ScheduledList};
+use accepted_queries::{AcceptedQuery, QueryText};
 use osq_config::{Config, Pack, QueryEntry, QueryEntryList};
 use osq_value::{Copied, NoMemory, Str};
 use sql_query::answers::is_evented;
-use sql_texts::text::{TextError, query_of_text};
+use sql_texts::text::TextError;
 use std::alloc::Global;
+
+/// The text of an entry that is taken, and the mode in which it runs.
+#[derive(Drop)]
+struct Taken {
+    text: QueryText,
+    mode: Mode,
+}
 
 fn mode_of(is_snapshot: bool, is_evented: bool) -> Mode
     ensures { result ≡ mode_of is_snapshot is_evented }
@@ -23,24 +31,39 @@ fn mode_of(is_snapshot: bool, is_evented: bool) -> Mode
     }
 }
 
-/// The mode of an entry whose text is accepted.
-fn accepted_mode(alloc: Global, entry: &QueryEntry) -> Result<Option<Mode>, NoMemory>
-    ensures { IfOk result (λ mode. mode ≡ mode_in entry.now.is_snapshot (query_in entry.now.text)) }
+/// An accepted text, with the mode of its entry.
+fn taken_with(alloc: Global, entry: &QueryEntry, query: AcceptedQuery) -> Result<Taken, NoMemory>
+    requires { query ≡ entry.now.text }
+    ensures mode { IfOk result (λ taken. Some taken.mode ≡ mode_in entry.now.is_snapshot (query_in entry.now.text)) }
+    ensures text { IfOk result (λ taken. taken.text ≡ entry.now.text) }
 {
-    match query_of_text(alloc, entry.text.as_str()) {
-        Ok(query) => Ok(Some(mode_of(entry.is_snapshot, is_evented(&query)))),
+    let mode = mode_of(entry.is_snapshot, is_evented(query.query()));
+    Ok(Taken {
+        text: QueryText::accepted(alloc, query)?,
+        mode,
+    })
+}
+
+/// The text and the mode of an entry whose text is accepted.
+fn accepted(alloc: Global, entry: &QueryEntry) -> Result<Option<Taken>, NoMemory>
+    ensures mode { IfOk result (λ found. option_map (λ taken. taken.mode) found ≡ mode_in entry.now.is_snapshot (query_in entry.now.text)) }
+    ensures text { IfOk result (λ found. IfSome found (λ taken. taken.text ≡ entry.now.text)) }
+{
+    match AcceptedQuery::of(alloc, entry.text.as_str()) {
+        Ok(query) => Ok(Some(taken_with(alloc, entry, query)?)),
         Err(TextError::NoMemory) => Err(NoMemory),
         Err(TextError::Parse(_)) => Ok(None),
         Err(TextError::Name(_)) => Ok(None),
     }
 }
 
-/// The mode of an entry whose rules hold and whose text is accepted.
-fn taken_mode(alloc: Global, host: &Host, entry: &QueryEntry) -> Result<Option<Mode>, NoMemory>
-    ensures { IfOk result (λ mode. mode ≡ taken_mode host.now entry.now) }
+/// The text and the mode of an entry whose rules hold and whose text is accepted.
+fn taken_of(alloc: Global, host: &Host, entry: &QueryEntry) -> Result<Option<Taken>, NoMemory>
+    ensures mode { IfOk result (λ found. option_map (λ taken. taken.mode) found ≡ taken_mode host.now entry.now) }
+    ensures text { IfOk result (λ found. IfSome found (λ taken. taken.text ≡ entry.now.text)) }
 {
     if rules_hold(host, &entry.rules) {
-        accepted_mode(alloc, entry)
+        accepted(alloc, entry)
     } else {
         Ok(None)
     }
@@ -59,18 +82,18 @@ fn name_in_pack(alloc: Global, pack: &str, key: &str) -> Result<Str, NoMemory>
 
 /// Adds the query of a taken entry under a name.
 fn push_named(
-    alloc: Global,
     offers: &mut ScheduledList,
     name: Str,
     entry: &QueryEntry,
-    mode: Mode,
+    taken: Taken,
 ) -> Result<(), NoMemory>
-    ensures { OnOk result (offers.new ≡ offers.old ++ named name entry.now (Some mode)) }
+    requires { taken.text ≡ entry.now.text }
+    ensures { OnOk result (offers.new ≡ offers.old ++ named name entry.now (Some taken.mode)) }
 {
     let key = QueryKey {
         name,
-        text: entry.text.copy(alloc)?,
-        mode,
+        text: taken.text,
+        mode: taken.mode,
     };
     offers.push(Scheduled {
         key,
@@ -87,11 +110,11 @@ fn push_own(
 ) -> Result<(), NoMemory>
     ensures { OnOk result (offers.new ≡ offers.old ++ own_query host.now entry.now) }
 {
-    match taken_mode(alloc, host, entry)? {
+    match taken_of(alloc, host, entry)? {
         None => Ok(()),
-        Some(mode) => {
+        Some(taken) => {
             let name = entry.name.copy(alloc)?;
-            push_named(alloc, offers, name, entry, mode)
+            push_named(offers, name, entry, taken)
         }
     }
 }
@@ -106,11 +129,11 @@ fn push_packed(
 ) -> Result<(), NoMemory>
     ensures { OnOk result (offers.new ≡ offers.old ++ pack_query host.now pack.now entry.now) }
 {
-    match taken_mode(alloc, host, entry)? {
+    match taken_of(alloc, host, entry)? {
         None => Ok(()),
-        Some(mode) => {
+        Some(taken) => {
             let name = name_in_pack(alloc, pack.as_str(), entry.name.as_str())?;
-            push_named(alloc, offers, name, entry, mode)
+            push_named(offers, name, entry, taken)
         }
     }
 }

@@ -3,6 +3,7 @@
 ghost use Rattle.std.specs.Prelude.{◌≡◌};
 ghost use Rattle.pack_rules.specs.Keys.{same_mode, same_key};
 
+use accepted_queries::QueryText;
 use osq_value::{Copied, NoMemory, Sequence, Str};
 use std::alloc::Global;
 
@@ -32,13 +33,24 @@ impl Mode {
 pub struct QueryKey {
     /// Its name in the schedule, with the pack's name before it where it is one of a pack.
     pub name: Str,
-    /// The text as the configuration has it, byte by byte.
-    pub text: Str,
+    /// The text as the configuration has it, byte by byte. Copies share what was made of it where it was accepted.
+    pub text: QueryText,
     /// Whether it is asked for what new events add, or for the whole answer.
     pub mode: Mode,
 }
 
 impl QueryKey {
+    /// A key whose text was only read.
+    pub fn read(name: Str, text: Str, mode: Mode) -> QueryKey
+        ensures { result ≡ record { name = name; text = text; mode = mode } }
+    {
+        QueryKey {
+            name,
+            text: QueryText::read(text),
+            mode,
+        }
+    }
+
     /// The two are keys of one query.
     pub fn is(&self, other: &QueryKey) -> bool
         ensures { result ≡ same_key self.now other.now }

@@ -7,6 +7,7 @@ ghost use Rattle.sql_query.specs.Resolved.{query_of};
 ghost use Rattle.sql_texts.specs.Texts.{query_in};
 ghost use Rattle.query_answers.specs.Texts.{answer_of, names_in};
 
+use accepted_queries::QueryText;
 use osq_value::{NoMemory, RowList, Tables, TextList};
 use sql_planner::{plan_of, run_plan};
 use sql_query::answers::names_of;
@@ -41,6 +42,21 @@ pub fn answer<V: Tables>(alloc: Global, text: &str, view: &V) -> Result<Option<R
     match asked(alloc, text)? {
         None => Ok(None),
         Some(query) => Ok(Some(rows_of(alloc, &query, view)?)),
+    }
+}
+
+/// The rows that the text means over the view, and nothing where it isn't accepted. A text that was accepted before isn't read again.
+#[tactic(auto, unfolding(sql_texts::specs::Meaning::is_accepted, sql_texts::specs::Meaning::meaning))]
+pub fn answer_again<V: Tables>(
+    alloc: Global,
+    text: &QueryText,
+    view: &V,
+) -> Result<Option<RowList>, NoMemory>
+    ensures { IfOk result (λ rows. rows ≡ answer_of text.now (V.rows_of view.now)) }
+{
+    match text.query() {
+        None => answer(alloc, text.as_str(), view),
+        Some(accepted) => Ok(Some(rows_of(alloc, accepted.query(), view)?)),
     }
 }
 

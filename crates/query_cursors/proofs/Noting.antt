@@ -1,6 +1,6 @@
 -- The places of runs after one more batch.
 use Rattle.std.proofs.Common.{◌≡◌, ℕ, zero, suc, ◌+◌, Bool, true, false, cond, List, [], ◌∷◌, ◌++◌, length, map, set, Option, Some, None, refl, sym, ap, ◌∙◌, subst, arith}
-use Rattle.std.specs.Prelude.{slice_get, if◌then◌else◌}
+use Rattle.std.specs.Prelude.{is_some, slice_get, if◌then◌else◌}
 use Rattle.std.specs.List.{position_from}
 use Rattle.std.specs.Cmp.Lexicographic.{slice_cmp, lists_total}
 use Rattle.std.specs.Cmp.{nat_cmp_total}
@@ -17,6 +17,7 @@ use Rattle.entry_model.specs.Runs.{changed_run, with_batch}
 use Rattle.pack_rules.specs.ByName.{names_rise}
 use Rattle.entry_model.proofs.Lists.{and_true}
 use Rattle.entry_model.proofs.Lasts.{same_key_is}
+use Rattle.entry_model.proofs.Placed.{found_within, none_found}
 use Rattle.entry_model.proofs.Summaries.{same_key-Decides}
 use Rattle.query_cursors.specs.Places.{place_of, places_of}
 
@@ -63,6 +64,14 @@ apart_behind q s less = by_same (same_key s q) refl
     by_same true e =
         let same = same_key_is s q e in
         not_less s.name (ap (λ (k : QueryKey). slice_cmp nat_cmp s.name k.name) same ∙ less)
+
+-- a query whose run has a place has a run, and one whose run has none has none
+pub run_there : (runs : List Run) (query : QueryKey) (place : Option ℕ) → place_of runs query ≡ place → is_some place ≡ true → has_run runs query ≡ true
+run_there runs query None at some = absurd (cc)
+run_there runs query (Some place) at some = (found_within (λ (run : Run). same_key run.key query) 0 runs place at).2
+
+pub no_run_there : (runs : List Run) (query : QueryKey) → place_of runs query ≡ None → has_run runs query ≡ false
+no_run_there runs query at = none_found (λ (run : Run). same_key run.key query) 0 runs at
 
 module _ (query : QueryKey) (number hi moment : ℕ) where
   abbrev changed : Run → Run

@@ -1,14 +1,14 @@
 -- The places of runs, and what is found by them.
 use Rattle.std.proofs.Common.{◌≡◌, ℕ, zero, suc, ◌+◌, ◌<◌, Bool, true, false, cond, List, [], ◌∷◌, ◌++◌, length, map, take, get_or, Option, Some, None, refl, sym, ap, ◌∙◌, arith, append_assoc, length-append}
-use Rattle.std.specs.Prelude.{find, position, slice_get, nat_lt, not, ◌&&◌, unwrap_or}
-use Rattle.std.specs.List.{position_from, prefix_len, zip}
-use Rattle.std.proofs.lemmas.List.{length-map, length-take, take_more, map-append}
+use Rattle.std.specs.Prelude.{find, slice_get, unwrap_or}
+use Rattle.std.specs.List.{position_from}
+use Rattle.std.proofs.lemmas.List.{length-take, take_more, map-append}
 use Rattle.pack_rules.specs.declared.schedule.QueryKey.{QueryKey}
 use Rattle.pack_rules.specs.declared.schedule.Scheduled.{Scheduled}
 use Rattle.pack_rules.specs.Keys.{same_key}
 use Rattle.entry_model.specs.declared.restored.Run.{Run}
-use Rattle.query_cursors.specs.Due.{run_of, is_due, first_due, first_free}
-use Rattle.query_cursors.specs.Places.{Indexed, place_of, places_of, run_at, placed_run, is_due_at, first_placed, free_placed}
+use Rattle.query_cursors.specs.Due.{run_of}
+use Rattle.query_cursors.specs.Places.{Indexed, place_of, places_of, run_at, placed_run}
 use Rattle.query_cursors.specs.Known.{first_known}
 
 at_length : (front : List Run) (x : Run) (xs : List Run) → slice_get (front ++ x ∷ xs) (length front) ≡ Some x
@@ -32,44 +32,6 @@ module _ (test : Run → Bool) where
 pub placed_is : (runs : List Run) (query : QueryKey) → run_at runs (place_of runs query) ≡ run_of runs query
 placed_is runs query = found_from (λ (run : Run). same_key run.key query) [] runs
 
-zip_map : {X Y : Type 0} (f : X → Y) (xs : List X) → zip xs (map f xs) ≡ map (λ (x : X). (x, f x)) xs
-zip_map f [] = refl
-zip_map {X} {Y} f (x ∷ xs) = ap (λ (ps : List (X × Y)). (x, f x) ∷ ps) (zip_map f xs)
-
-zip_first : {X Y Z : Type 0} (f : X → Y) (xs : List X) (zs : List Z) → zip (map f xs) zs ≡ map (λ (pair : X × Z). (f pair.0, pair.1)) (zip xs zs)
-zip_first f [] zs = refl
-zip_first f (x ∷ xs) [] = refl
-zip_first {X} {Y} {Z} f (x ∷ xs) (z ∷ zs) = ap (λ (ps : List (Y × Z)). (f x, z) ∷ ps) (zip_first f xs zs)
-
-prefix_map : {X Y : Type 0} (p : Y → Bool) (f : X → Y) (xs : List X) → prefix_len p (map f xs) ≡ prefix_len (λ (x : X). p (f x)) xs
-prefix_map p f [] = refl
-prefix_map p f (x ∷ xs) = ap (λ (n : ℕ). cond (p (f x)) (1 + n) 0) (prefix_map p f xs)
-
-position_map : {X Y : Type 0} (p : Y → Bool) (f : X → Y) (xs : List X) → position p (map f xs) ≡ position (λ (x : X). p (f x)) xs
-position_map {X} {Y} p f xs =
-    λ i. cond (nat_lt (prefix_map (λ (y : Y). not (p y)) f xs i) (length-map xs f i)) (Some (prefix_map (λ (y : Y). not (p y)) f xs i)) None
-
-module _ (runs : List Run) (queries : List Scheduled) (moment : ℕ) where
-  abbrev beside : Scheduled → Scheduled × Option ℕ
-  beside scheduled = (scheduled, place_of runs scheduled.key)
-
-  zipped : zip queries (places_of runs queries) ≡ map beside queries
-  zipped = zip_map (λ (scheduled : Scheduled). place_of runs scheduled.key) queries
-
-  -- by their places the first due query is found
-  pub first_placed_is : first_placed runs (places_of runs queries) queries moment ≡ first_due runs queries moment
-  first_placed_is =
-      ap (position (is_due_at runs moment)) zipped
-      ∙ position_map (is_due_at runs moment) beside queries
-      ∙ (λ i. position (λ (scheduled : Scheduled). is_due scheduled (placed_is runs scheduled.key i) moment) queries)
-
-  pub free_placed_is : (claimed : List Bool) → free_placed runs (places_of runs queries) queries claimed moment ≡ first_free runs queries claimed moment
-  free_placed_is claimed =
-      ap (λ (ps : List (Scheduled × Option ℕ)). position (λ (pair : (Scheduled × Option ℕ) × Bool). is_due_at runs moment pair.0 && not pair.1) (zip ps claimed)) zipped
-      ∙ ap (position (λ (pair : (Scheduled × Option ℕ) × Bool). is_due_at runs moment pair.0 && not pair.1)) (zip_first beside queries claimed)
-      ∙ position_map (λ (pair : (Scheduled × Option ℕ) × Bool). is_due_at runs moment pair.0 && not pair.1) (λ (pair : Scheduled × Bool). (beside pair.0, pair.1)) (zip queries claimed)
-      ∙ (λ i. position (λ (pair : Scheduled × Bool). is_due pair.0 (placed_is runs pair.0.key i) moment && not pair.1) (zip queries claimed))
-
 -- one run more
 position_more : (test : Run → Bool) (from : ℕ) (xs : List Run) (x : Run) → position_from test from (xs ++ x ∷ []) ≡ first_known (position_from test from xs) (test x) (from + length xs)
 position_more test from [] x = ap (λ (n : ℕ). cond (test x) (Some n) None) (omega arith)
@@ -92,7 +54,7 @@ place_more runs at d query within =
     let there : first_known (place_of front query) (same_key x.key query) (0 + length front) ≡ first_known (place_of front query) (same_key x.key query) at = ap (first_known (place_of front query) (same_key x.key query)) long in
     more ∙ last ∙ there
 
-found_place : (runs : List Run) (queries : List Scheduled) (at : ℕ) (scheduled : Scheduled) → slice_get queries at ≡ Some scheduled → slice_get (places_of runs queries) at ≡ Some (place_of runs scheduled.key)
+pub found_place : (runs : List Run) (queries : List Scheduled) (at : ℕ) (scheduled : Scheduled) → slice_get queries at ≡ Some scheduled → slice_get (places_of runs queries) at ≡ Some (place_of runs scheduled.key)
 found_place runs [] at scheduled h = absurd (cc)
 found_place runs (q ∷ queries) zero scheduled h =
     let same : q ≡ scheduled = cc in

@@ -1,5 +1,5 @@
 -- Which queries are due.
-use Rattle.std.specs.Prelude.{ℕ, ◌+◌, Bool, true, not, ◌&&◌, nat_le, List, find, position, Option, Some, None}
+use Rattle.std.specs.Prelude.{◌≡◌, ℕ, ◌+◌, ◌<◌, Bool, true, false, not, ◌&&◌, nat_le, List, find, get_or, position, slice_get, Option, Some, None}
 use Rattle.std.specs.List.{zip}
 use Rattle.std.specs.Option.{option_map_or}
 use Rattle.pack_rules.specs.declared.schedule.QueryKey.{QueryKey}
@@ -27,6 +27,11 @@ first_due runs queries moment = position (is_due_by runs moment) queries
 abbrev pub first_free : List Run → List Scheduled → List Bool → ℕ → Option ℕ
 first_free runs queries claimed moment =
     position (λ (pair : Scheduled × Bool). is_due_by runs moment pair.0 && not pair.1) (zip queries claimed)
+
+-- each query before this place is claimed or not due
+abbrev pub NoneFree : List Run → List Scheduled → List Bool → ℕ → ℕ → Type 0
+NoneFree runs queries claimed moment from =
+    (place : ℕ) (scheduled : Scheduled) → place < from → slice_get queries place ≡ Some scheduled → get_or claimed place false ≡ false → is_due_by runs moment scheduled ≡ false
 
 abbrev pub or_else : Option ℕ → Option ℕ → Option ℕ
 or_else (Some place) other = Some place

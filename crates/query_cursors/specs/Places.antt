@@ -1,16 +1,10 @@
 -- Where the queries of a schedule have their runs.
-use Rattle.std.specs.Prelude.{ℕ, Bool, if◌then◌else◌, not, ◌&&◌, List, length, map, set, slice_get, position, Option, Some, None, unwrap_or}
-use Rattle.std.specs.List.{position_from, zip}
+use Rattle.std.specs.Prelude.{ℕ, if◌then◌else◌, List, length, map, set, slice_get, Option, Some, None, unwrap_or}
 use Rattle.pack_rules.specs.declared.schedule.QueryKey.{QueryKey}
 use Rattle.pack_rules.specs.declared.schedule.Scheduled.{Scheduled}
-use Rattle.pack_rules.specs.Keys.{same_key}
 use Rattle.entry_model.specs.declared.restored.Run.{Run}
+pub use Rattle.entry_model.specs.Reserved.{place_of}
 use Rattle.entry_model.specs.Reserved.{RunsAndRoom, has_run}
-use Rattle.query_cursors.specs.Due.{is_due}
-
--- the place of the query's run among the runs, if it has one
-abbrev pub place_of : List Run → QueryKey → Option ℕ
-place_of runs query = position_from (λ (run : Run). same_key run.key query) 0 runs
 
 -- the places of the runs of these queries
 abbrev pub places_of : List Run → List Scheduled → List (Option ℕ)
@@ -37,15 +31,3 @@ placed_run c at = run_at c.runs (unwrap_or (slice_get c.places at) None)
 -- the places after a batch of the query at this place of the schedule: a first one makes a run behind the others
 abbrev pub places_noted : Indexed → ℕ → QueryKey → List (Option ℕ)
 places_noted c at query = if has_run c.runs query then c.places else set c.places at (Some (length c.runs))
-
--- a query is due by the run at its place
-abbrev pub is_due_at : List Run → ℕ → Scheduled × Option ℕ → Bool
-is_due_at runs moment pair = is_due pair.0 (run_at runs pair.1) moment
-
--- the first due query, and the first due one that is not claimed, by the places of their runs
-abbrev pub first_placed : List Run → List (Option ℕ) → List Scheduled → ℕ → Option ℕ
-first_placed runs places queries moment = position (is_due_at runs moment) (zip queries places)
-
-abbrev pub free_placed : List Run → List (Option ℕ) → List Scheduled → List Bool → ℕ → Option ℕ
-free_placed runs places queries claimed moment =
-    position (λ (pair : (Scheduled × Option ℕ) × Bool). is_due_at runs moment pair.0 && not pair.1) (zip (zip queries places) claimed)

@@ -3,9 +3,9 @@
 ghost use Rattle.std.specs.Prelude.{◌≡◌, ◌<◌, ◌≤◌, ◌^◌, All, OnOk, OnErr, IfOk, IfSome, [], false, length, find, max, set, slice_get, unwrap_or, Some, None, option_copied};
 ghost use Rattle.std.specs.Option.{option_map_or};
 ghost use Rattle.pack_rules.specs.Keys.{same_key};
-ghost use Rattle.entry_model.specs.Reserved.{has_run, noted};
-ghost use Rattle.query_cursors.specs.Due.{run_of, first_due, first_free, next_of, cursor_of, number_of};
-ghost use Rattle.query_cursors.specs.Places.{places_of, run_at, reserved_of, placed_run, places_noted, first_placed, free_placed};
+ghost use Rattle.entry_model.specs.Reserved.{HaveOwnKeys, has_run, noted, place_of};
+ghost use Rattle.query_cursors.specs.Due.{run_of, first_due, first_free, NoneFree, next_of, cursor_of, number_of};
+ghost use Rattle.query_cursors.specs.Places.{places_of, run_at, reserved_of, placed_run, places_noted};
 
 use crate::index::find_places;
 use crate::interval::due;
@@ -49,52 +49,6 @@ fn run_at(runs: &[Run], place: Option<usize>) -> Option<&Run>
     }
 }
 
-/// The place of the first query that is due, where each has its run at its place.
-fn find_due(
-    queries: &[Scheduled],
-    places: &[Option<usize>],
-    runs: &[Run],
-    moment: u64,
-) -> Option<usize>
-    ensures place { result ≡ first_placed runs.now places.now queries.now moment }
-    ensures within { IfSome result (λ place. place < length queries.now) }
-{
-    queries.iter().zip(places.iter()).position(|(scheduled, place)| due(
-        scheduled,
-        run_at(runs, *place),
-        moment,
-    ))
-}
-
-/// The place of the first query that is due and not claimed, where each has its run at its place.
-fn find_free(
-    queries: &[Scheduled],
-    places: &[Option<usize>],
-    runs: &[Run],
-    claimed: &[bool],
-    moment: u64,
-) -> Option<usize>
-    ensures place { result ≡ free_placed runs.now places.now queries.now claimed.now moment }
-    ensures within { IfSome result (λ place. place < length queries.now) }
-{
-    queries
-        .iter()
-        .zip(places.iter())
-        .zip(claimed.iter())
-        .position(|((scheduled, place), claimed)| {
-            due(scheduled, run_at(runs, *place), moment) && !*claimed
-        })
-}
-
-/// The query at this place of the schedule has its run there.
-fn place_at(places: &mut [Option<usize>], at: usize, place: usize)
-    ensures { places.new ≡ set places.old at (Some place) }
-{
-    if at < places.len() {
-        places[at] = Some(place);
-    }
-}
-
 /// The number of the run, 0 where there is none.
 fn number_in(run: Option<&Run>) -> u64
     ensures { result ≡ option_map_or (λ run. run.number) (option_copied run.entry) 0 }
@@ -108,6 +62,7 @@ fn number_in(run: Option<&Run>) -> u64
 impl Cursors {
     /// These runs, with no room for more, and no schedule. It takes no memory.
     pub fn restore(alloc: Global, runs: RunList) -> Cursors
+        requires { HaveOwnKeys runs }
         ensures { result ≡ record { runs = runs; room = 0; places = [] } }
     {
         Cursors {
@@ -207,56 +162,67 @@ impl Cursors {
         ensures place { result ≡ first_due self.now.runs queries.now moment }
         ensures within { IfSome result (λ place. place < length queries.now) }
     {
-        find_due(
-            queries,
-            self.places.as_slice(),
-            self.reserved.as_slice(),
-            moment,
-        )
+        for at in 0..queries.len() {
+            if due(&queries[at], self.placed_run(at), moment) {
+                return Some(at);
+            }
+        }
+        None
     }
 
-    /// The place of the first of these queries that is due and not claimed, by the places of their runs.
-    fn free_place(&self, queries: &[Scheduled], claimed: &[bool], moment: u64) -> Option<usize>
-        requires { self.now.places ≡ places_of self.now.runs queries.now }
+    /// The place of the first of these queries that is due and not claimed, which none before this place is, by the places
+    /// of their runs.
+    fn free_place(
+        &self,
+        queries: &[Scheduled],
+        claimed: &[bool],
+        from: usize,
+        moment: u64,
+    ) -> Option<usize>
+        requires places { self.now.places ≡ places_of self.now.runs queries.now }
+        requires claims { length claimed.now ≡ length queries.now }
+        requires passed { NoneFree self.now.runs queries.now claimed.now moment from }
         ensures place { result ≡ first_free self.now.runs queries.now claimed.now moment }
         ensures within { IfSome result (λ place. place < length queries.now) }
     {
-        let runs = self.reserved.as_slice();
-        find_free(queries, self.places.as_slice(), runs, claimed, moment)
-    }
-
-    /// The place of the first of these queries that is due and not claimed, else of the first that is due.
-    fn next_place(&self, queries: &[Scheduled], claimed: &[bool], moment: u64) -> Option<usize>
-        requires { self.now.places ≡ places_of self.now.runs queries.now }
-        ensures place { result ≡ next_of self.now.runs queries.now claimed.now moment }
-        ensures within { IfSome result (λ place. place < length queries.now) }
-    {
-        match self.free_place(queries, claimed, moment) {
-            Some(place) => Some(place),
-            None => self.due_place(queries, moment),
+        for at in from..queries.len() {
+            if !claimed[at] && due(&queries[at], self.placed_run(at), moment) {
+                return Some(at);
+            }
         }
+        None
     }
 
-    /// The place of the query to cut next: the first that is due and not claimed, else the first that is due; none exactly
-    /// where no query is due. It takes no memory, and a step a query.
-    pub fn next_due(&self, schedule: &Schedule, claimed: &[bool], moment: u64) -> Option<u32>
+    /// The place of the query to cut next: the first that is due and not claimed, which none before this place is, else the
+    /// first that is due; none exactly where no query is due. It takes no memory, and a step for each query from that place
+    /// on, or where all that are due are claimed for each query.
+    pub fn next_due(
+        &self,
+        schedule: &Schedule,
+        claimed: &[bool],
+        from: usize,
+        moment: u64,
+    ) -> Option<u32>
         requires count { length schedule.now.queries ≤ 10000 }
         requires claims { length claimed.now ≡ length schedule.now.queries }
         requires places { self.now.places ≡ places_of self.now.runs schedule.now.queries }
+        requires passed { NoneFree self.now.runs schedule.now.queries claimed.now moment from }
         ensures place { result ≡ next_of self.now.runs schedule.now.queries claimed.now moment }
         ensures within { IfSome result (λ place. place < length schedule.now.queries) }
     {
-        match self.next_place(schedule.queries.as_slice(), claimed, moment) {
-            None => None,
-            Some(place) => Some(place as u32),
+        let queries = schedule.queries.as_slice();
+        if let Some(place) = self.free_place(queries, claimed, from, moment) {
+            return Some(place as u32);
         }
+        self.first_due(schedule, moment)
     }
 
     /// The place of the first query that is due; none exactly where no query is. It takes no memory, and a step a query.
     pub fn first_due(&self, schedule: &Schedule, moment: u64) -> Option<u32>
         requires count { length schedule.now.queries ≤ 10000 }
         requires places { self.now.places ≡ places_of self.now.runs schedule.now.queries }
-        ensures { result ≡ first_due self.now.runs schedule.now.queries moment }
+        ensures place { result ≡ first_due self.now.runs schedule.now.queries moment }
+        ensures within { IfSome result (λ place. place < length schedule.now.queries) }
     {
         match self.due_place(schedule.queries.as_slice(), moment) {
             None => None,
@@ -272,18 +238,21 @@ impl Cursors {
         self.reserved.reserve_runs(room)
     }
 
-    /// Notes one more batch of the query that stands at this place of the schedule. It takes no memory: a query without a
-    /// run has its run where there is room.
+    /// Notes one more batch of the query that stands at this place of the schedule, in one step. It takes no memory: a query
+    /// without a run has its run where there is room.
     pub fn record_commit(&mut self, at: u32, key: QueryKey, number: u64, hi: u64, moment: u64)
         requires counts { All (λ run. run.count < 2 ^ 63) self.old.runs }
         requires room { has_run self.old.runs key ≡ false → 0 < self.old.room }
+        requires place { slice_get self.old.places at ≡ Some (place_of self.old.runs key) }
         ensures noted { reserved_of self.new ≡ noted (reserved_of self.old) key number hi moment }
         ensures places { self.new.places ≡ places_noted self.old at key }
     {
+        let place = self.places[at as usize];
         let count = self.reserved.as_slice().len();
-        self.reserved.record_run(key, number, hi, moment);
-        if count < self.reserved.as_slice().len() {
-            place_at(&mut self.places, at as usize, count);
+        self.reserved.record_run(place, key, number, hi, moment);
+        if place.is_some() {
+            return;
         }
+        self.places[at as usize] = Some(count);
     }
 }

@@ -54,7 +54,7 @@ impl Hash for Lent<'_> {
 
     fn hash<H: Hasher>(&self, state: &mut H) {
         self.key.name.hash(state);
-        self.key.text.hash(state);
+        self.key.text.as_str().hash(state);
     }
 }
 

@@ -62,7 +62,8 @@ fn push_scheduled(
 {
     let schedule = schedule_of(alloc, config, host, found)?;
     push_schedule(text, &schedule)?;
-    let notes = schedule_notes(alloc, config, host, found, left_out.as_bytes())?;
+    let queries = schedule.queries.as_slice();
+    let notes = schedule_notes(alloc, config, host, found, queries, left_out.as_bytes())?;
     push_notes(text, notes.as_slice())
 }
 

@@ -9,6 +9,7 @@ use crate::entries::{Judged, Outcome, judged_entries, scheduled};
 use control_escapes::push_text;
 use osq_config::{Config, Pack};
 use osq_value::{Bytes, NoMemory, Str};
+use pack_rules::schedule::Scheduled;
 use pack_rules::{Host, rules_hold};
 use sql_texts::text::{TextError, query_of_text};
 use std::alloc::Global;
@@ -164,11 +165,12 @@ fn push_snapshots(notes: &mut Bytes, entries: &[Judged]) -> Result<(), NoMemory>
 /// The lines that tell of a configuration on a host, where `found` says of each pack whether its discovery found something: one for each entry
 /// whose rules hold and whose text isn't accepted, of the schedule or of an active pack; one for each discovery text that isn't accepted, of a
 /// pack whose rules hold; the lines `left_out`, which tell of packs that are left out; and one for each scheduled query that has no evented
-/// table and isn't marked as a snapshot. Each kind stands in byte order of names.
+/// table and isn't marked as a snapshot. Each kind stands in byte order of names. `queries` are those of a schedule, by name: what the lines tell
+/// doesn't rest on them, but a text that was accepted for one of them isn't read again.
 ///
 /// ```
 /// // a schedule {"q": {"query": "SELECT x FROM users"}}, and no pack
-/// schedule_notes(alloc, &config, &host, &[], b"")?
+/// schedule_notes(alloc, &config, &host, &[], &[], b"")?
 /// // b"osqd: query q refused at 7: NoColumn\n"
 /// ```
 pub fn schedule_notes(
@@ -176,12 +178,13 @@ pub fn schedule_notes(
     config: &Config,
     host: &Host,
     found: &[bool],
+    queries: &[Scheduled],
     left_out: &[u8],
 ) -> Result<Bytes, NoMemory>
     requires { length found.now ≡ length config.now.packs }
     ensures { IfOk result (AreNotes config.now host.now found.now left_out.now) }
 {
-    let entries = judged_entries(alloc, config, host, found)?;
+    let entries = judged_entries(alloc, config, host, found, queries)?;
     let mut notes = Bytes::new(alloc);
     push_all_refused(alloc, &mut notes, entries.as_slice())?;
     push_all_discovery(alloc, &mut notes, host, config.packs.as_slice())?;

@@ -10,5 +10,6 @@ pub mod Reserving
 pub mod Known
 pub mod Cutting
 pub mod Committing
+pub mod Passed
 pub mod Marked
 pub mod Placed

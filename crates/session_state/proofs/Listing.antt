@@ -6,7 +6,7 @@ use Rattle.std.proofs.Math.Nat.{mod-lt}
 use Rattle.std.proofs.lemmas.Grind.{div_ceil_times}
 use Rattle.std.proofs.lemmas.Nat.{div-add-mod'}
 use Rattle.std.proofs.lemmas.Bool.Decides.{nat_tests}
-use Rattle.std.proofs.lemmas.List.{same_lists, get_or-take, get_or-drop, length-take, length-drop, get_or-set_other, get_or_default, length-set, drop-take, take_all}
+use Rattle.std.proofs.lemmas.List.{same_lists, get_or-take, get_or-drop, length-take, length-drop, get_or-set_same, get_or-set_other, get_or_default, length-set, drop-take, take_all}
 use Rattle.std.proofs.Math.ListN.{get_or-eq_default}
 use Rattle.std.proofs.Math.Seq.{take-length}
 use Rattle.entry_model.proofs.Lists.{is_below}
@@ -152,6 +152,32 @@ fresh_after shown after listed place long same fresh = record {
         by_part false e =
             let differs : part ≢ (place / 64) = λ is. absurd (grind (arith, nat_tests, e, is)) in
             fresh.right part (sym (get_or-set_other listed.stale (place / 64) part true true differs) ∙ h) ∙ chunk_kept shown after place long same part differs
+
+-- a part that was made anew is right, and no other one changes
+pub fresh_renewed : (shown : List (List Value)) (listed : RowsAndStale) (part : ℕ) (rows : List (List Value)) → AreFresh shown listed → part < length listed.stale → rows ≡ slice_chunk shown 64 part → AreFresh shown (record { rows = record listed.rows { parts = set listed.rows.parts part rows }; stale = set listed.stale part false })
+fresh_renewed shown listed part rows fresh inside is = record {
+  count = fresh.count;
+  parts = (let a : length (set listed.rows.parts part rows) ≡ length listed.rows.parts = simp length-set in let b : length (set listed.stale part false) ≡ length listed.stale = simp length-set in a ∙ fresh.parts ∙ sym b);
+  all = (let all = fresh.all in let n : length (set listed.stale part false) ≡ length listed.stale = simp length-set in omega (arith, all, n));
+  few = (let few = fresh.few in let n : length (set listed.stale part false) ≡ length listed.stale = simp length-set in omega (arith, few, n));
+  right = right;
+}
+  where
+    right : (other : ℕ) → get_or (set listed.stale part false) other true ≡ false → get_or (set listed.rows.parts part rows) other [] ≡ slice_chunk shown 64 other
+    right other h = by_part (other == part) refl
+      where
+        by_part : (b : Bool) → (other == part) ≡ b → get_or (set listed.rows.parts part rows) other [] ≡ slice_chunk shown 64 other
+        by_part true e =
+            let same : other ≡ part = grind (arith, nat_tests, e) in
+            let count = fresh.parts in
+            ap (λ (p : ℕ). get_or (set listed.rows.parts part rows) p []) same
+            ∙ get_or-set_same listed.rows.parts part rows [] (omega (arith, inside, count))
+            ∙ is
+            ∙ ap (slice_chunk shown 64) (sym same)
+        by_part false e =
+            let differs : other ≢ part = λ same. absurd (grind (arith, nat_tests, e, same)) in
+            get_or-set_other listed.rows.parts part other rows [] differs
+            ∙ fresh.right other (sym (get_or-set_other listed.stale part other false true differs) ∙ h)
 
 module _ (query : QueryKey) (number hi moment : ℕ) (runs : List Run) where
   abbrev before : Scheduled → List Value

@@ -161,14 +161,14 @@ module _ (query : QueryKey) (number hi moment : ℕ) where
         by_any false = find_past runs
 
   -- a query of the batch's key is not due at its moment
-  not_due : (runs : List Run) (scheduled : Scheduled) → query ≡ scheduled.key → 1 ≤ scheduled.interval → is_due_by (with_batch runs query number hi moment) moment scheduled ≡ false
+  pub not_due : (runs : List Run) (scheduled : Scheduled) → query ≡ scheduled.key → 1 ≤ scheduled.interval → is_due_by (with_batch runs query number hi moment) moment scheduled ≡ false
   not_due runs scheduled same least =
       let noted = noted_run runs in
       let at = noted.moment_is in
       let late : nat_le (noted.run.moment + scheduled.interval) moment ≡ false = grind (arith, nat_tests, at, least) in
       ap (λ (k : QueryKey). is_due scheduled (run_of (with_batch runs query number hi moment) k) moment) (sym same) ∙ ap (λ (o : Option Run). is_due scheduled o moment) noted.is ∙ late
 
-  was_due : (runs : List Run) (scheduled : Scheduled) → 1 ≤ scheduled.interval → is_due_by (with_batch runs query number hi moment) moment scheduled ≡ true → is_due_by runs moment scheduled ≡ true
+  pub was_due : (runs : List Run) (scheduled : Scheduled) → 1 ≤ scheduled.interval → is_due_by (with_batch runs query number hi moment) moment scheduled ≡ true → is_due_by runs moment scheduled ≡ true
   was_due runs scheduled least h = by_key (same_key query scheduled.key) refl
     where
       by_key : (b : Bool) → same_key query scheduled.key ≡ b → is_due_by runs moment scheduled ≡ true

@@ -1,4 +1,5 @@
 -- What contracts see of a state's fields.
+use Rattle.query_cursors.specs.Due.{NoneFree}
 use Rattle.session_state.specs.declared.state.State.TheInside.{Inside}
 use Rattle.session_state.specs.Kept.{Kept, IsState}
 use Rattle.session_state.specs.Computed.{schedule_shown}
@@ -23,3 +24,4 @@ kept s =
 pub record IsWhole (s : Inside) : Type 0 where
   pub state : IsState (kept s)
   pub listed : AreFresh (schedule_shown s.cursors.runs s.schedule.queries) s.listed
+  pub passed : NoneFree s.cursors.runs s.schedule.queries s.claims.items s.moment s.from

@@ -42,7 +42,7 @@ fn query_row(alloc: Global, scheduled: &Scheduled, run: Option<&Run>) -> Result<
     };
     let mut row = Row::with_capacity(alloc, 5)?;
     row.push(Value::Text(scheduled.key.name.copy(alloc)?))?;
-    row.push(Value::Text(scheduled.key.text.copy(alloc)?))?;
+    row.push(Value::Text(Str::of(alloc, scheduled.key.text.as_str())?))?;
     row.push(Value::Int(scheduled.interval as i64))?;
     row.push(Value::Int(count as i64))?;
     row.push(Value::Int(moment as i64))?;

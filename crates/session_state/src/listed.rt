@@ -55,14 +55,14 @@ fn part_of(
 }
 
 impl Listed {
-    /// No rows. It takes no memory.
-    pub fn none(alloc: Global) -> Listed
-        ensures { AreFresh [] result }
+    /// No rows.
+    pub fn none(alloc: Global) -> Result<Listed, NoMemory>
+        ensures { IfOk result (AreFresh []) }
     {
-        Listed {
-            rows: PartedRows::of(Vec::new(alloc), 0),
+        Ok(Listed {
+            rows: PartedRows::of(alloc, Vec::new(alloc), 0)?,
             stale: Vec::new(alloc),
-        }
+        })
     }
 
     /// The rows of these queries, whose runs are at these places.
@@ -83,7 +83,7 @@ impl Listed {
             parts.push(part_of(alloc, queries, cursors, places, part)?)?;
         }
         Ok(Listed {
-            rows: PartedRows::of(parts, queries.len()),
+            rows: PartedRows::of(alloc, parts, queries.len())?,
             stale: vec![in alloc; false; count]?,
         })
     }
@@ -111,19 +111,39 @@ impl Listed {
         requires places { cursors.now.places ≡ places_of cursors.now.runs queries.now }
         ensures { IfOk result (AreParts (schedule_shown cursors.now.runs queries.now)) }
     {
-        let mut rows = self.rows.share(alloc)?;
+        let mut rows = self.rows.share()?;
         for part in 0..self.stale.len() {
             if self.stale[part] {
-                rows.renew(
-                    part,
-                    part_of(alloc, queries, cursors, cursors.places(), part)?,
-                );
+                let renewed = part_of(alloc, queries, cursors, cursors.places(), part)?;
+                rows.renew(alloc, part, renewed)?;
             }
         }
         Ok(rows)
     }
 
-    /// Makes the rows of stale parts anew, so that no part is stale. What has no room leaves it as it was.
+    /// Makes the rows of this part anew, so that it isn't stale. What has no room leaves them as they were.
+    fn renew_part(
+        &mut self,
+        alloc: Global,
+        queries: &[Scheduled],
+        cursors: &Cursors,
+        part: usize,
+    ) -> Result<(), NoMemory>
+        requires fresh { AreFresh (schedule_shown cursors.now.runs queries.now) self.old }
+        requires runnable { All IsRunnable queries.now }
+        requires runs { All (IsRun (2 ^ 62)) cursors.now.runs }
+        requires places { cursors.now.places ≡ places_of cursors.now.runs queries.now }
+        requires within { part < length self.old.stale }
+        ensures fresh { AreFresh (schedule_shown cursors.now.runs queries.now) self.new }
+        ensures parts { length self.new.stale ≡ length self.old.stale }
+    {
+        let renewed = part_of(alloc, queries, cursors, cursors.places(), part)?;
+        self.rows.renew(alloc, part, renewed)?;
+        self.stale[part] = false;
+        Ok(())
+    }
+
+    /// Makes the rows of stale parts anew, so that no part is stale. Where memory is wanting some parts stay stale.
     pub fn renew(
         &mut self,
         alloc: Global,
@@ -136,9 +156,11 @@ impl Listed {
         requires places { cursors.now.places ≡ places_of cursors.now.runs queries.now }
         ensures { AreFresh (schedule_shown cursors.now.runs queries.now) self.new }
     {
-        let rows = self.shown(alloc, queries, cursors)?;
-        self.stale.fill(false);
-        self.rows = rows;
+        for part in 0..self.stale.len() {
+            if self.stale[part] {
+                self.renew_part(alloc, queries, cursors, part)?;
+            }
+        }
         Ok(())
     }
 }

@@ -41,7 +41,7 @@ use entry_model::entry::{Batch, Entry, EntryList};
 use entry_model::restored::{Restored, Run, TakenList};
 use event_store::{CutView, Image, SharedRows, Steps};
 use osq_value::{Copied, EventList, NoMemory, Reading, RowList, Sequence, Str, TableId, TextList};
-use pack_rules::schedule::{Form, Mode, Schedule};
+use pack_rules::schedule::{Form, Mode, Schedule, Scheduled};
 use query_cursors::Cursors;
 use std::alloc::Global;
 use std::marker::{Brand, Model};
@@ -102,6 +102,8 @@ pub struct State {
     /// The places of the session's Configured and Ticked entries.
     marks: Vec<u64>,
     claims: Vec<bool>,
+    /// Each query before this place is claimed or not due, so that the next one to cut is looked for from here on.
+    from: usize,
     /// The rows of `osquery_schedule`, which cuts share.
     listed: Listed,
     tail: Tail,
@@ -229,6 +231,7 @@ impl State {
         if restored.position >= MOST || restored.sessions >= MOST {
             return Err(NoMemory);
         }
+        let listed = Listed::none(alloc)?;
         let image = Image::restore(alloc, &restored)?;
         image.is_image();
         let session = restored.sessions + 1;
@@ -252,7 +255,8 @@ impl State {
             ticked: false,
             marks: Vec::new(alloc),
             claims: Vec::new(alloc),
-            listed: Listed::none(alloc),
+            from: 0,
+            listed,
             tail,
         })
     }
@@ -297,6 +301,13 @@ impl State {
         ensures { result ≡ self.now.schedule.form }
     {
         self.schedule.form
+    }
+
+    /// The queries of the present schedule.
+    pub fn queries(&self) -> &[Scheduled]
+        ensures { result.now ≡ self.now.schedule.queries }
+    {
+        self.schedule.queries.as_slice()
     }
 
     /// Adds an acknowledgement, and answers whether it did: it does where it is above the last one, and no batch is
@@ -403,6 +414,7 @@ impl State {
         };
         self.marks.push_reserved(self.position);
         forget(self.claims.as_mut_slice());
+        self.from = 0;
         self.position += 1;
         self.moment = moment;
         self.ticked = true;
@@ -445,6 +457,7 @@ impl State {
         };
         self.marks.push_reserved(self.position);
         self.claims = claims;
+        self.from = 0;
         self.listed = listed;
         self.cursors.set_places(places);
         self.schedule = kept;
@@ -733,8 +746,12 @@ impl State {
         if !self.ticked {
             return None;
         }
-        self.cursors
-            .next_due(&self.schedule, self.claims.as_slice(), self.moment)
+        self.cursors.next_due(
+            &self.schedule,
+            self.claims.as_slice(),
+            self.from,
+            self.moment,
+        )
     }
 
     /// The cut of the query at this place of the schedule.
@@ -799,6 +816,7 @@ impl State {
             return Err(NoMemory);
         };
         self.claims[place as usize] = true;
+        self.from = place as usize + 1;
         Ok(Some(cut))
     }
 
@@ -816,7 +834,9 @@ impl State {
         ensures cuts { (other : CutValue) → IsCutOf self.old other → IsCutOf self.new other }
     {
         if self.mark_from(cut.position()).is_none() {
-            unclaim(self.claims.as_mut_slice(), cut.place());
+            let place = cut.place();
+            unclaim(self.claims.as_mut_slice(), place);
+            self.from = self.from.min(place as usize);
         }
     }
 

@@ -1,13 +1,15 @@
 //! Cursors of the runs and queries of a line.
 
-ghost use Rattle.std.specs.Prelude.{◌≡◌, ◌<◌, ◌^◌, ◌↔◌, All, IfOk, IsTrue};
+ghost use Rattle.std.specs.Prelude.{◌≡◌, ◌<◌, ◌^◌, ◌↔◌, All, IfOk, IsTrue, Some, slice_get};
+ghost use Rattle.entry_model.specs.Reserved.{HaveOwnKeys, place_of};
 ghost use Rattle.query_cursors.specs.Places.{places_of};
 
 use crate::call::Call;
 use crate::making::{files_key, runs, schedule};
 use crate::shown::{number_or_none, told, yes_or_no};
 use entry_model::restored::{Run, RunList};
-use osq_value::NoMemory;
+use entry_summary::distinct::have_own_keys;
+use osq_value::{Copied, NoMemory};
 use pack_rules::schedule::{QueryKey, Schedule, Scheduled};
 use query_cursors::{Cursors, due};
 use serde_json::Value as Json;
@@ -15,6 +17,7 @@ use std::alloc::Global;
 
 /// Cursors that know where the queries of the schedule have these runs.
 fn placed(alloc: Global, runs: RunList, schedule: &Schedule) -> Result<Cursors, NoMemory>
+    requires { HaveOwnKeys runs }
     ensures places { IfOk result (λ cursors. cursors.places ≡ places_of cursors.runs schedule.now.queries) }
     ensures runs { IfOk result (λ cursors. cursors.runs ≡ runs) }
 {
@@ -37,14 +40,16 @@ fn next_due(
     runs: RunList,
     given: Call<'_>,
     call: Call<'_>,
-) -> Result<String, NoMemory> {
+) -> Result<String, NoMemory>
+    requires { HaveOwnKeys runs }
+{
     let schedule = schedule(alloc, given)?;
     let claimed = claims(alloc, call.text("claimed"))?;
     if schedule.queries.len() > 10000 || claimed.len() != schedule.queries.len() {
         return told(alloc, "no claims of the queries");
     }
     let cursors = placed(alloc, runs, &schedule)?;
-    let next = cursors.next_due(&schedule, claimed.as_slice(), call.number("moment"));
+    let next = cursors.next_due(&schedule, claimed.as_slice(), 0, call.number("moment"));
     number_or_none(alloc, next.map(u64::from))
 }
 
@@ -63,7 +68,9 @@ fn first_due(
     runs: RunList,
     given: Call<'_>,
     call: Call<'_>,
-) -> Result<String, NoMemory> {
+) -> Result<String, NoMemory>
+    requires { HaveOwnKeys runs }
+{
     let schedule = schedule(alloc, given)?;
     if schedule.queries.len() > 10000 {
         return told(alloc, "too many queries");
@@ -96,7 +103,9 @@ fn found(alloc: Global, cursors: &Cursors, key: &QueryKey, place: u64) -> Result
     Ok(text)
 }
 
-fn find(alloc: Global, runs: RunList, given: Call<'_>, call: Call<'_>) -> Result<String, NoMemory> {
+fn find(alloc: Global, runs: RunList, given: Call<'_>, call: Call<'_>) -> Result<String, NoMemory>
+    requires { HaveOwnKeys runs }
+{
     let schedule = schedule(alloc, given)?;
     let cursors = placed(alloc, runs, &schedule)?;
     let key = files_key(alloc, call.text("query"))?;
@@ -109,7 +118,9 @@ fn record_commit(
     runs: RunList,
     given: Call<'_>,
     call: Call<'_>,
-) -> Result<String, NoMemory> {
+) -> Result<String, NoMemory>
+    requires { HaveOwnKeys runs }
+{
     let Ok(place) = u32::try_from(call.number("place")) else {
         return told(alloc, "no place");
     };
@@ -117,10 +128,16 @@ fn record_commit(
         return told(alloc, "too many batches");
     }
     let schedule = schedule(alloc, given)?;
-    let mut cursors = placed(alloc, runs, &schedule)?;
     let key = files_key(alloc, call.text("query"))?;
-    record(alloc, &mut cursors, place, &key, call)?;
-    found(alloc, &cursors, &key, u64::from(place))
+    let Some(scheduled) = schedule.queries.get(place as usize) else {
+        return told(alloc, "no query there");
+    };
+    if scheduled.key.is(&key) {
+        let mut cursors = placed(alloc, runs, &schedule)?;
+        record(alloc, &mut cursors, place, &key, call)?;
+        return found(alloc, &cursors, &key, u64::from(place));
+    }
+    told(alloc, "another query there")
 }
 
 fn record(
@@ -130,9 +147,10 @@ fn record(
     key: &QueryKey,
     call: Call<'_>,
 ) -> Result<(), NoMemory>
-    requires { All (λ run. run.count < 2 ^ 63) cursors.old.runs }
+    requires counts { All (λ run. run.count < 2 ^ 63) cursors.old.runs }
+    requires place { slice_get cursors.old.places place ≡ Some (place_of cursors.old.runs key.now) }
 {
-    let key = files_key(alloc, key.name.as_str())?;
+    let key = key.copy(alloc)?;
     cursors.reserve(1)?;
     let (number, hi) = (call.number("number"), call.number("hi"));
     cursors.record_commit(place, key, number, hi, call.number("moment"));
@@ -166,6 +184,9 @@ pub(crate) fn take(alloc: Global, given: &Json, call: Call<'_>) -> Result<String
         line: given,
     };
     let runs = runs(alloc, given.items("runs"))?;
+    if !have_own_keys(runs.as_slice()) {
+        return told(alloc, "two runs of a query");
+    }
     match call.name() {
         "next_due" => next_due(alloc, runs, given, call),
         "first_due" => first_due(alloc, runs, given, call),

@@ -32,11 +32,7 @@ fn mode_of(word: &str) -> Mode {
 }
 
 pub(crate) fn key(alloc: Global, name: &str, text: &str, mode: Mode) -> Result<QueryKey, NoMemory> {
-    Ok(QueryKey {
-        name: Str::of(alloc, name)?,
-        text: Str::of(alloc, text)?,
-        mode,
-    })
+    Ok(QueryKey::read(Str::of(alloc, name)?, Str::of(alloc, text)?, mode))
 }
 
 /// The key of a query of this name that asks for new files.

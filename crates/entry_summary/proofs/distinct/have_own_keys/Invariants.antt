@@ -1,5 +1,5 @@
 use Rattle.std.proofs.Common.{◌↔◌, drop}
-use Rattle.entry_summary.specs.Distinct.{HaveOwnKeys}
+use Rattle.entry_model.specs.Reserved.{HaveOwnKeys}
 use Rattle.entry_summary.proofs.distinct.have_own_keys.Given as goal
 
 abbrev pub invariant-loop-at : goal.invariant-loop-at

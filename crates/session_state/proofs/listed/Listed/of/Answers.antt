@@ -37,4 +37,4 @@ returns c =
     let n = length queries in
     let are = parts_built shown c.loop-part.parts.items n (length-map queries _) (omega (arith, done, end, count, ceil)) (λ part within. c.loop-part.invariant.right part (omega (arith, within, count))) in
     let flags : length c.in_ok-vec.field-0.items ≡ c.div_ceil-count.result = ap (λ (flags : List Bool). length flags) (c.in_ok-vec.ensures.items_if_clones_equal (λ y e. e)) ∙ length-replicate c.div_ceil-count.result false in
-    parts_fresh shown c.of.result c.in_ok-vec.field-0.items (subst (AreParts shown) (sym c.of.ensures) are) (let parts = ap (λ (rows : Parted). length rows.parts) c.of.ensures in omega (arith, flags, parts, done, end, count))
+    parts_fresh shown c.in_ok-of.field-0 c.in_ok-vec.field-0.items (subst (AreParts shown) (sym c.in_ok-of.ensures) are) (let parts = ap (λ (rows : Parted). length rows.parts) c.in_ok-of.ensures in omega (arith, flags, parts, done, end, count))

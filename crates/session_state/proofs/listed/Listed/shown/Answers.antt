@@ -26,7 +26,7 @@ renew-requires-clause-whole c place within same =
     let shown = schedule_shown c.args.cursors.now.runs c.args.queries.now in
     let count = c.loop-part.invariant.count in
     let long = c.requires.fresh.count in
-    subst (λ (rows : List (List Value)). place % 64 < length rows) (sym c.in_ok-part_of.ensures) (in_chunk shown c.loop-part.part place (omega (arith, within, count, long)) same)
+    subst (λ (rows : List (List Value)). place % 64 < length rows) (sym c.in_ok-renewed.ensures) (in_chunk shown c.loop-part.part place (omega (arith, within, count, long)) same)
 
 pub returns : goal.returns
 returns c =

@@ -1,4 +1,4 @@
-use Rattle.std.proofs.Common.{rules, ◌∙◌, ◌+◌, ap, refl, [], ◌∷◌, ◌++◌}
+use Rattle.std.proofs.Common.{rules, arith, ◌∙◌, ◌+◌, ap, refl, [], ◌∷◌, ◌++◌}
 use Rattle.entry_model.specs.declared.entry.Entry.TheVariants.{Opened}
 use Rattle.pack_rules.specs.declared.schedule.Form.TheVariants as form
 use Rattle.session_state.specs.Tails.{EntriesAndRoom}
@@ -31,4 +31,5 @@ invariant_of-result c =
         past = search rules;
       };
       listed = search rules;
+      passed = λ place scheduled lt. absurd (omega (arith, lt));
     }

@@ -1,9 +1,11 @@
-use Rattle.std.proofs.Common.{◌≡◌, Some, sym, subst, ◌∙◌}
+use Rattle.std.proofs.Common.{◌≡◌, ◌<◌, true, length, set, Some, sym, subst, ◌∙◌}
 use Rattle.std.specs.Prelude.{option_map, slice_get}
-use Rattle.session_state.specs.Cutting.{cut_of}
+use Rattle.std.proofs.lemmas.List.{length-set}
+use Rattle.session_state.specs.Cutting.{cut_of, next_place}
 use Rattle.session_state.specs.Inside.{kept}
 use Rattle.session_state.specs.Kept.{Kept, IsState}
 use Rattle.session_state.proofs.Cutting.{not_none, given_stands, given_own_of}
+use Rattle.session_state.proofs.Passed.{passed_next}
 use Rattle.session_state.proofs.state.State.claim_cut.Goals as goal
 
 pub returns-in_default-cut_of-clause-none : goal.returns-in_default-cut_of-clause-none
@@ -33,3 +35,31 @@ returns-then-is_err-clause-none g c = (
   λ e. absurd (cc),
   λ none. absurd (let k = not_none c.args.self.now c.is_state.ensures c.in-Some.place c.in-Some.ensures.within (sym c.in-Some.ensures.place) none in cc),
 )
+
+pub invariant_of-self : goal.invariant_of-self
+invariant_of-self g c =
+    let s = kept c.self.inside in
+    let is = c.self.invariant.state in
+    let same = c.self.view_is ∙ c.renew_listed.ensures in
+    let place = c.in-Some.place in
+    let long : length (set s.claims place true) ≡ length s.claims = simp length-set in
+    record {
+      state = record {
+        image = is.image;
+        position = is.position;
+        sessions = is.sessions;
+        moment = is.moment;
+        runs = is.runs;
+        batches = is.batches;
+        acked = is.acked;
+        schedule = is.schedule;
+        claims = long ∙ is.claims;
+        room = is.room;
+        run_room = is.run_room;
+        places = is.places;
+        rising = is.rising;
+        past = is.past;
+      };
+      listed = c.self.invariant.listed;
+      passed = passed_next s is place (subst (λ (t : Kept). place < length t.schedule.queries) (sym same) c.in-Some.ensures.within) (subst (λ (t : Kept). next_place t ≡ Some place) (sym same) (sym c.in-Some.ensures.place));
+    }
