@@ -13,4 +13,4 @@ mod so_far;
 mod steps;
 mod wanted;
 
-pub use steps::rows_behind;
+pub use steps::{rows_behind, rows_behind_where};

@@ -5,7 +5,7 @@ ghost use Rattle.sql_query.specs.Resolved.{query_of, result_of};
 ghost use Rattle.sql_query.specs.View.{expr_of};
 ghost use Rattle.sql_meaning.specs.Expressions.{alone, value_at, value_of};
 ghost use Rattle.sql_meaning.specs.Lent.{values_in};
-ghost use Rattle.sql_meaning.specs.Steps.{behind_from, result_row, together};
+ghost use Rattle.sql_meaning.specs.Steps.{asked_by, behind_from, result_row, together};
 ghost use Rattle.sql_groups.specs.Folding.{item_over};
 ghost use Rattle.sql_groups.specs.Wanted.{IsCut};
 
@@ -16,35 +16,52 @@ use crate::items::{GroupItem, group_items};
 use crate::leading::leading;
 use crate::wanted::wanted;
 use osq_value::{NoMemory, RowList};
-use sql_meaning::{Joined, finished, rows_behind_from};
-use sql_query::query::Query;
+use sql_meaning::{Joined, finished, rows_where};
+use sql_query::query::{Condition, Query};
 use std::alloc::Global;
 
-/// The rows of a query whose FROM gives these rows: those of `rows_behind_from`. Where ORDER BY by columns goes with a small LIMIT, only
+/// The rows of a query whose FROM gives these rows: those of `rows_where`. Where ORDER BY by columns goes with a small LIMIT, only
 /// the rows that it keeps are evaluated, and where DISTINCT looks at one column, only the first row for each of its values.
 pub fn rows_behind(alloc: Global, query: &Query, rows: &[Joined]) -> Result<RowList, NoMemory>
     ensures { IfOk result (λ made. made ≡ behind_from (query_of query.now) (map values_in rows.now)) }
 {
+    rows_behind_where(alloc, query, &query.filter, rows)
+}
+
+/// The same with another condition in the place of WHERE: with the empty one, where all of the rows are such that WHERE keeps.
+pub fn rows_behind_where(
+    alloc: Global,
+    query: &Query,
+    condition: &Condition,
+    rows: &[Joined],
+) -> Result<RowList, NoMemory>
+    ensures { IfOk result (λ made. made ≡ behind_from (asked_by (map expr_of condition.now.parts) (query_of query.now)) (map values_in rows.now)) }
+{
     if query.is_grouped {
-        grouped_rows(alloc, query, rows)
+        grouped_rows(alloc, query, condition, rows)
     } else if query.is_distinct {
-        different_rows(alloc, query, rows)
+        different_rows(alloc, query, condition, rows)
     } else {
-        cut_rows(alloc, query, rows)
+        cut_rows(alloc, query, condition, rows)
     }
 }
 
 /// The rows of a query with groups.
-fn grouped_rows(alloc: Global, query: &Query, rows: &[Joined]) -> Result<RowList, NoMemory>
+fn grouped_rows(
+    alloc: Global,
+    query: &Query,
+    condition: &Condition,
+    rows: &[Joined],
+) -> Result<RowList, NoMemory>
     requires { query.now.is_grouped ≡ true }
-    ensures { IfOk result (λ made. made ≡ behind_from (query_of query.now) (map values_in rows.now)) }
+    ensures { IfOk result (λ made. made ≡ behind_from (asked_by (map expr_of condition.now.parts) (query_of query.now)) (map values_in rows.now)) }
 {
     let Some(place) = only_key(query.keys.as_slice()) else {
-        return rows_behind_from(alloc, query, rows);
+        return rows_where(alloc, query, condition, rows);
     };
     match group_items(alloc, query)? {
-        None => rows_behind_from(alloc, query, rows),
-        Some(items) => folded_rows(alloc, query, rows, place, items.as_slice()),
+        None => rows_where(alloc, query, condition, rows),
+        Some(items) => folded_rows(alloc, query, condition, rows, place, items.as_slice()),
     }
 }
 
@@ -52,6 +69,7 @@ fn grouped_rows(alloc: Global, query: &Query, rows: &[Joined]) -> Result<RowList
 fn folded_rows(
     alloc: Global,
     query: &Query,
+    condition: &Condition,
     rows: &[Joined],
     place: u32,
     items: &[GroupItem],
@@ -59,29 +77,34 @@ fn folded_rows(
     requires grouped { query.now.is_grouped ≡ true }
     requires key { (row : List Value) → map (value_of (alone row)) (map expr_of query.now.keys) ≡ value_at row place ∷ [] }
     requires items { (rows : List (List Value)) → result_row (query_of query.now) (together rows) ≡ map (λ item. item_over item rows) items.now }
-    ensures { IfOk result (λ made. made ≡ behind_from (query_of query.now) (map values_in rows.now)) }
+    ensures { IfOk result (λ made. made ≡ behind_from (asked_by (map expr_of condition.now.parts) (query_of query.now)) (map values_in rows.now)) }
 {
     if query.having.parts.len() > 0 {
-        return rows_behind_from(alloc, query, rows);
+        return rows_where(alloc, query, condition, rows);
     }
-    let Some(groups) = groups_by_column(alloc, place, items, &query.filter, rows)? else {
-        return rows_behind_from(alloc, query, rows);
+    let Some(groups) = groups_by_column(alloc, place, items, condition, rows)? else {
+        return rows_where(alloc, query, condition, rows);
     };
     match result_rows(alloc, groups.as_slice())? {
-        None => rows_behind_from(alloc, query, rows),
+        None => rows_where(alloc, query, condition, rows),
         Some(made) => finished(alloc, query, made),
     }
 }
 
 /// The rows of a query with DISTINCT and without groups.
-fn different_rows(alloc: Global, query: &Query, rows: &[Joined]) -> Result<RowList, NoMemory>
+fn different_rows(
+    alloc: Global,
+    query: &Query,
+    condition: &Condition,
+    rows: &[Joined],
+) -> Result<RowList, NoMemory>
     requires ungrouped { query.now.is_grouped ≡ false }
     requires distinct { query.now.is_distinct ≡ true }
-    ensures { IfOk result (λ made. made ≡ behind_from (query_of query.now) (map values_in rows.now)) }
+    ensures { IfOk result (λ made. made ≡ behind_from (asked_by (map expr_of condition.now.parts) (query_of query.now)) (map values_in rows.now)) }
 {
     match only_column(query.items.as_slice()) {
-        None => rows_behind_from(alloc, query, rows),
-        Some(place) => rows_by_column(alloc, query, rows, place),
+        None => rows_where(alloc, query, condition, rows),
+        Some(place) => rows_by_column(alloc, query, condition, rows, place),
     }
 }
 
@@ -89,29 +112,35 @@ fn different_rows(alloc: Global, query: &Query, rows: &[Joined]) -> Result<RowLi
 fn rows_by_column(
     alloc: Global,
     query: &Query,
+    condition: &Condition,
     rows: &[Joined],
     place: u32,
 ) -> Result<RowList, NoMemory>
     requires ungrouped { query.now.is_grouped ≡ false }
     requires distinct { query.now.is_distinct ≡ true }
     requires only { (row : List Value) → map (λ item. value_of (alone row) item.expr) (map result_of query.now.items) ≡ value_at row place ∷ [] }
-    ensures { IfOk result (λ made. made ≡ behind_from (query_of query.now) (map values_in rows.now)) }
+    ensures { IfOk result (λ made. made ≡ behind_from (asked_by (map expr_of condition.now.parts) (query_of query.now)) (map values_in rows.now)) }
 {
-    match different(alloc, place, &query.filter, rows)? {
-        None => rows_behind_from(alloc, query, rows),
-        Some(kept) => rows_behind_from(alloc, query, kept.as_slice()),
+    match different(alloc, place, condition, rows)? {
+        None => rows_where(alloc, query, condition, rows),
+        Some(kept) => rows_where(alloc, query, condition, kept.as_slice()),
     }
 }
 
 /// The rows of a query without DISTINCT and without groups.
-fn cut_rows(alloc: Global, query: &Query, rows: &[Joined]) -> Result<RowList, NoMemory>
+fn cut_rows(
+    alloc: Global,
+    query: &Query,
+    condition: &Condition,
+    rows: &[Joined],
+) -> Result<RowList, NoMemory>
     requires ungrouped { query.now.is_grouped ≡ false }
     requires all { query.now.is_distinct ≡ false }
-    ensures { IfOk result (λ made. made ≡ behind_from (query_of query.now) (map values_in rows.now)) }
+    ensures { IfOk result (λ made. made ≡ behind_from (asked_by (map expr_of condition.now.parts) (query_of query.now)) (map values_in rows.now)) }
 {
     match wanted(query.limit, query.skip) {
-        None => rows_behind_from(alloc, query, rows),
-        Some(count) => leading_rows(alloc, query, rows, count),
+        None => rows_where(alloc, query, condition, rows),
+        Some(count) => leading_rows(alloc, query, condition, rows, count),
     }
 }
 
@@ -119,19 +148,20 @@ fn cut_rows(alloc: Global, query: &Query, rows: &[Joined]) -> Result<RowList, No
 fn leading_rows(
     alloc: Global,
     query: &Query,
+    condition: &Condition,
     rows: &[Joined],
     count: usize,
 ) -> Result<RowList, NoMemory>
     requires ungrouped { query.now.is_grouped ≡ false }
     requires all { query.now.is_distinct ≡ false }
     requires cut { IsCut query.now.limit query.now.skip count }
-    ensures { IfOk result (λ made. made ≡ behind_from (query_of query.now) (map values_in rows.now)) }
+    ensures { IfOk result (λ made. made ≡ behind_from (asked_by (map expr_of condition.now.parts) (query_of query.now)) (map values_in rows.now)) }
 {
     match sort_columns(alloc, query.terms.as_slice())? {
-        None => rows_behind_from(alloc, query, rows),
+        None => rows_where(alloc, query, condition, rows),
         Some(columns) => {
-            let first = leading(alloc, columns.as_slice(), &query.filter, rows, count)?;
-            rows_behind_from(alloc, query, first.as_slice())
+            let first = leading(alloc, columns.as_slice(), condition, rows, count)?;
+            rows_where(alloc, query, condition, first.as_slice())
         }
     }
 }

@@ -72,3 +72,18 @@ cut query rows = cut_by query.limit query.skip rows
 -- the steps behind FROM, one after another
 abbrev pub behind_from : QueryTree → List (List Value) → List (List Value)
 behind_from query rows = cut query (map (items_in query) (ordered query (distinct query (map (result_row query) (environments query (filtered query rows))))))
+
+-- the query with another condition in the place of WHERE
+abbrev pub asked_by : List ExprTree → QueryTree → QueryTree
+asked_by condition query = record {
+  sources = query.sources;
+  filter = condition;
+  is_grouped = query.is_grouped;
+  keys = query.keys;
+  having = query.having;
+  items = query.items;
+  is_distinct = query.is_distinct;
+  terms = query.terms;
+  limit = query.limit;
+  skip = query.skip;
+}

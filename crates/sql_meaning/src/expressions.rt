@@ -1,10 +1,11 @@
 //! What an expression is worth over a row, or over a group of rows.
-ghost use Rattle.std.specs.Prelude.{◌≡◌, IfOk, map, unwrap_or};
+ghost use Rattle.std.specs.Prelude.{◌≡◌, IfOk, IfSome, map, unwrap_or};
 ghost use Rattle.osq_value.specs.declared.value.Value.TheVariants.{Null};
 ghost use Rattle.std.specs.Option.{option_copied};
 ghost use Rattle.sql_query.specs.View.{expr_of, step_of, steps_of, exprs_of, aggregate_of};
 ghost use Rattle.sql_meaning.specs.Expressions.{affinity_of as affinity_in, alone, cast_of, holds as holds_in, is_true as is_true_value, negated as negated_by, value_at, value_of, value_after, value_by, values_of};
 ghost use Rattle.sql_meaning.specs.Lent.{values_in};
+ghost use Rattle.sql_meaning.specs.Settled.{IsSettled};
 ghost use Rattle.sql_meaning.specs.Over.{environment_of};
 ghost use Rattle.sql_meaning.specs.Worths.{worth_of};
 ghost use Rattle.sql_meaning.specs.Steps.{first_row};
@@ -61,7 +62,8 @@ pub fn holds(alloc: Global, over: Over, parts: &[Expr]) -> Result<bool, NoMemory
     Ok(true)
 }
 
-fn is_true(value: &Value) -> bool
+/// Whether a value is true. Null isn't.
+pub fn is_true(value: &Value) -> bool
     ensures { result ≡ is_true_value value.now }
 {
     match truth(value) {
@@ -71,7 +73,7 @@ fn is_true(value: &Value) -> bool
 }
 
 /// The affinity of an expression: that of a column or of a cast, and none of any other.
-fn affinity_of(expr: &Expr) -> Option<Affinity>
+pub fn affinity_of(expr: &Expr) -> Option<Affinity>
     ensures { result ≡ affinity_in (expr_of expr.now) }
 {
     match expr {
@@ -125,6 +127,17 @@ fn negated(is_negated: bool, value: Value) -> Value
     if is_negated { negation(&value) } else { value }
 }
 
+/// What an operator gives whatever stands at its right, where the left side settles it: AND behind what is false, and OR behind what is true.
+fn settled(op: Operator, left: &Value) -> Option<Value>
+    ensures { IfSome result (IsSettled op left.now) }
+{
+    match (op, truth(left)) {
+        (Operator::And, Some(false)) => Some(Value::Int(0)),
+        (Operator::Or, Some(true)) => Some(Value::Int(1)),
+        _ => None,
+    }
+}
+
 /// A value with its affinity.
 type Side<'a> = (&'a Value, Option<Affinity>);
 
@@ -150,9 +163,9 @@ fn between(alloc: Global, side: Side, low: Side, high: Side) -> Result<Value, No
     apply(alloc, Operator::And, &above, &below, (None, None))
 }
 
-/// What an expression is worth over a row or a group.
+/// What an expression is worth over a row or a group. A column whose place lies beyond the row is Null, and so is an aggregate over a row.
 #[cycle(evaluate)]
-pub(crate) fn evaluate_over<'a>(
+pub fn evaluate_over<'a>(
     alloc: Global,
     over: Over<'a>,
     expr: &'a Expr,
@@ -225,6 +238,9 @@ fn step_value(
 {
     match step {
         ExprStep::Binary { op, right } => {
+            if let Some(value) = settled(*op, left) {
+                return Ok(value);
+            }
             let affinities = (affinity, affinity_of(right));
             apply(
                 alloc,

@@ -22,7 +22,8 @@ pub type ResultRow<'a> = Sequence<Worth<'a>>;
 pub type ResultRowList<'a> = Sequence<ResultRow<'a>>;
 
 impl<'a> Worth<'a> {
-    pub(crate) fn as_value(&self) -> &Value
+    /// The value, where it stands.
+    pub fn as_value(&self) -> &Value
         ensures { result.now ≡ worth_of self.now }
     {
         match self {

@@ -30,7 +30,7 @@ use Rattle.virtual_tables.specs.declared.constraint.ConstraintOp.{ConstraintOp}
 use Rattle.sql_planner.specs.Pushing.{AreParts, AreRows, AreWide, IsAnswered, IsPlaced, IsWide, Stands, asked_of, kept}
 use Rattle.sql_planner.specs.Reading.{AreHalves, IsTestOf}
 use Rattle.sql_planner.specs.Within.{AreStepsWithin, AreWithin, IsStepWithin, IsWithin}
-use Rattle.sql_planner.proofs.OneTable.{truth-met}
+use Rattle.sql_planner.proofs.Columns.{truth-met}
 use Rattle.sql_planner.proofs.Pushed.{holds-append, joins-behind, wide-join}
 
 -- expressions of a list, and steps of a chain, that look at the first values alone

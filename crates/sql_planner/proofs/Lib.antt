@@ -1,8 +1,12 @@
+mod Asking
 mod Chains
+mod Columns
+mod EarlyEnd
 mod Fitting
 mod Halved
 mod Joined
 mod OneTable
 mod Pieces
 mod Pushed
+mod Seen
 mod Walked

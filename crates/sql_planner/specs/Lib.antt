@@ -1,11 +1,12 @@
 pub mod Comparisons
+pub mod Early
 pub mod Explained
 pub mod Joining
-pub mod Likes
 pub mod Literals
 pub mod Plans
 pub mod Pushed
 pub mod Pushing
 pub mod Reading
+pub mod RowTests
 pub mod Running
 pub mod Within

@@ -3,16 +3,19 @@
 
 mod column_test;
 mod comparison;
+mod constants;
 mod explaining;
+mod item_set;
 mod joining;
-mod likes;
 pub mod plan;
 mod planning;
 mod pushing;
 mod reading;
+mod row_tests;
 mod running;
 mod single;
 mod tables;
+mod testing;
 mod wide;
 mod within;
 

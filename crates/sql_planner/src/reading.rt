@@ -1,5 +1,6 @@
 //! What is asked of a table's rows where they are read.
-ghost use Rattle.std.specs.Prelude.{◌≡◌, ℕ, ◌+◌, ◌++◌, ◌∷◌, [], IfOk, IfSome, List, OnOk, map};
+ghost use Rattle.std.specs.Prelude.{◌≡◌, ℕ, ◌+◌, ◌++◌, ◌∷◌, [], IfOk, IfSome, List, OnOk, map, true};
+ghost use Rattle.virtual_tables.specs.Constraints.{affinity_at};
 ghost use Rattle.sql_query.specs.Exprs.{ExprTree};
 ghost use Rattle.sql_query.specs.Resolved.{source_of};
 ghost use Rattle.sql_query.specs.View.{expr_of};
@@ -8,8 +9,7 @@ ghost use Rattle.sql_planner.specs.declared.reading.Reading.{Reading as ReadingO
 
 use crate::column_test::column_test;
 use crate::comparison::compares_by;
-use crate::single::has_affinity;
-use osq_value::{Copied, NoMemory, Sequence, TableId};
+use osq_value::{Affinity, Copied, NoMemory, Sequence, TableId, column_of};
 use sql_query::copy::copy_expr;
 use sql_query::query::{Condition, ExprList, QuerySource};
 use sql_query::tree::Expr;
@@ -138,5 +138,18 @@ fn column_behind(width: Option<usize>, at: u32) -> Option<u32>
     match u32::try_from(width) {
         Ok(width) => at.checked_sub(width),
         Err(_) => None,
+    }
+}
+
+/// Whether the column of a table has that affinity.
+fn has_affinity(table: TableId, column: u32, affinity: Option<Affinity>) -> bool
+    ensures { result ≡ true → affinity_at table.0 column ≡ affinity }
+{
+    let Some(column) = column_of(table, column) else {
+        return false;
+    };
+    match affinity {
+        Some(affinity) => column.affinity == affinity,
+        None => false,
     }
 }

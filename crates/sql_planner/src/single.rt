@@ -1,24 +1,24 @@
 //! Queries of one table, whose rows are those of FROM.
-ghost use Rattle.std.specs.Prelude.{◌≡◌, [], IfOk, IfSome, List, OnOk, drop, false, map, true};
+ghost use Rattle.std.specs.Prelude.{◌≡◌, [], ◌++◌, IfOk, IfSome, List, OnOk, false, filter, map, take, true};
+ghost use Rattle.std.specs.List.{list_all};
+ghost use Rattle.std.specs.Option.{option_copied, option_to_list};
 ghost use Rattle.osq_value.specs.declared.value.Value.{Value};
 ghost use Rattle.sql_query.specs.Resolved.{query_of, source_of};
 ghost use Rattle.sql_query.specs.View.{expr_of};
-ghost use Rattle.sql_meaning.specs.Expressions.{alone, holds, is_true, value_of};
-ghost use Rattle.sql_meaning.specs.Joins.{View, joins as joins_of, product as product_of};
+ghost use Rattle.sql_meaning.specs.Expressions.{alone, holds};
+ghost use Rattle.sql_meaning.specs.Joins.{View, product as product_of};
+ghost use Rattle.sql_meaning.specs.Lent.{values_in};
 ghost use Rattle.sql_meaning.specs.Steps.{behind_from};
-ghost use Rattle.sql_planner.specs.Pushed.{IsComparison};
-ghost use Rattle.virtual_tables.specs.Constraints.{affinity_at, is_met, meets};
+ghost use Rattle.sql_planner.specs.Early.{IsEarly};
+ghost use Rattle.sql_planner.specs.RowTests.{passes_some};
 
-use crate::column_test::column_test;
-use crate::comparison::compares_by;
-use crate::likes::like_rows;
-use osq_value::{Affinity, Copied, NoMemory, RowList, TableId, Tables, Value, column_of};
-use sql_groups::rows_behind;
-use sql_meaning::singles;
-use sql_query::query::{Query, QuerySource};
-use sql_query::tree::Expr;
+use crate::row_tests::{TestList, passes_all};
+use crate::testing::tests_of;
+use osq_value::{NoMemory, Row, RowList, TableId, Tables};
+use sql_groups::rows_behind_where;
+use sql_meaning::{Joined, JoinedList};
+use sql_query::query::{Condition, Query, QuerySource};
 use std::alloc::Global;
-use virtual_tables::{Constraint, ConstraintList, ConstraintOp, scan};
 
 /// The only table of FROM, where it is an inner one without a condition. The rows of FROM are then the rows of this table.
 pub(crate) fn only_table(sources: &[QuerySource]) -> Option<&QuerySource>
@@ -41,8 +41,14 @@ fn is_plain(source: &QuerySource) -> bool
     }
 }
 
-/// The rows of a query whose FROM gives the rows of one table. The conjuncts of WHERE that compare a column of it with a literal are
-/// tested where the table is read, and those that ask whether a column is like a literal before WHERE is.
+/// How many rows of a table are read first, where LIMIT may end a query early.
+const FIRST_ROWS: usize = 64;
+
+/// How many times as many are read each time that these aren't enough.
+const TIMES_MORE: usize = 16;
+
+/// The rows of a query whose FROM gives the rows of one table. WHERE is asked by tests that are made once, where the table is read. LIMIT ends the
+/// reading where neither groups nor ORDER BY look at all rows.
 pub(crate) fn table_rows<V: Tables>(
     alloc: Global,
     query: &Query,
@@ -51,95 +57,129 @@ pub(crate) fn table_rows<V: Tables>(
 ) -> Result<RowList, NoMemory>
     ensures { IfOk result (λ rows. rows ≡ behind_from (query_of query.now) (V.rows_of view.now source.now.table.0)) }
 {
-    let tests = pushed(alloc, source.table, query.filter.parts.as_slice())?;
-    let read = scan(alloc, view, source.table, &tests)?;
-    let rows = like_rows(alloc, read, query.filter.parts.as_slice())?;
-    let joined = singles(alloc, rows.as_slice())?;
-    rows_behind(alloc, query, joined.as_slice())
-}
-
-/// Constraints that each row meets of which the condition holds.
-fn pushed(alloc: Global, table: TableId, parts: &[Expr]) -> Result<ConstraintList, NoMemory>
-    ensures { IfOk result (λ made. (row : List Value) → holds (alone row) (map expr_of parts.now) ≡ true → meets table.0 made row ≡ true) }
-{
-    let mut made = ConstraintList::new(alloc);
-    for part in parts {
-        push_constraint(alloc, &mut made, table, part)?;
+    let tests = tests_of(alloc, query.filter.parts.as_slice())?;
+    match most_rows(query) {
+        None => all_rows(alloc, query, tests.as_slice(), source.table, view),
+        Some(most) => early_rows(alloc, query, tests.as_slice(), source.table, view, most),
     }
-    Ok(made)
 }
 
-/// Adds a constraint that each row meets of which this part of a condition is true, where there is one.
-fn push_constraint(
+/// How many rows the result has at most, where they are those that come first.
+fn most_rows(query: &Query) -> Option<usize>
+    ensures { IfSome result (IsEarly (query_of query.now)) }
+{
+    if query.is_grouped {
+        return None;
+    }
+    let Some(limit) = query.limit else {
+        return None;
+    };
+    if query.terms.len() > 0 {
+        return None;
+    }
+    match usize::try_from(limit) {
+        Ok(most) => Some(most),
+        Err(_) => None,
+    }
+}
+
+/// The rows of the result, of all rows of the table.
+fn all_rows<V: Tables>(
     alloc: Global,
-    made: &mut ConstraintList,
+    query: &Query,
+    tests: &[TestList],
     table: TableId,
-    part: &Expr,
+    view: &V,
+) -> Result<RowList, NoMemory>
+    requires { (row : List Value) → list_all (passes_some row) tests.now ≡ holds (alone row) (map expr_of query.now.filter.parts) }
+    ensures { IfOk result (λ rows. rows ≡ behind_from (query_of query.now) (V.rows_of view.now table.0)) }
+{
+    rows_of_first(alloc, query, tests, table, view, view.count(table))
+}
+
+/// The same, where these are as many as are wanted before all rows of the table are read: of its first rows, and then of many more.
+fn early_rows<V: Tables>(
+    alloc: Global,
+    query: &Query,
+    tests: &[TestList],
+    table: TableId,
+    view: &V,
+    wanted: usize,
+) -> Result<RowList, NoMemory>
+    requires asked { (row : List Value) → list_all (passes_some row) tests.now ≡ holds (alone row) (map expr_of query.now.filter.parts) }
+    requires early { IsEarly (query_of query.now) wanted }
+    ensures { IfOk result (λ rows. rows ≡ behind_from (query_of query.now) (V.rows_of view.now table.0)) }
+{
+    let count = view.count(table);
+    let mut read = wanted.max(FIRST_ROWS);
+    for _ in 0..4 {
+        if read < count {
+            let rows = rows_of_first(alloc, query, tests, table, view, read)?;
+            if rows.len() >= wanted {
+                return Ok(rows);
+            }
+            read = read.saturating_mul(TIMES_MORE);
+        }
+    }
+    all_rows(alloc, query, tests, table, view)
+}
+
+/// The rows of the result, of the first so many rows of the table.
+fn rows_of_first<V: Tables>(
+    alloc: Global,
+    query: &Query,
+    tests: &[TestList],
+    table: TableId,
+    view: &V,
+    read: usize,
+) -> Result<RowList, NoMemory>
+    requires { (row : List Value) → list_all (passes_some row) tests.now ≡ holds (alone row) (map expr_of query.now.filter.parts) }
+    ensures { IfOk result (λ rows. rows ≡ behind_from (query_of query.now) (take read (V.rows_of view.now table.0))) }
+{
+    let kept = passing(alloc, tests, table, view, read)?;
+    rows_behind_where(
+        alloc,
+        query,
+        &Condition::of(Vec::new(alloc)),
+        kept.as_slice(),
+    )
+}
+
+/// Of the first so many rows of a table those that pass a test of each list. They are lent by the view.
+fn passing<'a, V: Tables>(
+    alloc: Global,
+    tests: &[TestList],
+    table: TableId,
+    view: &'a V,
+    read: usize,
+) -> Result<JoinedList<'a>, NoMemory>
+    ensures { IfOk result (λ rows. map values_in rows ≡ filter (λ row. list_all (passes_some row) tests.now) (take read (V.rows_of view.entry.now table.0))) }
+{
+    let mut rows = JoinedList::new(alloc);
+    for at in 0..read.min(view.count(table)) {
+        push_passing(alloc, &mut rows, view.row(table, at), tests)?;
+    }
+    Ok(rows)
+}
+
+/// Adds a row if it passes a test of each list.
+fn push_passing<'a>(
+    alloc: Global,
+    rows: &mut JoinedList<'a>,
+    row: Option<&'a Row>,
+    tests: &[TestList],
 ) -> Result<(), NoMemory>
-    ensures { OnOk result ((row : List Value) → is_true (value_of (alone row) (expr_of part.now)) ≡ true → meets table.0 made.old row ≡ true → meets table.0 made.new row ≡ true) }
+    ensures { OnOk result (map values_in rows.new ≡ map values_in rows.old ++ filter (λ row. list_all (passes_some row) tests.now) (option_to_list (option_copied row.entry))) }
 {
-    match constraint_for(alloc, table, part)? {
-        None => Ok(()),
-        Some(constraint) => made.push(constraint),
+    let Some(row) = row else {
+        return Ok(());
+    };
+    let joined = Joined {
+        rows: &[],
+        last: Some(row),
+    };
+    if passes_all(alloc, tests, joined)? {
+        rows.push(joined)?;
     }
-}
-
-fn constraint_for(
-    alloc: Global,
-    table: TableId,
-    part: &Expr,
-) -> Result<Option<Constraint>, NoMemory>
-    ensures { IfOk result (λ made. IfSome made (λ c. (row : List Value) → is_true (value_of (alone row) (expr_of part.now)) ≡ true → is_met table.0 row c ≡ true)) }
-{
-    let Some(found) = comparison_of(part) else {
-        return Ok(None);
-    };
-    if !has_affinity(table, found.at, found.affinity) {
-        return Ok(None);
-    }
-    Ok(Some(Constraint {
-        column: found.at,
-        op: found.op,
-        value: found.value.copy(alloc)?,
-    }))
-}
-
-/// A column, by its place and affinity, that is compared with a literal behind it.
-#[derive(Clone, Copy)]
-struct Compared<'a> {
-    at: u32,
-    affinity: Option<Affinity>,
-    op: ConstraintOp,
-    value: &'a Value,
-}
-
-/// The comparison that an expression is.
-fn comparison_of(part: &Expr) -> Option<Compared>
-    ensures { IfSome result (IsComparison (expr_of part.now)) }
-{
-    let Some(found) = column_test(part) else {
-        return None;
-    };
-    let Some(op) = compares_by(found.op) else {
-        return None;
-    };
-    Some(Compared {
-        at: found.at,
-        affinity: found.affinity,
-        op,
-        value: found.value,
-    })
-}
-
-/// Whether the column of a table has that affinity.
-pub(crate) fn has_affinity(table: TableId, column: u32, affinity: Option<Affinity>) -> bool
-    ensures { result ≡ true → affinity_at table.0 column ≡ affinity }
-{
-    let Some(column) = column_of(table, column) else {
-        return false;
-    };
-    match affinity {
-        Some(affinity) => column.affinity == affinity,
-        None => false,
-    }
+    Ok(())
 }

@@ -21,7 +21,7 @@ use Rattle.virtual_tables.specs.declared.constraint.ConstraintOp.TheVariants.{Eq
 use Rattle.virtual_tables.specs.Constraints.{affinity_at, meets, operator_of}
 use Rattle.virtual_tables.specs.Tests.{is_passed, passes, tested, turned, wanted}
 
-same-order : (first : Option Affinity) (left right : Value) → compared first None left right ≡ order_of left (turned first right)
+pub same-order : (first : Option Affinity) (left right : Value) → compared first None left right ≡ order_of left (turned first right)
 same-order None left right = refl
 same-order (Some affinity.Integer) left right = refl
 same-order (Some affinity.Text) left right = refl
@@ -35,7 +35,7 @@ spelled-text (Text r) s None test = refl
 spelled-text (Text r) s (Some n) test = refl
 
 -- turning makes no Null of a literal, nor another value of Null
-same-nulls : (first : Option Affinity) (left right : Value) (test : Bool) → unless_null left right test ≡ unless_null left (turned first right) test
+pub same-nulls : (first : Option Affinity) (left right : Value) (test : Bool) → unless_null left right test ≡ unless_null left (turned first right) test
 same-nulls None left right test = refl
 same-nulls (Some affinity.Integer) left Null test = refl
 same-nulls (Some affinity.Integer) left (Int n) test = refl

@@ -93,8 +93,8 @@ fn affinity(table: TableId, column: u32) -> Option<Affinity>
     }
 }
 
-/// A literal as it is compared with a column of that affinity.
-fn turn(alloc: Global, affinity: Option<Affinity>, value: &Value) -> Result<Value, NoMemory>
+/// A literal as it is compared with a value of that affinity: the two are then in the order of `compare`. It is Null just where the literal is.
+pub fn turn(alloc: Global, affinity: Option<Affinity>, value: &Value) -> Result<Value, NoMemory>
     ensures { IfOk result (λ made. made ≡ turned affinity value.now) }
 {
     match affinity {

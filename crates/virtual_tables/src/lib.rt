@@ -4,5 +4,5 @@
 pub mod constraint;
 mod rows;
 
-pub use constraint::{Constraint, ConstraintList, ConstraintOp};
+pub use constraint::{Constraint, ConstraintList, ConstraintOp, turn};
 pub use rows::{RowRefs, scan};

@@ -5,6 +5,7 @@ use Rattle.sql_query.specs.Resolved.{query_of}
 use Rattle.sql_query.specs.View.{expr_of}
 use Rattle.sql_meaning.specs.declared.worth.Worth.{Worth}
 use Rattle.sql_meaning.specs.Finished.{finished}
+use Rattle.sql_meaning.specs.Steps.{asked_by}
 use Rattle.sql_meaning.specs.Worths.{worths}
 use Rattle.sql_groups.specs.declared.items.GroupItem.{GroupItem}
 use Rattle.sql_groups.specs.declared.so_far.SoFar.{SoFar}
@@ -15,9 +16,9 @@ use Rattle.sql_groups.proofs.steps.folded_rows.Goals as goal
 
 pub returns : goal.returns
 returns c =
-    let query = query_of c.args.query.now in
+    let query = asked_by (map expr_of c.args.condition.now.parts) (query_of c.args.query.now) in
     let items = c.args.items.now in
-    let gathered = lists c.args.place (map expr_of c.args.query.now.filter.parts) c.args.rows.now in
+    let gathered = lists c.args.place (map expr_of c.args.condition.now.parts) c.args.rows.now in
     let bare : query.having ≡ [] = ap (map expr_of) (no-items c.args.query.now.having.parts (let h = c.if-len-gt0.false in let l = c.len.ensures in omega (arith, h, l))) in
     let folded : IsFolded items gathered c.as_slice.result.now =
     subst (IsFolded items gathered) (sym c.as_slice.ensures.value)

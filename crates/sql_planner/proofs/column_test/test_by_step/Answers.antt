@@ -1,7 +1,7 @@
 use Rattle.std.proofs.Common.{ap, ap₂, ◌∙◌}
 use Rattle.sql_query.specs.Exprs.{binary, chain, no_steps, then}
 use Rattle.sql_query.specs.View.{expr_of}
-use Rattle.sql_planner.proofs.OneTable.{column-is}
+use Rattle.sql_planner.proofs.Columns.{column-is}
 use Rattle.sql_planner.proofs.column_test.test_by_step.Goals as goal
 
 pub returns : goal.returns

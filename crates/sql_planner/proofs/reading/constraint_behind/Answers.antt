@@ -2,7 +2,7 @@ use Rattle.std.proofs.Common.{ap, ◌∙◌}
 use Rattle.sql_query.specs.Exprs.{binary, chain, column, literal, no_steps, then}
 use Rattle.sql_query.specs.View.{expr_of}
 use Rattle.sql_planner.proofs.Fitting.{test-behind}
-use Rattle.sql_planner.proofs.OneTable.{compared-by}
+use Rattle.sql_planner.proofs.Columns.{compared-by}
 use Rattle.sql_planner.proofs.reading.constraint_behind.Goals as goal
 
 pub returns : goal.returns
