@@ -44,11 +44,11 @@ fn table_set(alloc: Global) -> Result<Entry, NoMemory> {
 
 /// A query of this name.
 pub(crate) fn key_of(alloc: Global, name: &str) -> Result<QueryKey, NoMemory> {
-    Ok(QueryKey {
-        name: Str::of(alloc, name)?,
-        text: Str::of(alloc, "SELECT * FROM users")?,
-        mode: Mode::Snapshot,
-    })
+    Ok(QueryKey::read(
+        Str::of(alloc, name)?,
+        Str::of(alloc, "SELECT * FROM users")?,
+        Mode::Snapshot,
+    ))
 }
 
 /// A batch without rows.

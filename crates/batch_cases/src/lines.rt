@@ -26,11 +26,11 @@ fn batch_of(alloc: Global, mode: Mode, rows: RowList) -> Result<Batch, NoMemory>
 {
     Ok(Batch {
         number: 1,
-        query: QueryKey {
-            name: Str::of(alloc, "u")?,
-            text: Str::of(alloc, "SELECT username FROM users")?,
+        query: QueryKey::read(
+            Str::of(alloc, "u")?,
+            Str::of(alloc, "SELECT username FROM users")?,
             mode,
-        },
+        ),
         lo: 0,
         hi: 0,
         cut: 4,

@@ -24,6 +24,6 @@ pub(crate) fn push_recorded(alloc: Global, text: &mut String, name: &str) -> Res
     let key = key_of(alloc, name)?;
     let mut runs = ReservedRuns::of(RunList::new(alloc));
     runs.reserve_runs(1)?;
-    runs.record_run(key, 4, 30, 1000);
+    runs.record_run(None, key, 4, 30, 1000);
     push_runs(text, runs.as_slice())
 }

@@ -1,18 +1,16 @@
 -- What a decoder finds.
-use Rattle.std.proofs.Common.{◌≡◌, ℕ, ◌<◌, zero, suc, List, [], ◌∷◌, ◌++◌, refl, sym, ap, ◌∙◌, arith, codes, get_or, slice_index}
+use Rattle.std.proofs.Common.{◌≡◌, ℕ, ◌<◌, zero, suc, List, [], ◌∷◌, ◌++◌, refl, sym, ap, ◌∙◌, arith, get_or, slice_index}
 use Rattle.std.specs.List.{AllByRecursion}
 use Rattle.std.specs.Prelude.{◌/◌, ◌%◌}
 use Rattle.sha2.specs.Sha256.{sha256}
 use Rattle.hex.specs.Hex.{encode_lower, encode_with, lower_digits}
 use Rattle.control_escapes.specs.Escapes.{hex_digit}
-use Rattle.result_batches.specs.Json.{quoted}
 use Rattle.result_batches.specs.Frames.{frame_body, hexadecimal}
 use Rattle.batch_frames.specs.declared.frame.Frame.{Frame}
 use Rattle.batch_frames.specs.Decodes.{IsNoFrame, ReadsFrame}
 use Rattle.batch_frames.specs.Parts.{digest_part}
 use Rattle.batch_frames.specs.Texts.{digest_of, text_of}
 use Rattle.batch_frames.proofs.Framed.{digest_behind}
-use Rattle.batch_frames.proofs.Sequences.{three_behind}
 
 -- a frame was read whose text is another
 pub other_text : (line text : List ℕ) (made : Frame) → ReadsFrame line made → text ≡ text_of made → (text ≡ line → ⊥) → IsNoFrame line
@@ -51,7 +49,8 @@ pub digest_is : (f : Frame) (body : List ℕ) → body ≡ frame_body f.host f.n
 unfolding digest_of
 digest_is f body is = ap sha256 is
 
-all_small : (bytes : List ℕ) → ((i : ℕ) → get_or bytes i 0 < 256) → AllByRecursion (λ b. b < 256) bytes
+-- each of the bytes of a slice is one
+pub all_small : (bytes : List ℕ) → ((i : ℕ) → get_or bytes i 0 < 256) → AllByRecursion (λ b. b < 256) bytes
 all_small [] fit = tt
 all_small (b ∷ bs) fit = (fit 0, all_small bs (λ i. fit (suc i)))
 
@@ -60,12 +59,8 @@ pub digits_made : (bytes : List ℕ) → ((i : ℕ) → get_or bytes i 0 < 256) 
 digits_made bytes fit = hex_is bytes (all_small bytes fit)
 
 -- the text that is made of a frame's parts
-pub text_made : (f : Frame) (body digits text : List ℕ) → body ≡ frame_body f.host f.names f.batch → digits ≡ hexadecimal (sha256 body)
-    → text ≡ body ++ codes ",\"sha256\":" ++ quoted digits ++ codes "}" → (text ≡ text_of f) × (digits ≡ hexadecimal (digest_of f))
-unfolding digest_part
-text_made f body digits text body_is digits_are text_is =
-    let hex : digits ≡ hexadecimal (digest_of f) = digits_are ∙ ap hexadecimal (digest_is f body body_is) in (
-      text_is ∙ three_behind body (codes ",\"sha256\":") (quoted digits) (codes "}") ∙ ap (λ ds. body ++ (codes ",\"sha256\":" ++ (quoted ds ++ codes "}"))) hex
-          ∙ ap (λ b. b ++ digest_part (digest_of f)) body_is ∙ sym (digest_behind f),
-      hex,
-    )
+pub text_made : (f : Frame) (body digest text : List ℕ) → body ≡ frame_body f.host f.names f.batch → digest ≡ sha256 body → text ≡ body ++ digest_part digest
+    → (text ≡ text_of f) × (digest ≡ digest_of f)
+text_made f body digest text body_is made text_is =
+    let is : digest ≡ digest_of f = made ∙ digest_is f body body_is in
+    (text_is ∙ ap (λ d. body ++ digest_part d) is ∙ ap (λ b. b ++ digest_part (digest_of f)) body_is ∙ sym (digest_behind f), is)

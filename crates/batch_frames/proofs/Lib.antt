@@ -1,6 +1,7 @@
 pub mod Arrays
 pub mod Begins
 pub mod Cuts
+pub mod Digits
 pub mod Escapes
 pub mod Framed
 pub mod Members

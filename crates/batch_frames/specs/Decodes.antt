@@ -4,6 +4,7 @@ use Rattle.std.specs.Str.{IsUtf8}
 use Rattle.serde_json.specs.Data.{Data}
 use Rattle.serde_json.specs.Read.{read}
 use Rattle.result_batches.specs.Frames.{hexadecimal}
+use Rattle.batch_frames.specs.declared.decode.Digested.{Digested}
 use Rattle.batch_frames.specs.declared.error.BadKind.{BadKind}
 use Rattle.batch_frames.specs.declared.error.BadKind.TheVariants.{NotJson, WrongShape, BadDigest, NotCanonical}
 use Rattle.batch_frames.specs.declared.error.FrameError.{FrameError}
@@ -48,10 +49,15 @@ Decodes line (Ok frame) = IsFrameOf line frame
 Decodes line (Err (fault.BadFrame kind)) = IsNoFrame line × IsBad line kind
 Decodes line (Err fault.NoMemory) = Unit {0}
 
--- the valid frame that has this text, or nothing where no frame has it
-abbrev pub Finds : List ℕ → Option Frame → Type 0
+-- the same with the frame's digest
+abbrev pub DecodesDigested : List ℕ → Result Digested FrameError → Type 0
+DecodesDigested line (Ok found) = Decodes line (Ok found.frame) × (found.digest ≡ digest_of found.frame)
+DecodesDigested line (Err error) = Decodes line (Err error)
+
+-- the valid frame that has this text, with its digest, or nothing where no frame has it
+abbrev pub Finds : List ℕ → Option Digested → Type 0
 Finds line None = IsNoFrame line
-Finds line (Some frame) = IsFrameOf line frame × ReadsFrame line frame
+Finds line (Some found) = IsFrameOf line found.frame × ReadsFrame line found.frame × (found.digest ≡ digest_of found.frame)
 
 -- whether the digest shown is that of the frame
 abbrev pub JudgesDigest : Shown → BadKind → Type 0

@@ -1,9 +1,9 @@
 //! The frame of a line.
 
 ghost use Rattle.std.specs.Prelude.{IfOk};
-ghost use Rattle.batch_frames.specs.Decodes.{Decodes, Finds, IsBad, JudgesDigest, ReadsFrame};
+ghost use Rattle.batch_frames.specs.Decodes.{Decodes, DecodesDigested, Finds, IsBad, JudgesDigest, ReadsFrame};
 
-use crate::encode::encoded;
+use crate::encode::{digits_in_text, encoded};
 use crate::error::{BadKind, FrameError};
 use crate::frame::Frame;
 use crate::read::read;
@@ -13,17 +13,26 @@ use osq_value::NoMemory;
 use serde_json::Value as Json;
 use std::alloc::Global;
 
+/// A frame that was read, and its digest.
+#[derive(Drop)]
+pub struct Digested {
+    /// The frame.
+    pub frame: Frame,
+    /// The SHA-256 of its text before the last `,"sha256"`.
+    pub digest: [u8; 32],
+}
+
 /// The valid frame whose text a line is.
-fn exact(alloc: Global, line: &[u8]) -> Result<Option<Frame>, NoMemory>
+fn exact(alloc: Global, line: &[u8]) -> Result<Option<Digested>, NoMemory>
     ensures { IfOk result (Finds line.now) }
 {
     let frame = read(alloc, line)?;
     if !frame.is_valid() {
         return Ok(None);
     }
-    let (text, _) = encoded(alloc, &frame)?;
+    let (text, digest) = encoded(alloc, &frame, line.len())?;
     if text.as_slice() == line {
-        Ok(Some(frame))
+        Ok(Some(Digested { frame, digest }))
     } else {
         Ok(None)
     }
@@ -33,8 +42,8 @@ fn exact(alloc: Global, line: &[u8]) -> Result<Option<Frame>, NoMemory>
 fn bad_digest(alloc: Global, shown: &Shown) -> Result<BadKind, NoMemory>
     ensures { IfOk result (JudgesDigest shown.now) }
 {
-    let (_, digits) = encoded(alloc, &shown.frame)?;
-    if shown.digest.as_str().as_bytes() == digits.as_str().as_bytes() {
+    let digits = digits_in_text(alloc, &shown.frame)?;
+    if shown.digest.as_str().as_bytes() == digits.as_slice() {
         Ok(BadKind::NotCanonical)
     } else {
         Ok(BadKind::BadDigest)
@@ -57,6 +66,19 @@ fn kind_of(alloc: Global, line: &[u8]) -> Result<BadKind, NoMemory>
     }
 }
 
+/// The frame whose text a line is, as `decode_frame` gives it, with its digest, which is made once.
+pub fn decode_digested(alloc: Global, line: &[u8]) -> Result<Digested, FrameError>
+    ensures decodes { DecodesDigested line.now result }
+    ensures again { IfOk result (λ found. ReadsFrame line.now found.frame) }
+{
+    match exact(alloc, line)? {
+        Some(found) => Ok(found),
+        None => Err(FrameError::BadFrame {
+            kind: kind_of(alloc, line)?,
+        }),
+    }
+}
+
 /// The frame whose text a line is, without its line feed. BadFrame exactly where the line is no valid frame's text, with the first
 /// of these that holds: NotJson where it is no JSON value (RFC 8259, of equal keys the last counts); WrongShape where that isn't an
 /// object with exactly the keys of a frame and values of their kinds, or the frame isn't valid; BadDigest where `sha256` isn't the
@@ -71,10 +93,8 @@ pub fn decode_frame(alloc: Global, line: &[u8]) -> Result<Frame, FrameError>
     ensures decodes { Decodes line.now result }
     ensures again { IfOk result (ReadsFrame line.now) }
 {
-    match exact(alloc, line)? {
-        Some(frame) => Ok(frame),
-        None => Err(FrameError::BadFrame {
-            kind: kind_of(alloc, line)?,
-        }),
+    match decode_digested(alloc, line) {
+        Ok(found) => Ok(found.frame),
+        Err(error) => Err(error),
     }
 }

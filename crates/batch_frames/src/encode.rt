@@ -1,9 +1,8 @@
 //! The text of a frame.
 
-ghost use Rattle.std.specs.Prelude.{◌≡◌, ◌++◌, codes, true, IfOk, OnOk};
+ghost use Rattle.std.specs.Prelude.{◌≡◌, ◌++◌, length, true, IfOk, OnOk};
 ghost use Rattle.result_batches.specs.Frames.{frame_body, hexadecimal};
-ghost use Rattle.result_batches.specs.Json.{quoted};
-ghost use Rattle.batch_frames.specs.Parts.{query_part, sender_part, slice_part, table_part};
+ghost use Rattle.batch_frames.specs.Parts.{digest_part, query_part, sender_part, slice_part, table_part};
 ghost use Rattle.batch_frames.specs.Texts.{digest_of, text_of};
 ghost use Rattle.batch_frames.specs.Valid.{is_valid};
 
@@ -15,6 +14,9 @@ use pack_rules::schedule::QueryKey;
 use result_batches::escape::push_quoted;
 use sha2::{Digest, Sha256};
 use std::alloc::Global;
+
+/// Room for most frames, in bytes, so that a text isn't copied while it grows.
+pub(crate) const ROOM: usize = 2048;
 
 #[tactic(auto, unfolding(crate::specs::Parts::sender_part))]
 fn push_sender(line: &mut Bytes, host: &Str, number: u64) -> Result<(), NoMemory>
@@ -29,7 +31,8 @@ fn push_query(line: &mut Bytes, query: &QueryKey) -> Result<(), NoMemory>
     ensures { OnOk result (line.new ≡ line.old ++ query_part query.now) }
 {
     push_field(line, ",\"name\":", &query.name)?;
-    push_field(line, ",\"text\":", &query.text)?;
+    line.extend(b",\"text\":")?;
+    push_quoted(line, query.text.as_str().as_bytes())?;
     push_field(line, ",\"mode\":", &query.mode)
 }
 
@@ -51,19 +54,34 @@ fn push_table(line: &mut Bytes, names: &TextList, rows: &RowList) -> Result<(), 
     push_field(line, ",\"rows\":", rows)
 }
 
-fn push_digest(line: &mut Bytes, digits: &Str) -> Result<(), NoMemory>
-    ensures { OnOk result (line.new ≡ line.old ++ codes ",\"sha256\":" ++ quoted digits.now ++ codes "}") }
+/// The digits of a digest, in lower-case hexadecimal.
+fn digits_of(digest: &[u8]) -> [u8; 64]
+    requires { length digest.now ≡ 32 }
+    ensures { result ≡ hexadecimal digest.now }
 {
-    line.extend(b",\"sha256\":")?;
-    push_quoted(line, digits.as_str().as_bytes())?;
-    line.extend(b"}")
+    let mut digits = [0u8; 64];
+    match hex::encode_to_slice(digest, &mut digits) {
+        Ok(()) => digits,
+        Err(_) => unreachable!(),
+    }
 }
 
-/// What the digest of a frame is made from.
-fn body_of(alloc: Global, frame: &Frame) -> Result<Bytes, NoMemory>
+/// Adds what stands behind the body of a frame: its digest, and the end.
+fn push_digest(line: &mut Bytes, digest: &[u8]) -> Result<(), NoMemory>
+    requires { length digest.now ≡ 32 }
+    ensures { OnOk result (line.new ≡ line.old ++ digest_part digest.now) }
+{
+    let digits = digits_of(digest);
+    line.extend(b",\"sha256\":\"")?;
+    line.extend(&digits)?;
+    line.extend(b"\"}")
+}
+
+/// What the digest of a frame is made from, in room for so many bytes, or for more where it has more.
+fn body_of(alloc: Global, frame: &Frame, room: usize) -> Result<Bytes, NoMemory>
     ensures { IfOk result (λ body. body ≡ frame_body frame.now.host frame.now.names frame.now.batch) }
 {
-    let mut body = Bytes::new(alloc);
+    let mut body = Bytes::with_capacity(alloc, room)?;
     push_sender(&mut body, &frame.host, frame.batch.number)?;
     push_query(&mut body, &frame.batch.query)?;
     push_slice(&mut body, &frame.batch)?;
@@ -71,23 +89,26 @@ fn body_of(alloc: Global, frame: &Frame) -> Result<Bytes, NoMemory>
     Ok(body)
 }
 
-/// Bytes in lower-case hexadecimal.
-fn hexadecimal(alloc: Global, bytes: &[u8]) -> Result<Str, NoMemory>
-    ensures { IfOk result (λ digits. digits ≡ hexadecimal bytes.now) }
+/// The text of any frame, also of one that isn't valid, in room for so many bytes, and its digest, which is made once.
+pub(crate) fn encoded(
+    alloc: Global,
+    frame: &Frame,
+    room: usize,
+) -> Result<(Bytes, [u8; 32]), NoMemory>
+    ensures { IfOk result (λ made. (made.0 ≡ text_of frame.now) × (made.1 ≡ digest_of frame.now)) }
 {
-    let digits = hex::encode(alloc, bytes)?;
-    Ok(Str::from_string(digits))
+    let mut text = body_of(alloc, frame, room)?;
+    let digest = Sha256::digest(text.as_slice());
+    push_digest(&mut text, &digest)?;
+    Ok((text, digest))
 }
 
-/// The text of any frame, also of one that isn't valid, and the digits of its digest.
-pub(crate) fn encoded(alloc: Global, frame: &Frame) -> Result<(Bytes, Str), NoMemory>
-    ensures { IfOk result (λ made. (made.0 ≡ text_of frame.now) × (made.1 ≡ hexadecimal (digest_of frame.now))) }
+/// The digits of any frame's digest, as its text shows them.
+pub(crate) fn digits_in_text(alloc: Global, frame: &Frame) -> Result<[u8; 64], NoMemory>
+    ensures { IfOk result (λ digits. digits ≡ hexadecimal (digest_of frame.now)) }
 {
-    let mut text = body_of(alloc, frame)?;
-    let digest = Sha256::digest(text.as_slice());
-    let digits = hexadecimal(alloc, &digest)?;
-    push_digest(&mut text, &digits)?;
-    Ok((text, digits))
+    let body = body_of(alloc, frame, ROOM)?;
+    Ok(digits_of(&Sha256::digest(body.as_slice())))
 }
 
 /// The text of a frame, without a line feed.
@@ -102,7 +123,7 @@ pub fn encode_frame(alloc: Global, frame: &Frame) -> Result<Bytes, NoMemory>
     requires { is_valid frame.now ≡ true }
     ensures { IfOk result (λ text. text ≡ text_of frame.now) }
 {
-    let (text, _) = encoded(alloc, frame)?;
+    let (text, _) = encoded(alloc, frame, ROOM)?;
     Ok(text)
 }
 
@@ -111,5 +132,5 @@ pub fn digest_of(alloc: Global, frame: &Frame) -> Result<[u8; 32], NoMemory>
     requires { is_valid frame.now ≡ true }
     ensures { IfOk result (λ digest. digest ≡ digest_of frame.now) }
 {
-    Ok(Sha256::digest(body_of(alloc, frame)?.as_slice()))
+    Ok(Sha256::digest(body_of(alloc, frame, ROOM)?.as_slice()))
 }

@@ -16,7 +16,7 @@ pub mod spelled;
 mod strings;
 mod values;
 
-pub use decode::decode_frame;
+pub use decode::{Digested, decode_digested, decode_frame};
 pub use encode::{digest_of, encode_frame};
 pub use error::{BadKind, FrameError};
 pub use frame::Frame;

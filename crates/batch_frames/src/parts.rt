@@ -51,7 +51,7 @@ pub(crate) fn take_query(alloc: Global, bytes: &[u8]) -> Result<(QueryKey, &[u8]
     let (name, rest) = take_field(alloc, bytes, ",\"name\":")?;
     let (text, rest) = take_field(alloc, rest, ",\"text\":")?;
     let (mode, rest) = take_field(alloc, rest, ",\"mode\":")?;
-    Ok((QueryKey { name, text, mode }, rest))
+    Ok((QueryKey::read(name, text, mode), rest))
 }
 
 pub(crate) fn take_slice(alloc: Global, bytes: &[u8]) -> Result<(Slice, &[u8]), NoMemory>

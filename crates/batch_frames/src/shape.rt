@@ -158,7 +158,7 @@ fn query(alloc: Global, line: &Json) -> Result<QueryKey, JsonLineError>
     let name = text(alloc, line, "name")?;
     let text = text(alloc, line, "text")?;
     let mode = mode(line)?;
-    Ok(QueryKey { name, text, mode })
+    Ok(QueryKey::read(name, text, mode))
 }
 
 #[tactic(auto, unfolding(crate::specs::Shapes::slice_of))]

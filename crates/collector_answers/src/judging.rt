@@ -1,13 +1,10 @@
 //! The lines that a collector is sent.
 
-ghost use Rattle.std.specs.Prelude.{◌≡◌, ◌<◌, ◌++◌, length, Some, IfOk, MatchOption};
-ghost use Rattle.batch_frames.specs.Decodes.{IsFrameOf};
-ghost use Rattle.batch_frames.specs.Texts.{digest_of};
-ghost use Rattle.batch_frames.specs.declared.frame.Frame.{Frame};
+ghost use Rattle.std.specs.Prelude.{◌≡◌, Some, IfOk};
 ghost use Rattle.collector_answers.specs.Judging.{IsJudged, bad_kind};
 
 use crate::answer::{BadAnswer, Digest};
-use batch_frames::{BadKind, Frame, FrameError, decode_frame};
+use batch_frames::{BadKind, Frame, FrameError, decode_digested};
 use osq_value::NoMemory;
 use std::alloc::Global;
 
@@ -43,29 +40,6 @@ fn kind_of(kind: BadKind) -> BadAnswer
     }
 }
 
-/// How many digits a digest has.
-const DIGITS: usize = 64;
-
-/// What stands before so many last bytes, and these.
-fn split_behind(bytes: &[u8], count: usize) -> Option<(&[u8], &[u8])>
-    ensures { MatchOption result (length bytes.now < count) (λ parts. (bytes.now ≡ parts.0.now ++ parts.1.now) × (length parts.1.now ≡ count)) }
-{
-    bytes.split_at_checked(bytes.len().checked_sub(count)?)
-}
-
-/// The digest that stands at the end of a frame's text, before its last quote and bracket.
-fn digest_in(line: &[u8]) -> Option<Digest>
-    ensures { (frame : Frame) → IsFrameOf line.now frame → result ≡ Some (digest_of frame) }
-{
-    let (front, _) = split_behind(line, 2)?;
-    let (_, digits) = split_behind(front, DIGITS)?;
-    let mut digest = [0u8; 32];
-    match hex::decode_to_slice(digits, &mut digest) {
-        Ok(()) => Some(digest),
-        Err(_) => None,
-    }
-}
-
 /// The frame that a line is, without its line feed, or what is wrong with it: TooLong where it has more than 1073741824 bytes, whatever
 /// they are, and else what `decode_frame` says.
 pub fn judge(alloc: Global, line: &[u8]) -> Result<Judged, NoMemory>
@@ -76,11 +50,12 @@ pub fn judge(alloc: Global, line: &[u8]) -> Result<Judged, NoMemory>
             kind: BadAnswer::TooLong,
         });
     }
-    match decode_frame(alloc, line) {
-        Ok(frame) => match digest_in(line) {
-            Some(digest) => Ok(Judged::Framed { frame, digest }),
-            None => unreachable!(),
-        },
+    match decode_digested(alloc, line) {
+        Ok(found) => {
+            let digest = found.digest;
+            let frame = found.frame;
+            Ok(Judged::Framed { frame, digest })
+        }
         Err(FrameError::BadFrame { kind }) => Ok(Judged::Bad {
             kind: kind_of(kind),
         }),

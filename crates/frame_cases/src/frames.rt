@@ -53,11 +53,7 @@ fn table_of(alloc: Global, row: &Json) -> Result<RowList, NoMemory> {
 
 /// The query `u` with a text.
 pub(crate) fn query_of(alloc: Global, text: &str, mode: Mode) -> Result<QueryKey, NoMemory> {
-    Ok(QueryKey {
-        name: Str::of(alloc, "u")?,
-        text: Str::of(alloc, text)?,
-        mode,
-    })
+    Ok(QueryKey::read(Str::of(alloc, "u")?, Str::of(alloc, text)?, mode))
 }
 
 /// The mode that a row names.

@@ -5,11 +5,9 @@ use Rattle.batch_frames.proofs.decode.bad_digest.Goals as goal
 
 pub returns-then-eq : goal.returns-then-eq
 returns-then-eq c =
-    sym (c.as_bytes.ensures.value ∙ c.as_str.ensures) ∙ (bytes_decides _ _).0 (sym c.eq.ensures ∙ c.if-eq.true)
-    ∙ (c.as_bytes-2.ensures.value ∙ c.as_str-2.ensures ∙ c.in_ok-digits.ensures.1)
+    sym (c.as_bytes.ensures.value ∙ c.as_str.ensures) ∙ (bytes_decides _ _).0 (sym c.eq.ensures ∙ c.if-eq.true) ∙ (c.as_slice.ensures ∙ c.in_ok-digits.ensures)
 
-pub returns : goal.returns
-returns c = λ same.
+pub returns-else-eq : goal.returns-else-eq
+returns-else-eq c = λ same.
     both_ways c.eq.result c.if-eq.false
-    (c.eq.ensures
-    ∙ (bytes_decides _ _).1 ((c.as_bytes.ensures.value ∙ c.as_str.ensures) ∙ same ∙ sym (c.as_bytes-2.ensures.value ∙ c.as_str-2.ensures ∙ c.in_ok-digits.ensures.1)))
+    (c.eq.ensures ∙ (bytes_decides _ _).1 ((c.as_bytes.ensures.value ∙ c.as_str.ensures) ∙ same ∙ sym (c.as_slice.ensures ∙ c.in_ok-digits.ensures)))

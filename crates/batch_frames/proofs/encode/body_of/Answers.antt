@@ -10,5 +10,5 @@ returns c =
     c.in_ok-push_table.ensures
     ∙ ap (λ x. x ++ table_part f.names b.rows)
     (c.in_ok-push_slice.ensures ∙ ap (λ x. x ++ slice_part b.lo b.hi b.cut b.moment)
-    (c.in_ok-push_query.ensures ∙ ap (λ x. x ++ query_part b.query) (c.in_ok-push_sender.ensures ∙ ap (λ x. x ++ sender_part f.host b.number) c.new-body.ensures)))
+    (c.in_ok-push_query.ensures ∙ ap (λ x. x ++ query_part b.query) (c.in_ok-push_sender.ensures ∙ ap (λ x. x ++ sender_part f.host b.number) c.in_ok-body.ensures)))
     ∙ body_is f.host f.names b

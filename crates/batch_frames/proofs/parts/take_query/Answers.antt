@@ -1,4 +1,4 @@
-use Rattle.std.proofs.Common.{ℕ, List, ◌++◌, codes, refl, ap}
+use Rattle.std.proofs.Common.{ℕ, List, ◌++◌, codes, refl, ap, ◌∙◌}
 use Rattle.std.specs.Str.{IsUtf8}
 use Rattle.pack_rules.specs.declared.schedule.Mode.{Mode}
 use Rattle.result_batches.specs.Json.{quoted}
@@ -21,4 +21,4 @@ unfolding query_part
 returns c = λ query behind held ended is.
     let last = both_taken query_text IsUtf8 mode_field (λ _. Unit {0}) _ _ _ _ _ (λ _ _. refl) c.in_ok-text.ensures c.in_ok-mode.ensures in
     let taken = both_taken name_text IsUtf8 (λ (p : List ℕ × Mode). query_text p.0 ++ mode_field p.1) (λ (p : List ℕ × Mode). IsUtf8 p.0 × Unit {0}) _ _ _ _ _ (λ _ _. refl) c.in_ok-name.ensures last (query.name, (query.text, query.mode)) behind (held.name, (held.text, tt)) ended is in
-    (ap (λ (p : List ℕ × (List ℕ × Mode)). record { name = p.0; text = p.1.0; mode = p.1.1 }) taken.0, taken.1)
+    (c.read.ensures ∙ ap (λ (p : List ℕ × (List ℕ × Mode)). record { name = p.0; text = p.1.0; mode = p.1.1 }) taken.0, taken.1)
