@@ -11,20 +11,21 @@ ghost use Rattle.daemon_rounds.specs.declared.error.RoundError.{RoundError};
 ghost use Rattle.daemon_rounds.specs.Answering.{AnswersDue, AnswersFirst, IsTellable, SpendsBatches};
 
 use crate::error::RoundError;
+use accepted_queries::QueryText;
 use event_store::Steps;
 use osq_value::{NoMemory, RowList, Tables};
-use query_answers::answer;
+use query_answers::answer_again;
 use session_state::{CommitRefusal, State};
 use std::alloc::Global;
 use std::marker::Brand;
 use std::sync::ledger::{Blank, Ledger};
 
 /// The rows that an accepted text means over a view.
-fn rows_of<V: Tables>(alloc: Global, text: &str, view: &V) -> Result<RowList, NoMemory>
+fn rows_of<V: Tables>(alloc: Global, text: &QueryText, view: &V) -> Result<RowList, NoMemory>
     requires { is_accepted text.now ≡ true }
     ensures { IfOk result (λ rows. rows ≡ meaning text.now (V.rows_of view.now)) }
 {
-    match answer(alloc, text, view)? {
+    match answer_again(alloc, text, view)? {
         Some(rows) => Ok(rows),
         None => unreachable!(),
     }
@@ -47,7 +48,7 @@ fn answer_next<L: Ledger>(
         Ok(None) => return Ok(false),
         Ok(Some(cut)) => cut,
     };
-    let Ok(rows) = rows_of(alloc, cut.key().text.as_str(), cut.view()) else {
+    let Ok(rows) = rows_of(alloc, &cut.key().text, cut.view()) else {
         return Err(RoundError::NoMemory);
     };
     match state.commit(cut, rows) {

@@ -13,14 +13,25 @@ use query_answers::names;
 use result_batches::result_lines;
 use std::alloc::Global;
 
-/// The lines of a batch.
-fn batch_lines(alloc: Global, host: &str, form: Form, batch: &Batch) -> Result<Bytes, NoMemory>
+/// The lines of a batch whose text is to be read.
+fn read_lines(alloc: Global, host: &str, form: Form, batch: &Batch) -> Result<Bytes, NoMemory>
     requires { IsTellable batch.now }
     ensures { IfOk result (AreLines form host.now (names_in batch.now.query.text) batch.now) }
 {
     match names(alloc, batch.query.text.as_str())? {
         Some(names) => result_lines(alloc, batch, &names, host, form),
         None => unreachable!(),
+    }
+}
+
+/// The lines of a batch. The text of a scheduled query was accepted before, with its names.
+fn batch_lines(alloc: Global, host: &str, form: Form, batch: &Batch) -> Result<Bytes, NoMemory>
+    requires { IsTellable batch.now }
+    ensures { IfOk result (AreLines form host.now (names_in batch.now.query.text) batch.now) }
+{
+    match batch.query.text.query() {
+        Some(query) => result_lines(alloc, batch, query.names(), host, form),
+        None => read_lines(alloc, host, form, batch),
     }
 }
 

@@ -11,7 +11,7 @@ use Rattle.query_rounds.specs.declared.error.AskError.TheVariants as ask
 -- of values that aren't loaded
 abbrev pub unloaded_by : LoadError → AskError
 unloaded_by loading.KeeperFault = ask.KeeperFault
-unloaded_by loading.KeeperRefused = ask.KeeperRefused
+unloaded_by (loading.KeeperRefused kept) = ask.KeeperRefused
 unloaded_by loading.NoMemory = ask.NoMemory
 
 -- of sources that aren't started

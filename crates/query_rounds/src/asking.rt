@@ -61,6 +61,7 @@ pub fn ask_kept<S: Source, K: Keeper, C: Clock>(
     requires distinct { IsDistinct bytes_eq (source_names names.now) }
     ensures answer { IfOk result (λ asked. (moment : ℕ) × C.reads clock.old moment clock.new × (moment ≤ LAST_MOMENT) × AnswersSomeContinuation K.tells (K.kept keeper.old) names.now text.now moment asked.rows × (K.tells → S.tells → Legal (K.kept keeper.old) → (given : Given) → IsGivenFrom S.left names.now sources.old paths.now records given → IsAnswer given (K.kept keeper.old) text.now rounds moment asked)) }
     ensures skipped { IfOk result (λ asked. (taken : List Taken) × (K.tells → taken ≡ (summary (K.kept keeper.old)).taken) × TellsSkipped S.tells paths.now taken names.now (map S.left sources.old) asked.is_end asked.skipped) }
+    ensures fit { K.tells → IfOk result (λ asked. Fits (summary (K.kept keeper.old))) }
     ensures same { K.tells → K.kept keeper.new ≡ K.kept keeper.old }
     ensures keeper_cause { result ≡ Err AskError.KeeperFault → Rose (K.faults keeper.old) (K.faults keeper.new) }
     ensures refused { K.tells → result ≡ Err AskError.KeeperRefused → ¬ Fits (summary (K.kept keeper.old)) }

@@ -31,7 +31,7 @@ pub(crate) fn unloaded(error: LoadError) -> AskError
 {
     match error {
         LoadError::KeeperFault => AskError::KeeperFault,
-        LoadError::KeeperRefused => AskError::KeeperRefused,
+        LoadError::KeeperRefused { kept: _ } => AskError::KeeperRefused,
         LoadError::NoMemory => AskError::NoMemory,
     }
 }

@@ -1,5 +1,6 @@
 -- A tick that begins by the state begins by the list.
 use Rattle.std.proofs.Common.{◌≡◌, ℕ, Bool, List, [], ◌∷◌, ◌++◌, sym, ap, ◌∙◌, subst, append_assoc}
+use Rattle.std.specs.Prelude.{All}
 use Rattle.source_feeds.specs.Feeding.{Feeding}
 use Rattle.entry_model.specs.declared.entry.Entry.{Entry}
 use Rattle.entry_model.specs.declared.entry.Entry.TheVariants.{Ticked}
@@ -19,11 +20,13 @@ use Rattle.replay_rounds.specs.Standing.{Standing}
 use Rattle.replay_rounds.proofs.Again.{again_brings, again_configured, again_entries, again_last, again_listed, again_moment, again_nothing}
 use Rattle.replay_rounds.proofs.Feeds.{fed_on}
 use Rattle.replay_rounds.proofs.Nothing.{TakeNothing, nothing-append, nothing_behind, ticked_nothing}
+use Rattle.replay_rounds.proofs.Ticks.{NoTick, again_tickless}
 
 -- By the list: behind what the session has added a tick begins at this moment, and the session is configured again where that is due. No source
 -- had its turn yet.
 pub record BeginsTick {S : Type 0} (left : S → List ℕ) (x : Fixed) (added : List Entry) (feeds : List Feeding) (objects : List S) (configured_at moment : ℕ) (old configured : Kept) : Type 0 where
   pub anew : List Entry
+  pub tickless : All NoTick anew
   pub brings : AddsEntries old (Ticked moment ∷ anew) configured
   pub at : configured.counts.moment ≡ moment_of ((x.start ++ added) ++ (Ticked moment ∷ anew))
   pub last : last_of configured_in configured_at (Ticked moment ∷ anew) ≡ configured_last (asks_again x.given.config configured_at moment) configured_at moment
@@ -68,6 +71,7 @@ module _ {S : Type 0} (left : S → List ℕ) (x : Fixed) (added kept : List Ent
     pub begins_tick : BeginsTick left x added feeds objects configured_at moment old configured
     begins_tick = record {
       anew = anew;
+      tickless = again_tickless asks x.given.config x.given.documents x.given.host moment ticked configured again;
       brings = begins;
       at = at_moment;
       last = again_configured asks x.given.config x.given.documents x.given.host moment ticked configured again configured_at;

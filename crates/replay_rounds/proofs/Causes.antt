@@ -9,8 +9,10 @@ use Rattle.daemon_rounds.specs.declared.error.TakeError.{TakeError}
 use Rattle.daemon_rounds.specs.declared.error.TakeError.TheVariants as taking
 use Rattle.entry_model.specs.declared.entry.Entry.{Entry}
 use Rattle.replay_rounds.specs.Fixed.{Fixed}
-use Rattle.replay_rounds.specs.Refusals.{unfilled_by, unfinished_by, unopened_by}
+use Rattle.session_state.specs.Kept.{Kept}
+use Rattle.replay_rounds.specs.Refusals.{tick_numbers, unfilled_by, unfinished_by, unfinished_numbers, unopened_by}
 use Rattle.replay_rounds.specs.Running.{IsWritten}
+use Rattle.replay_rounds.specs.declared.refused.Numbers.{Numbers}
 use Rattle.replay_rounds.specs.declared.refused.Refused.{Refused}
 use Rattle.replay_rounds.specs.declared.refused.RunError.{RunError}
 use Rattle.replay_rounds.specs.declared.refused.RunError.TheVariants as run
@@ -105,6 +107,26 @@ unopened_spent (opening.SourceFault place) h = cc
 unopened_spent (opening.SourceShrank place kept found) h = cc
 unopened_spent opening.NumbersSpent h = refl
 unopened_spent opening.NoMemory h = cc
+
+-- the numbers of a tick that isn't filled
+pub unfilled_numbers : (e : TakeError) (sealed : Numbers) (state : Kept) → tick_numbers (unfilled_by e) sealed state ≡ sealed
+unfilled_numbers (taking.SourceFault at) sealed state = refl
+unfilled_numbers taking.NumbersSpent sealed state = refl
+unfilled_numbers taking.NoMemory sealed state = refl
+
+-- and of one that isn't finished
+pub finished_numbers : (e : FinishError) (sealed : Numbers) (state : Kept) → tick_numbers (unfinished_by e) sealed state ≡ unfinished_numbers e state sealed
+finished_numbers finish.NumbersSpent sealed state = refl
+finished_numbers finish.KeeperFault sealed state = refl
+finished_numbers finish.SinkFault sealed state = refl
+finished_numbers finish.NoMemory sealed state = refl
+
+-- spent numbers are no fault of the keeper, and none of a sink
+pub spent_not_keeper : (e : RunError) → e ≡ run.NumbersSpent → e ≢ run.KeeperFault
+spent_not_keeper e spent h = cc
+
+pub spent_not_sink : (e : RunError) → e ≡ run.NumbersSpent → e ≢ run.SinkFault
+spent_not_sink e spent h = cc
 
 -- what was written is told apart by whether the sink failed
 pub by_sink : (e : RunError) (x : Fixed) (kept : List Entry) (written : List ℕ) → (e ≡ run.SinkFault → IsWritten x kept written) → (e ≢ run.SinkFault → IsWritten x kept written) → IsWritten x kept written

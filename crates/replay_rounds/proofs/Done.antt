@@ -2,6 +2,7 @@
 use Rattle.std.proofs.Common.{◌≡◌, ℕ, false, List, ◌∷◌, ◌++◌, length, sym, ap, ◌∙◌, subst, append_assoc}
 use Rattle.source_feeds.specs.Feeding.{Feeding}
 use Rattle.entry_model.specs.declared.entry.Entry.{Entry}
+use Rattle.entry_model.specs.declared.entry.Entry.TheVariants.{Ticked}
 use Rattle.entry_model.specs.Legal.{Legal}
 use Rattle.entry_model.specs.Laws.{Coverage}
 use Rattle.std.specs.Prelude.{All}
@@ -11,12 +12,12 @@ use Rattle.session_state.specs.StateOf.{HasValues}
 use Rattle.session_state.proofs.Dues.{none_due, owed_is}
 use Rattle.replay_rounds.specs.Fixed.{Fixed}
 use Rattle.replay_rounds.specs.Refusals.{numbers_of}
-use Rattle.replay_rounds.specs.Sources.{all_over}
+use Rattle.replay_rounds.specs.Sources.{AreFed, all_over}
 use Rattle.replay_rounds.specs.Running.{HasMore, HasRun, ReadsAll}
 use Rattle.replay_rounds.specs.Standing.{IsReady}
 use Rattle.replay_rounds.specs.declared.refused.Numbers.{Numbers}
 use Rattle.replay_rounds.specs.declared.running.Ended.{Ended}
-use Rattle.replay_rounds.proofs.Endings.{all_present, all_whole, one_full}
+use Rattle.replay_rounds.proofs.Endings.{all_present, all_whole, one_full_step}
 use Rattle.replay_rounds.proofs.Ran.{IsRunning, all_kept, grows, values}
 
 module _ {S C : Type 0} (left : S → List ℕ) (x : Fixed) (reads : C → ℕ → C → Type 0) (clock now : C) (kept : List Entry) (written : List ℕ) (feeds : List Feeding) (objects : List S) (last : ℕ) (s : Kept) (r : IsRunning left x reads clock now kept written feeds objects last s) (is : IsState s) (ready : IsReady feeds last s) (coverage : Coverage) where
@@ -29,15 +30,15 @@ module _ {S C : Type 0} (left : S → List ℕ) (x : Fixed) (reads : C → ℕ �
 
   has_more : x.keeper_tells → x.source_tells → Legal x.start → all_over feeds ≡ false → HasMore x kept
   has_more tells sources legal over =
-      let full = r.added.full tells sources legal in
-      let (source, among, gave) = one_full x.source_tells left x.given.config.categories x.start (x.start ++ r.added.entries) x.given (x.start ++ full.before) x.given.sources feeds objects (r.added.standing.fed tells) full.full over in
+      let ends = r.added.full tells sources legal in
+      let fed = subst (λ (list : List Entry). AreFed x.source_tells left x.given.config.categories x.start list x.given.sources feeds objects) (sym (list_is tells)) (r.added.standing.fed tells) in
       record {
-        source = source;
-        among = among;
-        before = x.start ++ full.before;
-        since = full.since;
-        are = list_is tells ∙ ap (λ (es : List Entry). x.start ++ es) full.are ∙ sym (append_assoc x.start full.before full.since);
-        full = gave;
+        before = x.start ++ ends.before;
+        moment = ends.moment;
+        last = ends.last;
+        are = list_is tells ∙ ap (λ (es : List Entry). x.start ++ es) ends.are ∙ sym (append_assoc x.start ends.before ends.last);
+        tick = ends.tick.tick;
+        full = one_full_step x.source_tells left x.given.config.categories x.start kept x.given ((x.start ++ ends.before) ++ (Ticked ends.moment ∷ ends.tick.tick.configured)) x.given.sources feeds objects ends.tick.tick.taken fed ends.tick.full over;
       }
 
   pub has_run : (ticks : ℕ) (ended : Ended) → length (r.added.reading ∷ r.added.readings) ≡ ticks → ended.is_end ≡ all_over feeds → ended.numbers ≡ numbers_of s → HasRun x (λ readings. ReadsAll reads clock readings now) ticks kept written ended

@@ -1,6 +1,6 @@
 -- How a session that ran all its ticks left its sources.
-use Rattle.std.proofs.Common.{◌≡◌, ℕ, suc, ◌≤◌, Bool, true, false, ◌&&◌, List, [], ◌∷◌, ◌++◌, length, refl, sym, ap, ◌∙◌, arith, length-append}
-use Rattle.std.specs.Prelude.{All, Contains}
+use Rattle.std.proofs.Common.{◌≡◌, ℕ, suc, ◌≤◌, Bool, true, false, ◌&&◌, List, [], ◌∷◌, ◌++◌, length, inl, inr, refl, sym, ap, ◌∙◌, arith, length-append}
+use Rattle.std.specs.Prelude.{◌⊎◌, All, Contains}
 use Rattle.std.proofs.lemmas.List.Elements.{All-cons, All-nil}
 use Rattle.osq_value.specs.declared.reading.Category.{Category}
 use Rattle.publisher_core.specs.Standing.{is_at_end}
@@ -9,7 +9,7 @@ use Rattle.entry_model.specs.declared.entry.Entry.{Entry}
 use Rattle.entry_model.specs.Values.{taken_from}
 use Rattle.session_model.specs.Given.{Given, Source}
 use Rattle.session_model.specs.Taking.{IsReadWhole}
-use Rattle.replay_rounds.specs.Sources.{AreFed, AreFullOrOver, IsFull, all_over}
+use Rattle.replay_rounds.specs.Sources.{AreFed, AreFullOrOver, AreFullSteps, HasFullStep, IsFed, IsFull, IsFullStep, IsUnended, all_over}
 
 both : (a b : Bool) → (a && b) ≡ true → (a ≡ true) × (b ≡ true)
 both true b h = (refl, h)
@@ -57,3 +57,23 @@ one_full tells left paths start now given kept (source ∷ sources) (feed ∷ fe
     by_end true e further =
         let (found, among, is) = further (sym (ap (λ (b : Bool). b && all_over feeds) e) ∙ over) in
         (found, later source sources found among, is)
+
+-- the feed of a source by the bytes that are left of it
+fed_by_bytes : {S : Type 0} (tells : Type 0) (left : S → List ℕ) (paths : List Category) (start now : List Entry) (source : Source) (feed : Feeding) (object : S) → IsFed tells left paths start now source feed object → IsFed tells (λ (bytes : List ℕ). bytes) paths start now source feed (left object)
+fed_by_bytes tells left paths start now source feed object is =
+    record { name = is.name; kind = is.kind; paths_are = is.paths_are; place = is.place; pieces = is.pieces; fed = is.fed; over = is.over }
+
+-- where one isn't at its end, and each such one gave a full step in its turn, there is one that did
+pub one_full_step : {S : Type 0} (tells : Type 0) (left : S → List ℕ) (paths : List Category) (start now : List Entry) (given : Given) (kept : List Entry) (sources : List Source) (feeds : List Feeding) (objects : List S) (entries : List Entry) → AreFed tells left paths start now sources feeds objects → AreFullSteps given kept sources feeds entries → all_over feeds ≡ false → HasFullStep (IsUnended tells paths start now) given kept sources entries
+one_full_step tells left paths start now given kept [] [] objects entries fed full over = absurd (cc)
+one_full_step tells left paths start now given kept [] (feed ∷ feeds) objects entries fed full over = absurd fed
+one_full_step tells left paths start now given kept (source ∷ sources) [] objects entries fed full over = absurd fed
+one_full_step tells left paths start now given kept (source ∷ sources) (feed ∷ feeds) [] entries fed full over = absurd fed
+one_full_step tells left paths start now given kept (source ∷ sources) (feed ∷ feeds) (object ∷ objects) entries fed (own, others, (step, full, behind, are)) over =
+    (own, others, (step, are, by_end (is_at_end feed.reader) refl (one_full_step tells left paths start now given (kept ++ own) sources feeds objects others fed.1 behind)))
+  where
+    by_end : (b : Bool) → is_at_end feed.reader ≡ b → (all_over feeds ≡ false → HasFullStep (IsUnended tells paths start now) given (kept ++ own) sources others)
+        → (IsUnended tells paths start now source × IsFullStep given kept source own step) ⊎ HasFullStep (IsUnended tells paths start now) given (kept ++ own) sources others
+    by_end false e further =
+        inl (record { feed = feed; rest = left object; fed = fed_by_bytes tells left paths start now source feed object fed.0; unended = e }, full e)
+    by_end true e further = inr (further (sym (ap (λ (b : Bool). b && all_over feeds) e) ∙ over))

@@ -19,7 +19,9 @@ pub mod Ran
 pub mod Sessions
 pub mod Spent
 pub mod Stepped
+pub mod Stopped
 pub mod Tellings
 pub mod Ticked
+pub mod Ticks
 pub mod Unconfigured
 pub mod Undue

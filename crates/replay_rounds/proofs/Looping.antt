@@ -25,11 +25,15 @@ use Rattle.daemon_rounds.proofs.Laters.{AreLater, later_then, round_later, start
 use Rattle.daemon_rounds.proofs.Opened.{opened_goes_on}
 use Rattle.daemon_rounds.specs.declared.turning.Which.TheVariants as which
 use Rattle.replay_rounds.specs.Fixed.{Fixed, fixed_of}
+use Rattle.replay_rounds.specs.OneTick.{HasOneTick, IsOneTick}
 use Rattle.replay_rounds.specs.Running.{IsKept, IsWritten, ReadsAll}
+use Rattle.replay_rounds.specs.Refusals.{numbers_of}
 use Rattle.replay_rounds.specs.Standing.{Standing}
+use Rattle.replay_rounds.specs.Stopping.{AreNumbersOf, AreSealed, HasNumbers}
 use Rattle.replay_rounds.specs.Ticked.{IsPartlyTold, IsTick, IsWholeTick, TakesTick, TickDone}
+use Rattle.replay_rounds.specs.declared.refused.Numbers.{Numbers}
 use Rattle.replay_rounds.proofs.OpenedSession.{OpensSession, opened_session}
-use Rattle.replay_rounds.proofs.Ran.{tail_own, IsAdded, IsRunning, added_on, all_is_kept, all_kept, all_written, first_added, first_ran, from_opened, none_kept, partly_written, ran_on, still_kept, told_on}
+use Rattle.replay_rounds.proofs.Ran.{HasRest, IsAdded, IsRunning, added_on, all_is_kept, all_kept, all_written, first_added, first_ran, from_opened, grows, no_tick, none_kept, none_written, numbers_are, partly_written, ran_on, reads_more, still_kept, tail_own, tick_alone, told_on}
 use Rattle.replay_rounds.proofs.Ticked.{takes_tick}
 
 -- the counts of the sources' faults never fell in a tick
@@ -59,6 +63,10 @@ module _ {S C : Type 0} (keeper_tells sink_tells tells : Type 0) (left : S → L
   module _ (now : C) (kept next : List Entry) (written : List ℕ) (feeds nexts : List Feeding) (objects rests : List S) (opened_at : ℕ) (old : Kept) (notes : List ℕ) (configuration : IsConfigOf documents config notes) (o : OpensSession left x reads clock now kept feeds objects opened_at old) (going : AreGoing old.counts.taken feeds) (kept_is : keeper_tells → kept ≡ start) where
     abbrev opening : List Entry
     opening = Opened o.number ∷ o.rest
+
+    -- the opening has no batch
+    first_one : (own : List Entry) → IsOneTick own → HasOneTick (opening ++ own)
+    first_one own one = record { opening = opening; tick = own; are = refl; silent = o.silent; one = one }
 
     first_takes : (last : ℕ) (settled : Kept) → TickDone tells left faults setup config documents opened_at opened_at feeds nexts objects rests old settled → last ≡ last_in opened_at opened_at → TakesTick left x opening kept nexts rests last opened_at old settled
     first_takes last settled done last_is =
@@ -95,12 +103,39 @@ module _ {S C : Type 0} (keeper_tells sink_tells tells : Type 0) (left : S → L
     pub partly_first : IsPartlyTold keeper_tells tells left faults setup config documents opened_at opened_at kept next before written feeds nexts objects rests old → IsWritten x next written
     partly_first p =
         let t = first_takes (last_in opened_at opened_at) p.settled p.done refl in
-        partly_written x next (opening ++ t.own) written [] p.lines p.count (λ tells. p.kept tells ∙ ap (λ (list : List Entry). list ++ p.settled.tail) (kept_is tells) ∙ ap (λ (es : List Entry). start ++ es) (own_tail (last_in opened_at opened_at) p.settled t)) (first_told (last_in opened_at opened_at) p.settled t p.lines p.told) (p.written ∙ ap (λ (text : List ℕ). text ++ take p.count p.lines) (sym (append-nil before)))
+        partly_written x next [] (opening ++ t.own) written [] p.lines p.count (first_one t.own t.one) (λ tells. p.kept tells ∙ ap (λ (list : List Entry). list ++ p.settled.tail) (kept_is tells) ∙ ap (λ (es : List Entry). start ++ es) (own_tail (last_in opened_at opened_at) p.settled t)) refl (first_told (last_in opened_at opened_at) p.settled t p.lines p.told) (p.written ∙ ap (λ (text : List ℕ). text ++ take p.count p.lines) (sym (append-nil before)))
+
+    more_first : IsWholeTick tells left faults setup config documents opened_at opened_at kept next feeds nexts objects rests old → keeper_tells → (more : List Entry) × (next ≡ start ++ more)
+    more_first (inl same) told = ([], same ∙ kept_is told ∙ sym (append-nil start))
+    more_first (inr (settled, done, grown)) told = (settled.tail, grown ∙ ap (λ (list : List Entry). list ++ settled.tail) (kept_is told))
+
+    -- where its seal fails, these numbers are those of the list before
+    pub sealed_first : (numbers : Numbers) → AreNumbersOf x start numbers → (keeper_tells → IsWholeTick tells left faults setup config documents opened_at opened_at kept next feeds nexts objects rests old) → AreSealed x (λ readings. ReadsAll reads clock readings now) next numbers
+    sealed_first numbers are whole = record {
+      readings = [];
+      last = o.reading;
+      read = (now, o.read, refl);
+      sealed = start;
+      entries = [];
+      grows = record { grown = λ told. sym (append-nil start); adds = λ told legal. refl };
+      kept_is = λ told. more_first (whole told) told;
+      are = are;
+    }
+
+    -- what is kept where nothing of it was written
+    rest_first : IsWholeTick tells left faults setup config documents opened_at opened_at kept next feeds nexts objects rests old → keeper_tells → HasRest x next []
+    rest_first (inl same) told = ([], no_tick, same ∙ kept_is told ∙ sym (append-nil start))
+    rest_first (inr (settled, done, grown)) told =
+        let t = first_takes (last_in opened_at opened_at) settled done refl in
+        (opening ++ t.own, first_one t.own t.one, grown ∙ ap (λ (list : List Entry). list ++ settled.tail) (kept_is told) ∙ ap (λ (es : List Entry). start ++ es) (own_tail (last_in opened_at opened_at) settled t))
+
+    pub unwritten_first : (keeper_tells → IsWholeTick tells left faults setup config documents opened_at opened_at kept next feeds nexts objects rests old) → (written : List ℕ) → written ≡ before → IsWritten x next written
+    unwritten_first whole written same = none_written x next written (λ tells. rest_first (whole tells) tells) same
 
   -- what was written behind the last tick
   pub still_written : (now : C) (rounds : ℕ) (kept : List Entry) (written : List ℕ) (feeds : List Feeding) (objects : List S) (last : ℕ) (s : Kept) → IsLooping now rounds kept written feeds objects last s → sink_tells → IsWritten x kept written
   still_written now rounds kept written feeds objects last s l told =
-      all_written x kept l.running.added.entries written (λ tells. ([], all_kept left x l.running.added.entries kept feeds objects last s l.running.added.standing l.running.added.empty tells ∙ ap (λ (es : List Entry). start ++ es) (sym (append-nil l.running.added.entries)))) (l.running.told told)
+      all_written x kept l.running.added.entries written (λ tells. ([], no_tick, all_kept left x l.running.added.entries kept feeds objects last s l.running.added.standing l.running.added.empty tells ∙ ap (λ (es : List Entry). start ++ es) (sym (append-nil l.running.added.entries)))) (l.running.told told)
 
   -- a further tick
   module _ (between now : C) (rounds : ℕ) (kept next : List Entry) (between_written : List ℕ) (feeds nexts : List Feeding) (objects rests : List S) (configured_at moment : ℕ) (old : Kept) (l : IsLooping between rounds kept between_written feeds objects configured_at old) (going : AreGoing old.counts.taken feeds) (read : IsRead reads between now old.counts.moment moment) where
@@ -135,11 +170,14 @@ module _ {S C : Type 0} (keeper_tells sink_tells tells : Type 0) (left : S → L
     list_is = all_kept left x r.entries kept feeds objects configured_at old r.standing r.empty
 
     -- the list where a tick isn't done begins with what was told
-    more_kept : IsWholeTick tells left faults setup config documents configured_at moment kept next feeds nexts objects rests old → keeper_tells → (more : List Entry) × (next ≡ start ++ (r.entries ++ more))
+    more_kept : IsWholeTick tells left faults setup config documents configured_at moment kept next feeds nexts objects rests old → keeper_tells → HasRest x next r.entries
     more_kept (inl same) told =
-        ([], same ∙ list_is told ∙ ap (λ (es : List Entry). start ++ es) (sym (append-nil r.entries)))
+        ([], no_tick, same ∙ list_is told ∙ ap (λ (es : List Entry). start ++ es) (sym (append-nil r.entries)))
     more_kept (inr (settled, done, grown)) told =
-        (settled.tail, grown ∙ ap (λ (list : List Entry). list ++ settled.tail) (list_is told) ∙ append_assoc start r.entries settled.tail)
+        let last = last_in configured_at moment in
+        let t = next_takes last settled done refl in
+        let own = tail_own left x reads clock between now kept next feeds nexts objects rests configured_at last moment read.reading old settled settled r t in
+        (t.own, tick_alone t.own t.one, grown ∙ ap (λ (list : List Entry). list ++ settled.tail) (list_is told) ∙ append_assoc start r.entries settled.tail ∙ ap (λ (es : List Entry). start ++ (r.entries ++ es)) own)
 
     pub written_on : (keeper_tells → IsWholeTick tells left faults setup config documents configured_at moment kept next feeds nexts objects rests old) → sink_tells → IsWritten x next between_written
     written_on whole told = all_written x next r.entries between_written (λ tells. more_kept (whole tells) tells) (l.running.told told)
@@ -148,8 +186,31 @@ module _ {S C : Type 0} (keeper_tells sink_tells tells : Type 0) (left : S → L
     partly_on written p told =
         let last = last_in configured_at moment in
         let t = next_takes last p.settled p.done refl in
-        let (lines, was, all) = told_on left x reads clock between now kept next feeds nexts objects rests configured_at last moment read.reading old p.settled p.settled r t between_written p.lines (l.running.told told) p.told in
-        partly_written x next (r.entries ++ t.own) written lines p.lines p.count (λ tells. p.kept tells ∙ ap (λ (list : List Entry). list ++ p.settled.tail) (list_is tells) ∙ append_assoc start r.entries p.settled.tail ∙ ap (λ (es : List Entry). start ++ (r.entries ++ es)) (tail_own left x reads clock between now kept next feeds nexts objects rests configured_at last moment read.reading old p.settled p.settled r t)) all (p.written ∙ ap (λ (text : List ℕ). text ++ take p.count p.lines) was)
+        let (lines, was, front, all) = told_on left x reads clock between now kept next feeds nexts objects rests configured_at last moment read.reading old p.settled p.settled r t between_written p.lines (l.running.told told) p.told in
+        partly_written x next r.entries t.own written lines p.lines p.count (tick_alone t.own t.one) (λ tells. p.kept tells ∙ ap (λ (list : List Entry). list ++ p.settled.tail) (list_is tells) ∙ append_assoc start r.entries p.settled.tail ∙ ap (λ (es : List Entry). start ++ (r.entries ++ es)) (tail_own left x reads clock between now kept next feeds nexts objects rests configured_at last moment read.reading old p.settled p.settled r t)) front all (p.written ∙ ap (λ (text : List ℕ). text ++ take p.count p.lines) was)
+
+    -- the numbers before it
+    pub numbers_before : AreNumbersOf x kept (numbers_of old)
+    numbers_before = numbers_are left x r.entries kept feeds objects configured_at old r.standing r.empty
+
+    pub numbers_same : (keeper_tells → next ≡ kept) → AreNumbersOf x next (numbers_of old)
+    numbers_same same = λ told legal. subst (λ (list : List Entry). HasNumbers list (numbers_of old)) (sym (same told)) (numbers_before told legal)
+
+    more_on : IsWholeTick tells left faults setup config documents configured_at moment kept next feeds nexts objects rests old → (more : List Entry) × (next ≡ kept ++ more)
+    more_on (inl same) = ([], same ∙ sym (append-nil kept))
+    more_on (inr (settled, done, grown)) = (settled.tail, grown)
+
+    pub sealed_on : (keeper_tells → IsWholeTick tells left faults setup config documents configured_at moment kept next feeds nexts objects rests old) → AreSealed x (λ readings. ReadsAll reads clock readings now) next (numbers_of old)
+    sealed_on whole = record {
+      readings = r.reading ∷ r.readings;
+      last = read.reading;
+      read = reads_more reads clock between now (r.reading ∷ r.readings) read.reading r.read read.reads_it;
+      sealed = kept;
+      entries = r.entries;
+      grows = grows left x reads clock between kept feeds objects configured_at old r;
+      kept_is = λ told. more_on (whole told);
+      are = numbers_before;
+    }
 
 -- what an opening gives: it opens by the list, and the counts of the sources' faults never fell in it
 pub opens_here : {S C : Type 0} (keeper_tells sink_tells tells : Type 0) (left : S → List ℕ) (faults : S → ℕ) (setup : Setup) (config : Config) (documents : List (List ℕ)) (sources : List S) (start : List Entry) (before : List ℕ) (reads : C → ℕ → C → Type 0) (clock now : C) (restored : Restored) (kept : List Entry) (items feeds : List Feeding) (rests : List S) (moment : ℕ) (state : Kept)
@@ -167,7 +228,3 @@ pub goes_on_here : {S C : Type 0} (keeper_tells tells : Type 0) (left : S → Li
     → (keeper_tells → restored ≡ summary start) → (keeper_tells → kept ≡ start) → IsOpen tells left faults reads setup config documents restored clock now sources rests moment items state → GoesOn keeper_tells kept state
 goes_on_here keeper_tells tells left faults setup config documents sources start kept reads clock now restored items rests moment state same kept_is is =
     opened_goes_on keeper_tells kept restored (opening_entries restored is.opens.tables.turns documents is.opens.configures.schedule moment) state is.opens.opened (λ told. same told ∙ ap summary (sym (kept_is told)))
-
--- what is kept is more than what was
-pub grown_of : (x : Fixed) (has_read : List ℕ → Type 0) (kept : List Entry) → IsKept x has_read kept → x.keeper_tells → (more : List Entry) × (kept ≡ x.start ++ more)
-grown_of x has_read kept is tells = (is.entries, is.grows.grown tells)

@@ -1,8 +1,8 @@
 -- A session that opened by the state opened by the list.
 use Rattle.std.proofs.Common.{◌≡◌, ℕ, ◌+◌, List, [], ◌∷◌, ◌++◌, refl, sym, ap, ◌∙◌, subst, append_assoc, arith}
-use Rattle.std.specs.Prelude.{bytes_eq, filter, max, false}
+use Rattle.std.specs.Prelude.{All, bytes_eq, filter, max, false}
 use Rattle.std.proofs.lemmas.List.{append-nil}
-use Rattle.std.proofs.lemmas.List.Elements.{All-nil}
+use Rattle.std.proofs.lemmas.List.Elements.{All-append, All-cons, All-nil}
 use Rattle.osq_config.specs.declared.config.Config.{Config}
 use Rattle.pack_rules.specs.declared.host.Host.{Host}
 use Rattle.source_feeds.specs.Feeding.{Feeding}
@@ -21,7 +21,7 @@ use Rattle.session_model.specs.Configuring.{configured_in}
 use Rattle.session_model.specs.Given.{Source}
 use Rattle.session_model.specs.Sessions as session
 use Rattle.session_model.specs.Sessions.{is_tables}
-use Rattle.session_model.specs.Taking.{TakesSteps}
+use Rattle.session_model.specs.Taking.{GivesSteps}
 use Rattle.session_state.specs.Kept.{Counts, Kept}
 use Rattle.session_state.specs.StateOf.{IsStateOf}
 use Rattle.daemon_rounds.specs.Adding.{AreFree}
@@ -41,7 +41,8 @@ use Rattle.replay_rounds.specs.Standing.{IsReady, Standing}
 use Rattle.replay_rounds.proofs.Begun.{started_fed}
 use Rattle.replay_rounds.proofs.Feeds.{fed_on}
 use Rattle.replay_rounds.proofs.Nothing.{configured_nothing, nothing_behind, opened_nothing}
-use Rattle.replay_rounds.proofs.Stepped.{fed_after, tables_taken}
+use Rattle.replay_rounds.proofs.Stepped.{fed_after, tables_given}
+use Rattle.replay_rounds.proofs.Ticks.{NoBatch, round_batchless}
 
 -- By the list: the session added these entries, which open it at this reading of the clock; and its first tick may begin.
 pub record OpensSession {S C : Type 0} (left : S → List ℕ) (x : Fixed) (reads : C → ℕ → C → Type 0) (clock now : C) (kept : List Entry) (feeds : List Feeding) (objects : List S) (moment : ℕ) (s : Kept) : Type 0 where
@@ -49,10 +50,11 @@ pub record OpensSession {S C : Type 0} (left : S → List ℕ) (x : Fixed) (read
   pub read : reads clock reading now
   pub number : ℕ
   pub rest : List Entry
-  pub opens : x.keeper_tells → x.source_tells → Legal x.start → session.Opens x.given x.start reading (Opened number ∷ rest)
+  pub opens : x.keeper_tells → Legal x.start → session.Opens x.source_tells x.given x.start reading (Opened number ∷ rest)
   pub at : moment ≡ max reading (moment_of (x.start ++ (Opened number ∷ rest)))
   pub standing : Standing left x (Opened number ∷ rest) kept feeds objects moment s
   pub tail : s.tail ≡ Opened number ∷ rest
+  pub silent : All NoBatch (Opened number ∷ rest)
   pub ready : AreGoing s.counts.taken feeds → IsReady feeds moment s
 
 module _ {S : Type 0} (left : S → List ℕ) (faults : S → ℕ) (x : Fixed) (setup : Setup) (restored : Restored) (kept : List Entry) (started feeds : List Feeding) (objects between rests : List S) (moment : ℕ) (state : Kept) (same : x.keeper_tells → restored ≡ summary x.start) (distinct : IsDistinct bytes_eq (source_names setup.sources)) (sources_are : x.given.sources ≡ sources_of left setup.sources objects)
@@ -111,19 +113,22 @@ module _ {S : Type 0} (left : S → List ℕ) (faults : S → ℕ) (x : Fixed) (
       configures =
           record { schedule = opens.configures.schedule; is = opens.configures.of_list restored (opened ∷ tables) filled x.start legal (sym (same tells)); are = refl }
 
-      module _ (told : x.source_tells) where
-        steps : TakesSteps x.given (x.start ++ opened ∷ []) (filter (λ (source : Source). is_tables source.kind) x.given.sources) tables
-        steps =
-            (tables_taken x.source_tells left faults x.given x.start (x.start ++ opened ∷ []) restored.moment started feeds between rests opens.tables.turns told (moment_was ∙ sym (last_of-append moment_in 0 x.start (opened ∷ []))) fed_opened names_distinct opens.tables.whole opens.tables.each).0
+      steps : GivesSteps x.source_tells x.given (x.start ++ opened ∷ []) (filter (λ (source : Source). is_tables source.kind) x.given.sources) tables
+      steps =
+          tables_given x.source_tells left faults x.given x.start (x.start ++ opened ∷ []) restored.moment started feeds between rests opens.tables.turns (moment_was ∙ sym (last_of-append moment_in 0 x.start (opened ∷ []))) fed_opened names_distinct opens.tables.whole opens.tables.each
 
-        by_list : (reading : ℕ) → moment ≡ max reading restored.moment → session.Opens x.given x.start reading entries
-        by_list reading at = record {
-          tables = tables;
-          configured = configured;
-          takes = subst (λ (count : ℕ). TakesSteps x.given (x.start ++ Opened (count + 1) ∷ []) (filter (λ (source : Source). is_tables source.kind) x.given.sources) tables) sessions_are steps;
-          configures = subst (λ (m : ℕ). configuring.Configures x.given (x.start ++ (Opened (sessions x.start + 1) ∷ tables)) m configured) (at ∙ ap (max reading) moment_was) (subst (λ (count : ℕ). configuring.Configures x.given (x.start ++ (Opened (count + 1) ∷ tables)) moment configured) sessions_are configures);
-          are = ap (λ (count : ℕ). Opened (count + 1) ∷ tables ++ configured ∷ []) sessions_are;
-        }
+      by_list : (reading : ℕ) → moment ≡ max reading restored.moment → session.Opens x.source_tells x.given x.start reading entries
+      by_list reading at = record {
+        tables = tables;
+        configured = configured;
+        takes = subst (λ (count : ℕ). GivesSteps x.source_tells x.given (x.start ++ Opened (count + 1) ∷ []) (filter (λ (source : Source). is_tables source.kind) x.given.sources) tables) sessions_are steps;
+        configures = subst (λ (m : ℕ). configuring.Configures x.given (x.start ++ (Opened (sessions x.start + 1) ∷ tables)) m configured) (at ∙ ap (max reading) moment_was) (subst (λ (count : ℕ). configuring.Configures x.given (x.start ++ (Opened (count + 1) ∷ tables)) moment configured) sessions_are configures);
+        are = ap (λ (count : ℕ). Opened (count + 1) ∷ tables ++ configured ∷ []) sessions_are;
+      }
+
+  silent : All NoBatch entries
+  silent =
+      All-cons NoBatch opened (tables ++ configured ∷ []) refl (All-append NoBatch tables (configured ∷ []) (round_batchless restored.moment opens.tables.turns) (All-cons NoBatch configured [] refl (All-nil NoBatch)))
 
   free : AreFree state.claims
   free =
@@ -168,10 +173,11 @@ module _ {S : Type 0} (left : S → List ℕ) (faults : S → ℕ) (x : Fixed) (
     read = read.reads_it;
     number = restored.sessions + 1;
     rest = tables ++ configured ∷ [];
-    opens = λ tells told legal. by_list tells legal told read.reading read.is;
+    opens = λ tells legal. by_list tells legal read.reading read.is;
     at = at_reading read.reading read.is;
     standing = stands kept_is;
     tail = opens.opened.tail;
+    silent = silent;
     ready = ready;
   }
 

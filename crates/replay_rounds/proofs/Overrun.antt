@@ -162,7 +162,7 @@ table_keeps : (given : Given) (kept : List Entry) (source : Source) (entries : L
 table_keeps given kept source entries tables spends legal =
     let from = taken_from kept source.name in
     let step = spends.step in
-    let takes = subst (λ (kind : SourceKind). Takes kind given.config.categories from (drop from source.bytes) given.records step.pieces step.to) tables step.takes in
+    let takes = subst (λ (kind : SourceKind). Takes kind given.config.categories from (drop from source.bytes) given.records step.pieces step.to) tables (step.takes tt) in
     let are : entries ++ spends.next ∷ spends.rest ≡ map (entry_of source.name (moment_of kept)) (map reading_of step.pieces) = step.are ∙ ap (λ (kind : SourceKind). map (entry_of source.name (moment_of kept)) (readings_of kind step.pieces)) tables in
     let each = no_events source.name (moment_of kept) from takes.reads.lines step.pieces takes.reads.gives in
     let none = all_here (λ (entry : Entry). events_in entry ≡ []) entries spends.next spends.rest (subst (All (λ (entry : Entry). events_in entry ≡ [])) (sym are) each) in

@@ -1,8 +1,8 @@
 -- A session that runs: what holds of it behind each of its ticks.
 use Rattle.std.proofs.Common.{◌≡◌, ℕ, ◌+◌, ◌≤◌, List, [], ◌∷◌, ◌++◌, length, refl, sym, ap, ◌∙◌, subst, append_assoc, arith}
-use Rattle.std.specs.Prelude.{max, take}
-use Rattle.std.proofs.Math.Seq.{take-append-add, take-length}
+use Rattle.std.specs.Prelude.{false, max, take}
 use Rattle.std.proofs.lemmas.List.{append-nil}
+use Rattle.std.proofs.lemmas.List.Elements.{All-nil}
 use Rattle.config_files.specs.Configurations.{IsConfigOf}
 use Rattle.source_feeds.specs.Feeding.{Feeding}
 use Rattle.pack_rules.specs.declared.schedule.Form.{Form}
@@ -14,14 +14,17 @@ use Rattle.entry_model.specs.Legal.{Legal}
 use Rattle.entry_model.specs.Values.{moment_of, no_schedule}
 use Rattle.session_model.specs.Sessions.{IsSession, Opens}
 use Rattle.session_model.specs.Ticking.{Ticks}
+use Rattle.session_model.specs.Working.{is_batch}
 use Rattle.session_state.specs.Kept.{Counts, Kept}
 use Rattle.session_state.specs.StateOf.{HasValues}
 use Rattle.daemon_rounds.specs.Telling.{AreLinesOf}
 use Rattle.replay_rounds.specs.Fixed.{Fixed}
+use Rattle.replay_rounds.specs.OneTick.{HasOneTick, IsOneTick}
 use Rattle.replay_rounds.specs.Running.{Grows, IsKept, IsWritten, ReadsAll}
-use Rattle.replay_rounds.specs.Sources.{AreFullOrOver}
+use Rattle.replay_rounds.specs.Refusals.{numbers_of}
 use Rattle.replay_rounds.specs.Standing.{Standing}
-use Rattle.replay_rounds.specs.Ticked.{TakesTick}
+use Rattle.replay_rounds.specs.Stopping.{AreNumbersOf}
+use Rattle.replay_rounds.specs.Ticked.{IsFullTick, TakesTick}
 use Rattle.replay_rounds.proofs.Sessions.{session_first, session_more}
 use Rattle.replay_rounds.proofs.Tellings.{form_behind, form_is, told_more}
 
@@ -35,12 +38,13 @@ reads_more reads before between after (first ∷ readings) reading (next, one, r
 abbrev pub IsToldAll : Fixed → List Entry → List ℕ → Type 0
 IsToldAll x entries written = (lines : List ℕ) × AreLinesOf x.given.host.identifier form.Event entries lines × (written ≡ x.written ++ lines)
 
--- in the last tick each source was at its end or gave a full step
-pub record IsFullTick (x : Fixed) (entries : List Entry) (feeds : List Feeding) : Type 0 where
+-- the last tick, in which each source that isn't at its end gave a full step
+pub record EndsFull (x : Fixed) (entries : List Entry) (feeds : List Feeding) : Type 0 where
   pub before : List Entry
-  pub since : List Entry
-  pub are : entries ≡ before ++ since
-  pub full : AreFullOrOver x.given (x.start ++ before) x.given.sources feeds
+  pub moment : ℕ
+  pub last : List Entry
+  pub are : entries ≡ before ++ last
+  pub tick : IsFullTick x.source_tells x.given (x.start ++ before) moment feeds last
 
 -- Behind a tick: the clock was read so often, and the session has added these entries, all of which are kept.
 pub record IsAdded {S C : Type 0} (left : S → List ℕ) (x : Fixed) (reads : C → ℕ → C → Type 0) (clock now : C) (kept : List Entry) (feeds : List Feeding) (objects : List S) (last : ℕ) (s : Kept) : Type 0 where
@@ -50,8 +54,8 @@ pub record IsAdded {S C : Type 0} (left : S → List ℕ) (x : Fixed) (reads : C
   pub read : ReadsAll reads clock (reading ∷ readings) now
   pub standing : Standing left x entries kept feeds objects last s
   pub empty : s.tail ≡ []
-  pub session : x.keeper_tells → x.source_tells → Legal x.start → IsSession x.given x.start reading readings entries
-  pub full : x.keeper_tells → x.source_tells → Legal x.start → IsFullTick x entries feeds
+  pub session : x.keeper_tells → Legal x.start → IsSession x.source_tells x.given x.start reading readings entries
+  pub full : x.keeper_tells → x.source_tells → Legal x.start → EndsFull x entries feeds
 
 -- and they are told
 pub record IsRunning {S C : Type 0} (left : S → List ℕ) (x : Fixed) (reads : C → ℕ → C → Type 0) (clock now : C) (kept : List Entry) (written : List ℕ) (feeds : List Feeding) (objects : List S) (last : ℕ) (s : Kept) : Type 0 where
@@ -85,6 +89,12 @@ all_kept left x entries kept feeds objects last s h empty tells =
 pub values : {S : Type 0} (left : S → List ℕ) (x : Fixed) (entries kept : List Entry) (feeds : List Feeding) (objects : List S) (last : ℕ) (s : Kept) → Standing left x entries kept feeds objects last s → x.keeper_tells → Legal x.start → HasValues (x.start ++ entries) s
 values left x entries kept feeds objects last s h tells legal = h.stands.values x.start legal (h.same tells)
 
+-- and its numbers, which the state has
+pub numbers_are : {S : Type 0} (left : S → List ℕ) (x : Fixed) (entries kept : List Entry) (feeds : List Feeding) (objects : List S) (last : ℕ) (s : Kept) → Standing left x entries kept feeds objects last s → s.tail ≡ [] → AreNumbersOf x kept (numbers_of s)
+numbers_are left x entries kept feeds objects last s h empty = λ tells legal.
+    let has = subst (λ (list : List Entry). HasValues list s) (sym (all_kept left x entries kept feeds objects last s h empty tells)) (values left x entries kept feeds objects last s h tells legal) in
+    record { events = has.image.last; batches = sym (ap (λ (c : Counts). c.batches) has.counts); acknowledged = sym (ap (λ (c : Counts). c.acked) has.counts) }
+
 pub moment_is : {S : Type 0} (left : S → List ℕ) (x : Fixed) (entries kept : List Entry) (feeds : List Feeding) (objects : List S) (last : ℕ) (s : Kept) → Standing left x entries kept feeds objects last s → x.keeper_tells → Legal x.start → moment_of (x.start ++ entries) ≡ s.counts.moment
 moment_is left x entries kept feeds objects last s h tells legal =
     ap (λ (c : Counts). c.moment) (values left x entries kept feeds objects last s h tells legal).counts
@@ -101,13 +111,11 @@ module _ {S C : Type 0} (left : S → List ℕ) (x : Fixed) (reads : C → ℕ �
   legal_behind tells legal =
       (values left x (added ++ t.own) next nexts rests last new standing_behind tells legal).legal
 
-  pub full_behind : x.keeper_tells → x.source_tells → Legal x.start → IsFullTick x (added ++ t.own) nexts
-  full_behind tells told legal =
-      let (before, since, are, full) = t.full tells told legal in
-      record { before = added ++ before; since = since; are = ap (λ (es : List Entry). added ++ es) are ∙ sym (append_assoc added before since); full = full }
+  pub full_behind : x.keeper_tells → x.source_tells → Legal x.start → EndsFull x (added ++ t.own) nexts
+  full_behind tells told legal = record { before = added; moment = moment; last = t.own; are = refl; tick = t.full tells told legal }
 
   -- the first tick of a session that opened at the clock's first reading
-  module _ (reading : ℕ) (notes : List ℕ) (read : reads clock reading now) (configuration : IsConfigOf x.given.documents x.given.config notes) (opens : x.keeper_tells → x.source_tells → Legal x.start → Opens x.given x.start reading added) (at : x.keeper_tells → Legal x.start → moment ≡ max reading (moment_of (x.start ++ added))) where
+  module _ (reading : ℕ) (notes : List ℕ) (read : reads clock reading now) (configuration : IsConfigOf x.given.documents x.given.config notes) (opens : x.keeper_tells → Legal x.start → Opens x.source_tells x.given x.start reading added) (at : x.keeper_tells → Legal x.start → moment ≡ max reading (moment_of (x.start ++ added))) where
     unfoldable pub first_added : IsAdded left x reads clock now next nexts rests last new
     first_added = record {
       reading = reading;
@@ -116,7 +124,7 @@ module _ {S C : Type 0} (left : S → List ℕ) (x : Fixed) (reads : C → ℕ �
       read = (now, read, refl);
       standing = standing_behind;
       empty = empty_behind;
-      session = λ tells sources legal. session_first x.given x.start reading notes added t.own configuration (opens tells sources legal) (subst (λ (m : ℕ). Ticks x.given (x.start ++ added) m t.own) (at tells legal) (t.ticks tells sources legal)) (legal_behind tells legal);
+      session = λ tells legal. session_first x.source_tells x.given x.start reading notes added t.own configuration (opens tells legal) (subst (λ (m : ℕ). Ticks x.source_tells x.given (x.start ++ added) m t.own) (at tells legal) (t.ticks tells legal)) (legal_behind tells legal);
       full = full_behind;
     }
 
@@ -135,9 +143,9 @@ module _ {S C : Type 0} (left : S → List ℕ) (x : Fixed) (reads : C → ℕ �
   tail_own = t.tail ∙ ap (λ (es : List Entry). es ++ t.own) r.empty
 
   -- the lines of all entries go on with those of the tick's
-  pub told_on : (before more : List ℕ) → IsToldAll x r.entries before → AreLinesOf x.given.host.identifier old.schedule.form settled.tail more → (lines : List ℕ) × (before ≡ x.written ++ lines) × AreLinesOf x.given.host.identifier form.Event (r.entries ++ t.own) (lines ++ more)
+  pub told_on : (before more : List ℕ) → IsToldAll x r.entries before → AreLinesOf x.given.host.identifier old.schedule.form settled.tail more → (lines : List ℕ) × (before ≡ x.written ++ lines) × AreLinesOf x.given.host.identifier form.Event r.entries lines × AreLinesOf x.given.host.identifier form.Event (r.entries ++ t.own) (lines ++ more)
   told_on before more (lines, are, is) ares =
-      (lines, is, told_more x.given.host.identifier form.Event r.entries t.own lines more are own)
+      (lines, is, are, told_more x.given.host.identifier form.Event r.entries t.own lines more are own)
     where
       form_now : form_behind form.Event r.entries ≡ old.schedule.form
       form_now = form_is no_schedule r.entries ∙ ap (λ (d : Schedule). d.form) (r.standing.schedule no_schedule)
@@ -159,9 +167,9 @@ module _ {S C : Type 0} (left : S → List ℕ) (x : Fixed) (reads : C → ℕ �
       read = reads_more reads clock between now (r.reading ∷ r.readings) reading r.read read;
       standing = standing_now;
       empty = ap (λ (k : Kept). k.tail) taken;
-      session = λ tells sources legal.
+      session = λ tells legal.
           let same : moment ≡ max reading (moment_of (x.start ++ r.entries)) = at ∙ ap (max reading) (sym (moment_is left x r.entries kept feeds objects configured_at old r.standing tells legal)) in
-          session_more x.given x.start r.reading r.readings reading r.entries t.own (r.session tells sources legal) (subst (λ (m : ℕ). Ticks x.given (x.start ++ r.entries) m t.own) same (t.ticks tells sources legal)) (values left x (r.entries ++ t.own) next nexts rests last new standing_now tells legal).legal;
+          session_more x.source_tells x.given x.start r.reading r.readings reading r.entries t.own (r.session tells legal) (subst (λ (m : ℕ). Ticks x.source_tells x.given (x.start ++ r.entries) m t.own) same (t.ticks tells legal)) (values left x (r.entries ++ t.own) next nexts rests last new standing_now tells legal).legal;
       full = full_behind left x reads clock now kept next nexts rests last moment old settled new r.entries t taken grown;
     }
 
@@ -171,7 +179,7 @@ module _ {S C : Type 0} (left : S → List ℕ) (x : Fixed) (reads : C → ℕ �
       added = added_on;
       told = λ tells.
           let (text, ares, is) = more tells in
-          let (lines, was, all) = told_on before text (told tells) ares in
+          let (lines, was, front, all) = told_on before text (told tells) ares in
           (lines ++ text, all, is ∙ ap (λ (front : List ℕ). front ++ text) was ∙ append_assoc x.written lines text);
     }
 
@@ -183,7 +191,7 @@ none_kept x has_read readings kept read few same = record {
   entries = [];
   read = read;
   few = few;
-  grows = record { grown = λ tells. same tells ∙ sym (append-nil x.start); adds = λ tells sources legal. refl };
+  grows = record { grown = λ tells. same tells ∙ sym (append-nil x.start); adds = λ tells legal. refl };
 }
 
 module _ {S C : Type 0} (left : S → List ℕ) (x : Fixed) (reads : C → ℕ → C → Type 0) (clock now : C) (kept : List Entry) (feeds : List Feeding) (objects : List S) (last : ℕ) (s : Kept) (r : IsAdded left x reads clock now kept feeds objects last s) where
@@ -212,23 +220,45 @@ module _ {S C : Type 0} (left : S → List ℕ) (x : Fixed) (reads : C → ℕ �
     grows = record { grown = λ tells. same ∙ all_kept left x r.entries kept feeds objects last s r.standing r.empty tells; adds = r.session };
   }
 
--- the results where nothing was written
-pub none_written : (x : Fixed) (kept : List Entry) (written : List ℕ) → (x.keeper_tells → (more : List Entry) × (kept ≡ x.start ++ more)) → written ≡ x.written → IsWritten x kept written
-none_written x kept written kept_are same =
-    record { entries = []; kept_are = kept_are; lines = []; told = refl; count = 0; written_is = same ∙ sym (append-nil x.written) }
+-- behind these entries the list has so many more, which are a tick, or nothing
+abbrev pub HasRest : Fixed → List Entry → List Entry → Type 0
+HasRest x kept whole = (rest : List Entry) × HasOneTick rest × (kept ≡ x.start ++ (whole ++ rest))
 
--- where the lines of these entries were written whole, and the list has more since
-pub all_written : (x : Fixed) (kept entries : List Entry) (written : List ℕ) → (x.keeper_tells → (more : List Entry) × (kept ≡ x.start ++ (entries ++ more))) → IsToldAll x entries written → IsWritten x kept written
-all_written x kept entries written kept_are (lines, are, is) =
-    record { entries = entries; kept_are = kept_are; lines = lines; told = are; count = length lines; written_is = is ∙ ap (λ (text : List ℕ). x.written ++ text) (sym (take-length lines)) }
+pub no_tick : HasOneTick []
+no_tick = record { opening = []; tick = []; are = refl; silent = All-nil (λ (entry : Entry). is_batch entry ≡ false); one = tt }
+
+-- entries that are one tick alone
+pub tick_alone : (entries : List Entry) → IsOneTick entries → HasOneTick entries
+tick_alone entries one = record { opening = []; tick = entries; are = refl; silent = All-nil (λ (entry : Entry). is_batch entry ≡ false); one = one }
+
+-- where the lines of these entries were written whole, and the list may have a tick more
+pub all_written : (x : Fixed) (kept entries : List Entry) (written : List ℕ) → (x.keeper_tells → HasRest x kept entries) → IsToldAll x entries written → IsWritten x kept written
+all_written x kept entries written kept_are (lines, are, is) = record {
+  whole = entries;
+  part = [];
+  kept_are = kept_are;
+  lines = lines;
+  told = are;
+  more = [];
+  told_more = subst (λ (es : List Entry). AreLinesOf x.given.host.identifier form.Event es (lines ++ [])) (sym (append-nil entries)) (subst (AreLinesOf x.given.host.identifier form.Event entries) (sym (append-nil lines)) are);
+  count = 0;
+  written_is = is ∙ sym (append-nil (x.written ++ lines));
+}
+
+-- the results where nothing was written
+pub none_written : (x : Fixed) (kept : List Entry) (written : List ℕ) → (x.keeper_tells → HasRest x kept []) → written ≡ x.written → IsWritten x kept written
+none_written x kept written kept_are same = all_written x kept [] written kept_are ([], refl, same ∙ sym (append-nil x.written))
 
 -- where behind them a front part of the lines of a tick was written
-pub partly_written : (x : Fixed) (kept entries : List Entry) (written lines more : List ℕ) (count : ℕ) → (x.keeper_tells → kept ≡ x.start ++ entries) → AreLinesOf x.given.host.identifier form.Event entries (lines ++ more) → written ≡ (x.written ++ lines) ++ take count more → IsWritten x kept written
-partly_written x kept entries written lines more count kept_are are is = record {
-  entries = entries;
-  kept_are = λ tells. ([], kept_are tells ∙ ap (λ (es : List Entry). x.start ++ es) (sym (append-nil entries)));
-  lines = lines ++ more;
-  told = are;
-  count = length lines + count;
-  written_is = is ∙ append_assoc x.written lines (take count more) ∙ ap (λ (text : List ℕ). x.written ++ text) (sym (take-append-add lines more count));
+pub partly_written : (x : Fixed) (kept whole part : List Entry) (written lines more : List ℕ) (count : ℕ) → HasOneTick part → (x.keeper_tells → kept ≡ x.start ++ (whole ++ part)) → AreLinesOf x.given.host.identifier form.Event whole lines → AreLinesOf x.given.host.identifier form.Event (whole ++ part) (lines ++ more) → written ≡ (x.written ++ lines) ++ take count more → IsWritten x kept written
+partly_written x kept whole part written lines more count one kept_are told are is = record {
+  whole = whole;
+  part = part;
+  kept_are = λ tells. ([], subst HasOneTick (sym (append-nil part)) one, kept_are tells ∙ ap (λ (es : List Entry). x.start ++ (whole ++ es)) (sym (append-nil part)));
+  lines = lines;
+  told = told;
+  more = more;
+  told_more = are;
+  count = count;
+  written_is = is;
 }

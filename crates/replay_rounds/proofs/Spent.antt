@@ -134,7 +134,7 @@ module _ {S C : Type 0} (keeper_tells sink_tells tells : Type 0) (left : S → L
     reading = reading;
     read = (now, read, refl);
     added = [];
-    grows = record { grown = λ told. kept_is told ∙ sym (append-nil start); adds = λ told sources legal. refl };
+    grows = record { grown = λ told. kept_is told ∙ sym (append-nil start); adds = λ told legal. refl };
     entries = [];
     legal = λ told legal. subst Legal (sym (append-nil kept ∙ kept_is told)) legal;
     spends = λ told gives legal. absurd (never told gives legal);
@@ -186,12 +186,12 @@ module _ {S C : Type 0} (keeper_tells sink_tells tells : Type 0) (left : S → L
     reading = o.reading;
     read = (now, o.read, refl);
     added = [];
-    grows = record { grown = λ told. same told ∙ sym (append-nil start); adds = λ told sources legal. refl };
+    grows = record { grown = λ told. same told ∙ sym (append-nil start); adds = λ told legal. refl };
     entries = opening ++ s.own;
     legal = λ told legal. subst Legal (sym (ap (λ (list : List Entry). list ++ (opening ++ s.own)) (same told) ∙ sym (append_assoc start opening s.own))) (s.legal told legal);
     spends = λ told sources legal.
-        subst (λ (list : List Entry). SpendsAt x.given list [] o.reading (opening ++ s.own)) (sym (same told))
-        (opening, s.own, o.opens told sources legal, subst (λ (m : ℕ). TickSpends x.given (start ++ opening) m s.own) o.at (s.spends told sources legal), refl);
+        subst (λ (list : List Entry). SpendsAt x.source_tells x.given list [] o.reading (opening ++ s.own)) (sym (same told))
+        (opening, s.own, o.opens told legal, subst (λ (m : ℕ). TickSpends x.given (start ++ opening) m s.own) o.at (s.spends told sources legal), refl);
   }
     where
       opening : List Entry

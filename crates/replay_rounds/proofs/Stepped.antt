@@ -20,14 +20,14 @@ use Rattle.entry_model.specs.Fits.{IsDistinct}
 use Rattle.entry_model.specs.Values.{moment_of, taken_from}
 use Rattle.session_state.specs.Readings.{entry_of}
 use Rattle.session_model.specs.Given.{Given, Source}
-use Rattle.session_model.specs.Taking.{TakesStep, TakesSteps}
+use Rattle.session_model.specs.Taking.{GivesStep, GivesSteps, TakesStep, TakesSteps}
 use Rattle.session_model.specs.Sessions.{is_tables}
 use Rattle.daemon_rounds.specs.Appending.{entries_of}
 use Rattle.daemon_rounds.specs.Turns.{Gave, IsTurn, Plays, Turn, takes_part, turn_entries}
 use Rattle.daemon_rounds.specs.Rounding.{Whole, names_of, round_entries}
 use Rattle.daemon_rounds.specs.declared.turning.Which.{Which}
 use Rattle.daemon_rounds.specs.declared.turning.Which.TheVariants as which
-use Rattle.replay_rounds.specs.Sources.{AreFed, AreFullOrOver, IsFed, IsFull}
+use Rattle.replay_rounds.specs.Sources.{AreFed, AreFullOrOver, AreFullSteps, IsFed, IsFullStep}
 use Rattle.replay_rounds.proofs.Passed.{moment_behind, other_behind, others_behind, taken_behind}
 use Rattle.replay_rounds.proofs.Feeds.{one_fed_on, others_fed_on}
 
@@ -73,30 +73,45 @@ module _ {S : Type 0} (tells : Type 0) (left : S → List ℕ) (paths : List Cat
   entries_are moment at =
       ap (λ (readings : List Reading). entries_of feed.name moment readings) (step.read ∙ ap (λ (kind : SourceKind). readings_of kind step.pieces) is.kind) ∙ ap (λ (name : List ℕ). entries_of name moment (readings_of source.kind step.pieces)) is.name ∙ ap (λ (moment : ℕ). entries_of source.name moment (readings_of source.kind step.pieces)) at
 
--- what the step took is a step of the source
-pub step_taken : {S : Type 0} (tells : Type 0) (left : S → List ℕ) (start now : List Entry) (given : Given) (source : Source) (feed next : Feeding) (object rest : S) (readings : List Reading) (is : IsFed tells left given.config.categories start now source feed object) (gave : Gave tells (left object) (left rest) feed next given.records readings) (moment : ℕ) → tells → moment ≡ moment_of now → TakesStep given now source (entries_of feed.name moment readings)
-step_taken tells left start now given source feed next object rest readings is gave moment told at =
+-- the step that its feed took
+pub step_given : {S : Type 0} (tells : Type 0) (left : S → List ℕ) (start now : List Entry) (given : Given) (source : Source) (feed next : Feeding) (object rest : S) (readings : List Reading) (is : IsFed tells left given.config.categories start now source feed object) (gave : Gave tells (left object) (left rest) feed next given.records readings) (moment : ℕ) → moment ≡ moment_of now → GivesStep tells given now source (entries_of feed.name moment readings)
+step_given tells left start now given source feed next object rest readings is gave moment at =
     let of_feed = step tells left given.config.categories start now source feed next object rest given.records readings is gave in
     record {
       pieces = of_feed.pieces;
       to = next.reader.taken;
-      takes = takes_as source.bytes given.records of_feed.pieces next.reader.taken is.kind is.paths_are is.place (of_feed.takes told);
+      few = of_feed.few;
+      takes = λ told. takes_as source.bytes given.records of_feed.pieces next.reader.taken is.kind is.paths_are is.place (of_feed.takes told);
       are = entries_are tells left given.config.categories start now source feed next object rest given.records readings is gave moment at;
     }
 
+step_told : (tells : Type 0) → tells → (given : Given) (kept : List Entry) (source : Source) (entries : List Entry) → GivesStep tells given kept source entries → TakesStep given kept source entries
+step_told tells told given kept source entries step =
+    record { pieces = step.pieces; to = step.to; few = step.few; takes = λ always. step.takes told; are = step.are }
+
+steps_told : (tells : Type 0) → tells → (given : Given) (kept : List Entry) (sources : List Source) (entries : List Entry) → GivesSteps tells given kept sources entries → TakesSteps given kept sources entries
+steps_told tells told given kept [] entries none = none
+steps_told tells told given kept (source ∷ sources) entries (own, others, step, steps, are) =
+    (own, others, step_told tells told given kept source own step, steps_told tells told given (kept ++ own) sources others steps, are)
+
+-- of a source that tells its bytes
+pub step_taken : {S : Type 0} (tells : Type 0) (left : S → List ℕ) (start now : List Entry) (given : Given) (source : Source) (feed next : Feeding) (object rest : S) (readings : List Reading) (is : IsFed tells left given.config.categories start now source feed object) (gave : Gave tells (left object) (left rest) feed next given.records readings) (moment : ℕ) → tells → moment ≡ moment_of now → TakesStep given now source (entries_of feed.name moment readings)
+step_taken tells left start now given source feed next object rest readings is gave moment told at =
+    step_told tells told given now source (entries_of feed.name moment readings) (step_given tells left start now given source feed next object rest readings is gave moment at)
+
 -- where its feed isn't at the source's end, it was full
-step_full : {S : Type 0} (tells : Type 0) (left : S → List ℕ) (start now : List Entry) (given : Given) (source : Source) (feed next : Feeding) (object rest : S) (readings : List Reading) (is : IsFed tells left given.config.categories start now source feed object) (gave : Gave tells (left object) (left rest) feed next given.records readings) (moment : ℕ) → tells → moment ≡ moment_of now → is_at_end next.reader ≡ false → IsFull given now source
-unfolding step_taken
-step_full tells left start now given source feed next object rest readings is gave moment told at open_still = by_size (of_feed.still told open_still)
+full_step : {S : Type 0} (tells : Type 0) (left : S → List ℕ) (start now : List Entry) (given : Given) (source : Source) (feed next : Feeding) (object rest : S) (readings : List Reading) (is : IsFed tells left given.config.categories start now source feed object) (gave : Gave tells (left object) (left rest) feed next given.records readings) (moment : ℕ) → tells → moment ≡ moment_of now
+    → (own : TakesStep given now source (entries_of feed.name moment readings)) × (is_at_end next.reader ≡ false → IsFullStep given now source (entries_of feed.name moment readings) own)
+unfolding step_taken step_told step_given
+full_step tells left start now given source feed next object rest readings is gave moment told at =
+    (step_taken tells left start now given source feed next object rest readings is gave moment told at, λ open_still. by_size (of_feed.still told open_still))
   where
     of_feed : IsStep tells source.bytes (left rest) feed next (taken_from start source.name) is.pieces given.records readings
     of_feed = step tells left given.config.categories start now source feed next object rest given.records readings is gave
 
-    by_size : (length of_feed.pieces ≡ given.records) ⊎ (STEP_BYTES ≤ length (drop feed.reader.taken source.bytes)) → IsFull given now source
-    by_size (inl most) =
-        inr (entries_of feed.name moment readings, (step_taken tells left start now given source feed next object rest readings is gave moment told at, most))
-    by_size (inr many) =
-        inl (subst (λ (from : ℕ). STEP_BYTES ≤ length (drop from source.bytes)) is.place many)
+    by_size : (length of_feed.pieces ≡ given.records) ⊎ (STEP_BYTES ≤ length (drop feed.reader.taken source.bytes)) → (STEP_BYTES ≤ length (drop (taken_from now source.name) source.bytes)) ⊎ (length of_feed.pieces ≡ given.records)
+    by_size (inl most) = inr most
+    by_size (inr many) = inl (subst (λ (from : ℕ). STEP_BYTES ≤ length (drop from source.bytes)) is.place many)
 
 -- a turn of a source is that of a feed of it, whether it took a step or none
 module _ {S : Type 0} (tells : Type 0) (left : S → List ℕ) (faults : S → ℕ) (which : Which) (start : List Entry) (most : ℕ) where
@@ -126,14 +141,14 @@ module _ {S : Type 0} (tells : Type 0) (left : S → List ℕ) (faults : S → �
         let others = round_fed (now ++ turn_entries moment turn) sources turns distinct.1 (All-tail (IsTurn tells left faults which most) turn turns each) (others_wait now turn turns sources distinct are.1) in
         subst (λ (later : List Entry). AreFed tells left paths start later (source ∷ sources) (nexts_of (turn ∷ turns)) (rests_of (turn ∷ turns))) more (first, others)
 
-module _ {S : Type 0} (tells : Type 0) (left : S → List ℕ) (faults : S → ℕ) (start : List Entry) (given : Given) (moment : ℕ) (told : tells) where
+module _ {S : Type 0} (tells : Type 0) (left : S → List ℕ) (faults : S → ℕ) (start : List Entry) (given : Given) (moment : ℕ) where
   -- those that take part take a step each
-  steps_taken : (which : Which) (now : List Entry) (sources : List Source) (turns : List (Turn S)) → moment ≡ moment_of now → IsDistinct bytes_eq (names_of (feeds_of turns)) → All (IsTurn tells left faults which given.records) turns → AreFed tells left given.config.categories start now sources (feeds_of turns) (objects_of turns) → TakesSteps given now (filter (λ (source : Source). takes_part which source.kind) sources) (round_entries moment turns)
-  steps_taken which now [] [] at distinct each are = refl
-  steps_taken which now [] (turn ∷ turns) at distinct each are = absurd are
-  steps_taken which now (source ∷ sources) [] at distinct each are = absurd are
-  steps_taken which now (source ∷ sources) (turn ∷ turns) at distinct each are =
-      by_part (takes_part which source.kind) (subst (λ (kind : SourceKind). Plays tells left given.records (takes_part which kind) turn) are.0.kind (All-head (IsTurn tells left faults which given.records) turn turns each).plays) (steps_taken which (now ++ own) sources turns (at ∙ sym (moment_behind now turn.feed.name moment turn.readings)) distinct.1 (All-tail (IsTurn tells left faults which given.records) turn turns each) (others_wait tells left faults which start given.records given.config.categories moment now turn turns sources distinct are.1))
+  steps_given : (which : Which) (now : List Entry) (sources : List Source) (turns : List (Turn S)) → moment ≡ moment_of now → IsDistinct bytes_eq (names_of (feeds_of turns)) → All (IsTurn tells left faults which given.records) turns → AreFed tells left given.config.categories start now sources (feeds_of turns) (objects_of turns) → GivesSteps tells given now (filter (λ (source : Source). takes_part which source.kind) sources) (round_entries moment turns)
+  steps_given which now [] [] at distinct each are = refl
+  steps_given which now [] (turn ∷ turns) at distinct each are = absurd are
+  steps_given which now (source ∷ sources) [] at distinct each are = absurd are
+  steps_given which now (source ∷ sources) (turn ∷ turns) at distinct each are =
+      by_part (takes_part which source.kind) (subst (λ (kind : SourceKind). Plays tells left given.records (takes_part which kind) turn) are.0.kind (All-head (IsTurn tells left faults which given.records) turn turns each).plays) (steps_given which (now ++ own) sources turns (at ∙ sym (moment_behind now turn.feed.name moment turn.readings)) distinct.1 (All-tail (IsTurn tells left faults which given.records) turn turns each) (others_wait tells left faults which start given.records given.config.categories moment now turn turns sources distinct are.1))
     where
       own : List Entry
       own = turn_entries moment turn
@@ -144,20 +159,32 @@ module _ {S : Type 0} (tells : Type 0) (left : S → List ℕ) (faults : S → �
       rest : List Source
       rest = filter (λ (source : Source). takes_part which source.kind) sources
 
-      by_part : (part : Bool) → Plays tells left given.records part turn → TakesSteps given (now ++ own) rest others → TakesSteps given now (cond part (source ∷ rest) rest) (own ++ others)
+      by_part : (part : Bool) → Plays tells left given.records part turn → GivesSteps tells given (now ++ own) rest others → GivesSteps tells given now (cond part (source ∷ rest) rest) (own ++ others)
       by_part true gave behind =
-          (own, others, step_taken tells left start now given source turn.feed turn.next turn.source turn.rest turn.readings are.0 gave moment told at, behind, refl)
+          (own, others, step_given tells left start now given source turn.feed turn.next turn.source turn.rest turn.readings are.0 gave moment at, behind, refl)
       by_part false idle behind =
           let none = ap (λ (readings : List Reading). entries_of turn.feed.name moment readings) idle.none in
-          subst (λ (entries : List Entry). TakesSteps given now rest (entries ++ others)) (sym none) (subst (λ (list : List Entry). TakesSteps given list rest others) (append-nil now) (subst (λ (entries : List Entry). TakesSteps given (now ++ entries) rest others) none behind))
+          subst (λ (entries : List Entry). GivesSteps tells given now rest (entries ++ others)) (sym none) (subst (λ (list : List Entry). GivesSteps tells given list rest others) (append-nil now) (subst (λ (entries : List Entry). GivesSteps tells given (now ++ entries) rest others) none behind))
 
-  -- where each takes part, each gave a full step, or its feed is at its end
-  steps_full : (kept : List Entry) (sources : List Source) (turns : List (Turn S)) → moment ≡ moment_of kept → All (IsTurn tells left faults which.Every given.records) turns → AreFed tells left given.config.categories start kept sources (feeds_of turns) (objects_of turns) → AreFullOrOver given kept sources (nexts_of turns)
-  steps_full kept [] [] at each are = tt
-  steps_full kept [] (turn ∷ turns) at each are = absurd are
-  steps_full kept (source ∷ sources) [] at each are = absurd are
-  steps_full kept (source ∷ sources) (turn ∷ turns) at each are =
-      (step_full tells left start kept given source turn.feed turn.next turn.source turn.rest turn.readings are.0 (All-head (IsTurn tells left faults which.Every given.records) turn turns each).plays moment told at, steps_full kept sources turns at (All-tail (IsTurn tells left faults which.Every given.records) turn turns each) are.1)
+  module _ (told : tells) where
+    -- where each takes part, each gave a full step, or its feed is at its end
+    full_steps : (now : List Entry) (sources : List Source) (turns : List (Turn S)) → moment ≡ moment_of now → IsDistinct bytes_eq (names_of (feeds_of turns)) → All (IsTurn tells left faults which.Every given.records) turns → AreFed tells left given.config.categories start now sources (feeds_of turns) (objects_of turns) → AreFullSteps given now sources (nexts_of turns) (round_entries moment turns)
+    full_steps now [] [] at distinct each are = refl
+    full_steps now [] (turn ∷ turns) at distinct each are = absurd are
+    full_steps now (source ∷ sources) [] at distinct each are = absurd are
+    full_steps now (source ∷ sources) (turn ∷ turns) at distinct each are =
+        let here = full_step tells left start now given source turn.feed turn.next turn.source turn.rest turn.readings are.0 (All-head (IsTurn tells left faults which.Every given.records) turn turns each).plays moment told at in
+        let behind = full_steps (now ++ turn_entries moment turn) sources turns (at ∙ sym (moment_behind now turn.feed.name moment turn.readings)) distinct.1 (All-tail (IsTurn tells left faults which.Every given.records) turn turns each) (others_wait tells left faults which.Every start given.records given.config.categories moment now turn turns sources distinct are.1) in
+        (turn_entries moment turn, round_entries moment turns, (here.0, here.1, behind, refl))
+
+    -- so it is behind the list before all of them
+    steps_full : (kept : List Entry) (sources : List Source) (turns : List (Turn S)) → moment ≡ moment_of kept → All (IsTurn tells left faults which.Every given.records) turns → AreFed tells left given.config.categories start kept sources (feeds_of turns) (objects_of turns) → AreFullOrOver given kept sources (nexts_of turns)
+    steps_full kept [] [] at each are = tt
+    steps_full kept [] (turn ∷ turns) at each are = absurd are
+    steps_full kept (source ∷ sources) [] at each are = absurd are
+    steps_full kept (source ∷ sources) (turn ∷ turns) at each are =
+        let here = full_step tells left start kept given source turn.feed turn.next turn.source turn.rest turn.readings are.0 (All-head (IsTurn tells left faults which.Every given.records) turn turns each).plays moment told at in
+        (λ open_still. (turn_entries moment turn, (here.0, here.1 open_still)), steps_full kept sources turns at (All-tail (IsTurn tells left faults which.Every given.records) turn turns each) are.1)
 
 pub every_source : (sources : List Source) → filter (λ (source : Source). takes_part which.Every source.kind) sources ≡ sources
 every_source [] = refl
@@ -187,16 +214,23 @@ module _ {S : Type 0} (tells : Type 0) (left : S → List ℕ) (faults : S → �
       subst (λ (rests : List S). AreFed tells left given.config.categories start (kept ++ round_entries moment turns) given.sources nexts rests) (sym whole.rests_are) (subst (λ (nexts : List Feeding). AreFed tells left given.config.categories start (kept ++ round_entries moment turns) given.sources nexts (rests_of turns)) (sym whole.nexts_are) (round_fed tells left faults which start given.records given.config.categories moment kept given.sources turns (distinct_of distinct whole) each (of_turns are whole)))
 
   -- a round of all sources takes a step of each
+  pub rounds_given : moment ≡ moment_of kept → AreFed tells left given.config.categories start kept given.sources feeds objects → IsDistinct bytes_eq (names_of feeds) → Whole feeds nexts objects rests turns → All (IsTurn tells left faults which.Every given.records) turns → GivesSteps tells given kept given.sources (round_entries moment turns)
+  rounds_given at are distinct whole each =
+      subst (λ (sources : List Source). GivesSteps tells given kept sources (round_entries moment turns)) (every_source given.sources) (steps_given tells left faults start given moment which.Every kept given.sources turns at (distinct_of distinct whole) each (of_turns are whole))
+
+  -- where they tell their bytes, those that aren't at their end gave full steps
+  pub rounds_full : tells → moment ≡ moment_of kept → AreFed tells left given.config.categories start kept given.sources feeds objects → IsDistinct bytes_eq (names_of feeds) → Whole feeds nexts objects rests turns → All (IsTurn tells left faults which.Every given.records) turns → AreFullSteps given kept given.sources nexts (round_entries moment turns)
+  rounds_full told at are distinct whole each =
+      subst (λ (nexts : List Feeding). AreFullSteps given kept given.sources nexts (round_entries moment turns)) (sym whole.nexts_are) (full_steps tells left faults start given moment told kept given.sources turns at (distinct_of distinct whole) each (of_turns are whole))
+
   pub rounds_taken : tells → moment ≡ moment_of kept → AreFed tells left given.config.categories start kept given.sources feeds objects → IsDistinct bytes_eq (names_of feeds) → Whole feeds nexts objects rests turns → All (IsTurn tells left faults which.Every given.records) turns → TakesSteps given kept given.sources (round_entries moment turns) × AreFed tells left given.config.categories start (kept ++ round_entries moment turns) given.sources nexts rests × AreFullOrOver given kept given.sources nexts
   rounds_taken told at are distinct whole each = (
-    subst (λ (sources : List Source). TakesSteps given kept sources (round_entries moment turns)) (every_source given.sources) (steps_taken tells left faults start given moment told which.Every kept given.sources turns at (distinct_of distinct whole) each (of_turns are whole)),
+    steps_told tells told given kept given.sources (round_entries moment turns) (rounds_given at are distinct whole each),
     fed_after which.Every are distinct whole each,
     subst (λ (nexts : List Feeding). AreFullOrOver given kept given.sources nexts) (sym whole.nexts_are) (steps_full tells left faults start given moment told kept given.sources turns at each (of_turns are whole)),
   )
 
   -- a round of the sources of tables takes a step of each of them
-  pub tables_taken : tells → moment ≡ moment_of kept → AreFed tells left given.config.categories start kept given.sources feeds objects → IsDistinct bytes_eq (names_of feeds) → Whole feeds nexts objects rests turns → All (IsTurn tells left faults which.Tables given.records) turns → TakesSteps given kept (filter (λ (source : Source). is_tables source.kind) given.sources) (round_entries moment turns) × AreFed tells left given.config.categories start (kept ++ round_entries moment turns) given.sources nexts rests
-  tables_taken told at are distinct whole each = (
-    subst (λ (sources : List Source). TakesSteps given kept sources (round_entries moment turns)) (table_sources given.sources) (steps_taken tells left faults start given moment told which.Tables kept given.sources turns at (distinct_of distinct whole) each (of_turns are whole)),
-    fed_after which.Tables are distinct whole each,
-  )
+  pub tables_given : moment ≡ moment_of kept → AreFed tells left given.config.categories start kept given.sources feeds objects → IsDistinct bytes_eq (names_of feeds) → Whole feeds nexts objects rests turns → All (IsTurn tells left faults which.Tables given.records) turns → GivesSteps tells given kept (filter (λ (source : Source). is_tables source.kind) given.sources) (round_entries moment turns)
+  tables_given at are distinct whole each =
+      subst (λ (sources : List Source). GivesSteps tells given kept sources (round_entries moment turns)) (table_sources given.sources) (steps_given tells left faults start given moment which.Tables kept given.sources turns at (distinct_of distinct whole) each (of_turns are whole))

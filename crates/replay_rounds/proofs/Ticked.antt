@@ -1,6 +1,7 @@
 -- A tick by the state is a tick by the list.
-use Rattle.std.proofs.Common.{◌≡◌, ℕ, List, ◌∷◌, ◌++◌, sym, ap, ◌∙◌, subst, append_assoc}
+use Rattle.std.proofs.Common.{◌≡◌, ℕ, List, [], ◌∷◌, ◌++◌, refl, sym, ap, ◌∙◌, subst, append_assoc}
 use Rattle.std.specs.Prelude.{bytes_eq}
+use Rattle.std.proofs.lemmas.List.Elements.{All-append}
 use Rattle.osq_config.specs.declared.config.Config.{Config}
 use Rattle.pack_rules.specs.declared.host.Host.{Host}
 use Rattle.pack_rules.specs.declared.schedule.Schedule.{Schedule}
@@ -13,9 +14,9 @@ use Rattle.entry_model.specs.Values.{last_of, schedule_in}
 use Rattle.entry_model.specs.Views.{due_queries}
 use Rattle.entry_model.proofs.Lasts.{last_of-append}
 use Rattle.session_model.specs.Configuring.{configured_in}
-use Rattle.session_model.specs.Taking.{TakesSteps}
 use Rattle.session_model.specs.Ticking.{Answers, Ticks, expiries_of}
 use Rattle.session_state.specs.Kept.{Kept}
+use Rattle.session_state.proofs.Dues.{none_due}
 use Rattle.daemon_rounds.specs.Adding.{AddsEntries}
 use Rattle.daemon_rounds.specs.Answering.{committed_all}
 use Rattle.daemon_rounds.specs.Keeping.{Settles}
@@ -25,14 +26,16 @@ use Rattle.daemon_rounds.specs.declared.setup.Setup.{Setup}
 use Rattle.daemon_rounds.specs.declared.turning.Which.TheVariants as which
 use Rattle.daemon_rounds.proofs.Adding.{brings_then}
 use Rattle.replay_rounds.specs.Fixed.{Fixed}
-use Rattle.replay_rounds.specs.Sources.{AreFed, AreFullOrOver}
+use Rattle.replay_rounds.specs.OneTick.{IsOneTick}
+use Rattle.replay_rounds.specs.Sources.{AreFed}
 use Rattle.replay_rounds.specs.Standing.{Standing}
-use Rattle.replay_rounds.specs.Ticked.{TakesTick, TickDone}
+use Rattle.replay_rounds.specs.Ticked.{IsFullTick, TakesTick, TickDone}
 use Rattle.replay_rounds.proofs.Answered.{answered_are, expired_are}
 use Rattle.replay_rounds.proofs.Begins.{BeginsTick, begins_tick, values_behind}
 use Rattle.replay_rounds.proofs.Feeds.{fed_on}
 use Rattle.replay_rounds.proofs.Nothing.{nothing_behind, settled_nothing}
-use Rattle.replay_rounds.proofs.Stepped.{fed_after, rounds_taken}
+use Rattle.replay_rounds.proofs.Stepped.{fed_after, rounds_full, rounds_given}
+use Rattle.replay_rounds.proofs.Ticks.{NoTick, round_tickless, settled_tickless}
 use Rattle.replay_rounds.proofs.Unconfigured.{round_unconfigured, settled_unconfigured, unconfigured-append}
 use Rattle.replay_rounds.proofs.Undue.{none_between}
 
@@ -66,6 +69,11 @@ module _ {S : Type 0} (left : S → List ℕ) (faults : S → ℕ) (x : Fixed) (
   own_is =
       append_assoc (begun ++ taken) answered settles.expired ∙ append_assoc begun taken (answered ++ settles.expired)
 
+  -- no other tick begins among them
+  own_one : IsOneTick own
+  own_one =
+      subst IsOneTick (sym own_is) (refl, All-append NoTick begins.anew (taken ++ (answered ++ settles.expired)) begins.tickless (All-append NoTick taken (answered ++ settles.expired) (round_tickless configured.counts.moment rounds.turns) (settled_tickless filled settled settles)))
+
   -- when the session was configured last
   own_configured : last_of configured_in configured_at own ≡ configured_last (asks_again x.given.config configured_at moment) configured_at moment
   own_configured =
@@ -95,25 +103,29 @@ module _ {S : Type 0} (left : S → List ℕ) (faults : S → ℕ) (x : Fixed) (
       expires =
           settles.are ∙ expired_are ((x.start ++ added) ++ (begun ++ taken ++ answered)) settles.between (values_behind left x added kept feeds objects configured_at old standing (begun ++ taken ++ answered) settles.between answers tells legal)
 
-      module _ (told : x.source_tells) where
-        steps : TakesSteps x.given ((x.start ++ added) ++ begun) x.given.sources taken × AreFed x.source_tells left x.given.config.categories x.start (((x.start ++ added) ++ begun) ++ taken) x.given.sources nexts rests × AreFullOrOver x.given ((x.start ++ added) ++ begun) x.given.sources nexts
-        steps =
-            rounds_taken x.source_tells left faults x.given x.start ((x.start ++ added) ++ begun) configured.counts.moment feeds nexts objects rests rounds.turns told begins.at (begins.fed tells) distinct rounds.whole rounds.each
+      answered_none : due_queries ((x.start ++ added) ++ (begun ++ taken ++ answered)) ≡ []
+      answered_none =
+          let has = values_behind left x added kept feeds objects configured_at old standing (begun ++ taken ++ answered) settles.between answers tells legal in
+          none_due ((x.start ++ added) ++ (begun ++ taken ++ answered)) settles.between has settles.is.runs (none_between filled settled settles)
 
-        by_list : Ticks x.given (x.start ++ added) moment own
-        by_list = record {
-          configured = begins.anew;
-          taken = taken;
-          answered = answered;
-          configures = begins.configures tells legal;
-          takes = steps.0;
-          answers = answers_due;
-          are = ap (λ (es : List Entry). begun ++ taken ++ answered ++ es) expires;
-        }
+      by_list : Ticks x.source_tells x.given (x.start ++ added) moment own
+      by_list = record {
+        configured = begins.anew;
+        taken = taken;
+        answered = answered;
+        configures = begins.configures tells legal;
+        takes = rounds_given x.source_tells left faults x.given x.start ((x.start ++ added) ++ begun) configured.counts.moment feeds nexts objects rests rounds.turns begins.at (begins.fed tells) distinct rounds.whole rounds.each;
+        answers = answers_due;
+        none = answered_none;
+        are = ap (λ (es : List Entry). begun ++ taken ++ answered ++ es) expires;
+      }
 
-        full : AreFullOrOver x.given (x.start ++ (added ++ begun)) x.given.sources nexts
-        full =
-            subst (λ (list : List Entry). AreFullOrOver x.given list x.given.sources nexts) (append_assoc x.start added begun) steps.2
+      full : x.source_tells → IsFullTick x.source_tells x.given (x.start ++ added) moment nexts own
+      unfolding by_list
+      full told = record {
+        tick = by_list;
+        full = rounds_full x.source_tells left faults x.given x.start ((x.start ++ added) ++ begun) configured.counts.moment feeds nexts objects rests rounds.turns told begins.at (begins.fed tells) distinct rounds.whole rounds.each;
+      }
 
   stands : (last : ℕ) → last ≡ configured_last (asks_again x.given.config configured_at moment) configured_at moment → Standing left x (added ++ own) kept nexts rests last settled
   stands last last_is = record {
@@ -132,8 +144,9 @@ module _ {S : Type 0} (left : S → List ℕ) (faults : S → ℕ) (x : Fixed) (
   takes : (last : ℕ) → last ≡ configured_last (asks_again x.given.config configured_at moment) configured_at moment → TakesTick left x added kept nexts rests last moment old settled
   takes last last_is = record {
     own = own;
-    ticks = λ tells told legal. by_list tells legal told;
-    full = λ tells told legal. (begun, taken ++ (answered ++ settles.expired), own_is, full tells legal told);
+    ticks = by_list;
+    full = λ tells told legal. full tells legal told;
+    one = own_one;
     standing = stands last last_is;
     tail = brings.tail;
   }

@@ -1,8 +1,10 @@
 pub mod Fixed
 pub mod Noting
+pub mod OneTick
 pub mod Refusals
 pub mod Running
 pub mod Sources
 pub mod Spent
 pub mod Standing
+pub mod Stopping
 pub mod Ticked

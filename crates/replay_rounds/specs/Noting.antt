@@ -1,5 +1,5 @@
 -- What a session tells on the status stream.
-use Rattle.std.specs.Prelude.{◌≡◌, ℕ, zero, suc, ◌==◌, Bool, true, false, if◌then◌else◌, List, [], ◌++◌, map, flat_map, codes}
+use Rattle.std.specs.Prelude.{◌≡◌, ◌⊎◌, ℕ, zero, suc, ◌==◌, Bool, true, false, if◌then◌else◌, List, [], ◌++◌, map, flat_map, codes}
 use Rattle.std.specs.Fmt.{decimal}
 use Rattle.control_escapes.specs.Escapes.{escaped_controls}
 use Rattle.sql_meaning.specs.Meaning.{View}
@@ -57,6 +57,15 @@ skipped_lines feeds = flat_map skipped_line feeds
 abbrev pub HasTold : Config → Host → List ℕ → List ℕ → List ℕ → Type 0
 HasTold config host left_out before after =
     (between : List ℕ) × (feeds : List Feeding) × HasNoted config host left_out before between × (after ≡ between ++ skipped_lines feeds)
+
+-- lines that tell of skipped lines were written
+abbrev pub HasSkipped : List ℕ → List ℕ → Type 0
+HasSkipped before after = (feeds : List Feeding) × (after ≡ before ++ skipped_lines feeds)
+
+-- It told of none of its configurations yet, or of some; and behind that of lines that were skipped.
+abbrev pub HasToldSome : Config → Host → List ℕ → List ℕ → List ℕ → Type 0
+HasToldSome config host left_out before after =
+    (between : List ℕ) × ((between ≡ before) ⊎ HasNoted config host left_out before between) × HasSkipped between after
 
 -- Why a step between ticks is refused: by the moment that the clock gave, by a fault of the status stream, or for want of memory.
 abbrev pub IsBetween : (late : ℕ → Type 0) (sink : Type 0) → RunError → Type 0

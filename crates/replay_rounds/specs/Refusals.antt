@@ -1,4 +1,6 @@
 -- The same refusal, as a run answers it, and the numbers of a state.
+use Rattle.std.specs.Prelude.{Option, None, Some}
+use Rattle.entry_model.specs.declared.restored.Restored.{Restored}
 use Rattle.session_state.specs.Kept.{Kept}
 use Rattle.daemon_rounds.specs.declared.error.FinishError.{FinishError}
 use Rattle.daemon_rounds.specs.declared.error.FinishError.TheVariants as finish
@@ -17,8 +19,13 @@ use Rattle.replay_rounds.specs.declared.refused.RunError.TheVariants as run
 -- of values that aren't loaded
 abbrev pub unloaded_by : LoadError → RunError
 unloaded_by loading.KeeperFault = run.KeeperFault
-unloaded_by loading.KeeperRefused = run.KeeperRefused
+unloaded_by (loading.KeeperRefused kept) = run.KeeperRefused
 unloaded_by loading.NoMemory = run.NoMemory
+
+abbrev pub unloaded_numbers : LoadError → Option Numbers
+unloaded_numbers loading.KeeperFault = None
+unloaded_numbers (loading.KeeperRefused kept) = Some kept
+unloaded_numbers loading.NoMemory = None
 
 -- of a session that isn't open
 abbrev pub unopened_by : OpenError → RunError
@@ -46,6 +53,22 @@ unfinished_by finish.KeeperFault = run.KeeperFault
 unfinished_by finish.SinkFault = run.SinkFault
 unfinished_by finish.NoMemory = run.NoMemory
 
+-- the numbers of the values of a list
+abbrev pub numbers_in : Restored → Numbers
+numbers_in restored = record { events = restored.last; batches = restored.batches; acknowledged = restored.acked }
+
 -- the numbers of a state
 abbrev pub numbers_of : Kept → Numbers
 numbers_of s = record { events = s.image.last; batches = s.counts.batches; acknowledged = s.counts.acked }
+
+-- the numbers of the kept list behind a tick that was refused: where only its lines could not be written, it is sealed
+abbrev pub tick_numbers : RunError → Numbers → Kept → Numbers
+tick_numbers run.SinkFault sealed state = numbers_of state
+tick_numbers error sealed state = sealed
+
+-- the same of a tick that isn't finished
+abbrev pub unfinished_numbers : FinishError → Kept → Numbers → Numbers
+unfinished_numbers finish.NumbersSpent state sealed = sealed
+unfinished_numbers finish.KeeperFault state sealed = sealed
+unfinished_numbers finish.SinkFault state sealed = numbers_of state
+unfinished_numbers finish.NoMemory state sealed = sealed

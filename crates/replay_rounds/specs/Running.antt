@@ -1,7 +1,8 @@
 -- What a run of a session leaves.
-use Rattle.std.specs.Prelude.{◌≡◌, ℕ, ◌≤◌, true, false, All, Contains, None, List, [], ◌∷◌, ◌++◌, length, take}
+use Rattle.std.specs.Prelude.{◌≡◌, ℕ, ◌≤◌, true, false, All, None, List, [], ◌∷◌, ◌++◌, length, take}
 use Rattle.entry_model.specs.Covered.{Covered}
 use Rattle.entry_model.specs.declared.entry.Entry.{Entry}
+use Rattle.entry_model.specs.declared.entry.Entry.TheVariants.{Ticked}
 use Rattle.entry_model.specs.Legal.{Legal}
 use Rattle.entry_model.specs.Values.{acked_upto, commits, last_number, taken_from}
 use Rattle.entry_model.specs.Views.{due_queries, is_evented_table, owed_floor}
@@ -9,9 +10,11 @@ use Rattle.pack_rules.specs.declared.schedule.Form.TheVariants as form
 use Rattle.session_model.specs.Given.{Given, Source}
 use Rattle.session_model.specs.Sessions.{IsSession}
 use Rattle.session_model.specs.Taking.{IsReadWhole}
+use Rattle.session_model.specs.Ticking.{Ticks}
 use Rattle.daemon_rounds.specs.Telling.{AreLinesOf}
 use Rattle.replay_rounds.specs.Fixed.{Fixed}
-use Rattle.replay_rounds.specs.Sources.{IsFull}
+use Rattle.replay_rounds.specs.OneTick.{HasOneTick}
+use Rattle.replay_rounds.specs.Sources.{HasFullStep, IsUnended}
 use Rattle.replay_rounds.specs.declared.running.Ended.{Ended}
 
 -- the clock was read for each of these readings, one after another
@@ -19,15 +22,16 @@ abbrev pub ReadsAll : {C : Type 0} → (C → ℕ → C → Type 0) → C → Li
 ReadsAll reads before [] after = after ≡ before
 ReadsAll reads before (reading ∷ rest) after = (between : _) × reads before reading between × ReadsAll reads between rest after
 
--- what a run adds at these readings: nothing before the first of them, and else a session
-abbrev pub AddsAt : Given → List Entry → List ℕ → List Entry → Type 0
-AddsAt given kept [] entries = entries ≡ []
-AddsAt given kept (reading ∷ readings) entries = IsSession given kept reading readings entries
+-- what a run adds at these readings: nothing before the first of them, and else a session; `tells` says whether the sources tell their bytes
+abbrev pub AddsAt : Type 0 → Given → List Entry → List ℕ → List Entry → Type 0
+AddsAt tells given kept [] entries = entries ≡ []
+AddsAt tells given kept (reading ∷ readings) entries = IsSession tells given kept reading readings entries
 
--- the list has grown by these entries, which are what a run adds at these readings
+-- The list has grown by these entries, which are what a run adds at these readings, whether or not the sources tell: so it is legal, and has a whole
+-- tick for each of the readings.
 pub record Grows (x : Fixed) (kept : List Entry) (readings : List ℕ) (entries : List Entry) : Type 0 where
   pub grown : x.keeper_tells → kept ≡ x.start ++ entries
-  pub adds : x.keeper_tells → x.source_tells → Legal x.start → AddsAt x.given x.start readings entries
+  pub adds : x.keeper_tells → Legal x.start → AddsAt x.source_tells x.given x.start readings entries
 
 -- However a run ends, the kept list has grown by a session at the readings of the clock, which may have been read once more. `has_read` says
 -- which readings it gave.
@@ -39,26 +43,30 @@ pub record IsKept (x : Fixed) (has_read : List ℕ → Type 0) (kept : List Entr
   pub few : length more ≤ 1
   pub grows : Grows x kept readings entries
 
--- However it ends, the results have grown by a front part of the lines of entries that are kept.
+-- However it ends, the results have grown by all lines of the entries by which the list has grown up to its last tick, and maybe of that tick too, and
+-- behind them by a front part of the lines of that tick.
 pub record IsWritten (x : Fixed) (kept : List Entry) (written : List ℕ) : Type 0 where
-  pub entries : List Entry
-  pub kept_are : x.keeper_tells → (more : List Entry) × (kept ≡ x.start ++ (entries ++ more))
+  pub whole : List Entry
+  pub part : List Entry
+  pub kept_are : x.keeper_tells → (rest : List Entry) × HasOneTick (part ++ rest) × (kept ≡ x.start ++ (whole ++ (part ++ rest)))
   pub lines : List ℕ
-  pub told : AreLinesOf x.given.host.identifier form.Event entries lines
+  pub told : AreLinesOf x.given.host.identifier form.Event whole lines
+  pub more : List ℕ
+  pub told_more : AreLinesOf x.given.host.identifier form.Event (whole ++ part) (lines ++ more)
   pub count : ℕ
-  pub written_is : written ≡ x.written ++ take count lines
+  pub written_is : written ≡ (x.written ++ lines) ++ take count more
 
--- some source gave a full step behind a list that begins this one
+-- The list ends with a tick, its last, in which some source that isn't at its end gave a full step behind the list up to its own place.
 pub record HasMore (x : Fixed) (kept : List Entry) : Type 0 where
-  pub source : Source
-  pub among : Contains x.given.sources source
   pub before : List Entry
-  pub since : List Entry
-  pub are : kept ≡ before ++ since
-  pub full : IsFull x.given before source
+  pub moment : ℕ
+  pub last : List Entry
+  pub are : kept ≡ before ++ last
+  pub tick : Ticks x.source_tells x.given before moment last
+  pub full : HasFullStep (IsUnended x.source_tells x.given.config.categories x.start kept) x.given (before ++ (Ticked moment ∷ tick.configured)) x.given.sources tick.taken
 
 -- All ticks were run: the list has grown by a session of as many, and the results by its lines; nothing is due, and nothing is to expire. Each
--- source had the bytes that earlier sessions took of it, and either every source was read to behind its last line feed, or one of them had more.
+-- source had the bytes that earlier sessions took of it, and either every source was read to behind its last line feed, or one of them had more in the last tick.
 pub record HasRun (x : Fixed) (has_read : List ℕ → Type 0) (ticks : ℕ) (kept : List Entry) (written : List ℕ) (ended : Ended) : Type 0 where
   pub readings : List ℕ
   pub entries : List Entry

@@ -1,5 +1,5 @@
 -- The sources of a session between its steps.
-use Rattle.std.specs.Prelude.{◌≡◌, ◌⊎◌, ℕ, ◌≤◌, Bool, true, false, List, [], ◌∷◌, length, drop}
+use Rattle.std.specs.Prelude.{◌≡◌, ◌⊎◌, ℕ, ◌≤◌, Bool, true, false, List, [], ◌∷◌, ◌++◌, length, drop}
 use Rattle.std.specs.List.{list_all}
 use Rattle.osq_value.specs.declared.reading.Category.{Category}
 use Rattle.publisher_core.specs.declared.record.ReadRecord.{ReadRecord}
@@ -32,19 +32,43 @@ AreFed tells left paths start now (source ∷ sources) (feed ∷ feeds) (object 
     IsFed tells left paths start now source feed object × AreFed tells left paths start now sources feeds objects
 AreFed tells left paths start now _ _ _ = ⊥
 
+-- A feed that reads the source so, and has the list up to where it has the source, isn't at the source's end.
+pub record IsUnended (tells : Type 0) (paths : List Category) (start now : List Entry) (source : Source) : Type 0 where
+  pub feed : Feeding
+  pub rest : List ℕ
+  pub fed : IsFed tells (λ (bytes : List ℕ). bytes) paths start now source feed rest
+  pub unended : is_at_end feed.reader ≡ false
+
 -- each feed is at its source's end
 abbrev pub all_over : List Feeding → Bool
 all_over feeds = list_all (λ (feed : Feeding). is_at_end feed.reader) feeds
 
--- a step of the source behind this list gave as many records as a step may, or at least 16777216 bytes stood behind the offset at which it began
+-- the step gave as many records as a step may, or at least 16777216 bytes stood behind the offset at which it began
+abbrev pub IsFullStep : (given : Given) (kept : List Entry) (source : Source) (own : List Entry) → TakesStep given kept source own → Type 0
+IsFullStep given kept source own step =
+    (STEP_BYTES ≤ length (drop (taken_from kept source.name) source.bytes)) ⊎ (length step.pieces ≡ given.records)
+
+-- a step of the source behind this list is full
 abbrev pub IsFull : Given → List Entry → Source → Type 0
-IsFull given kept source =
-    (STEP_BYTES ≤ length (drop (taken_from kept source.name) source.bytes)) ⊎ ((own : List Entry) × ((step : TakesStep given kept source own) × (length step.pieces ≡ given.records)))
+IsFull given kept source = (own : List Entry) × ((step : TakesStep given kept source own) × IsFullStep given kept source own step)
 
 -- each source that isn't at its end gave a full step behind this list
 abbrev pub AreFullOrOver : Given → List Entry → List Source → List Feeding → Type 0
 AreFullOrOver given kept (source ∷ sources) (feed ∷ feeds) = (is_at_end feed.reader ≡ false → IsFull given kept source) × AreFullOrOver given kept sources feeds
 AreFullOrOver given kept _ _ = Unit {0}
+
+-- each of these sources takes a step, one after another, and that of one that isn't at its end is full
+abbrev pub AreFullSteps : Given → List Entry → List Source → List Feeding → List Entry → Type 0
+AreFullSteps given kept [] [] entries = entries ≡ []
+AreFullSteps given kept (source ∷ sources) (feed ∷ feeds) entries =
+    (own others : List Entry) × ((step : TakesStep given kept source own) × (is_at_end feed.reader ≡ false → IsFullStep given kept source own step) × AreFullSteps given (kept ++ own) sources feeds others × (entries ≡ own ++ others))
+AreFullSteps given kept _ _ entries = ⊥
+
+-- these sources take a step each, one after another, up to one that is such a one, whose step is full
+abbrev pub HasFullStep : (Source → Type 0) → Given → List Entry → List Source → List Entry → Type 0
+HasFullStep Is given kept [] entries = ⊥
+HasFullStep Is given kept (source ∷ sources) entries =
+    (own others : List Entry) × ((step : TakesStep given kept source own) × (entries ≡ own ++ others) × ((Is source × IsFullStep given kept source own step) ⊎ HasFullStep Is given (kept ++ own) sources others))
 
 -- the sources of these names, with the bytes that their objects have to give
 abbrev pub sources_of : {S : Type 0} → (S → List ℕ) → List SourceName → List S → List Source

@@ -55,10 +55,10 @@ pub record TickSpends (given : Given) (kept : List Entry) (moment : ℕ) (entrie
   pub are : entries ≡ (Ticked moment ∷ configured) ++ rest
 
 -- that tick comes at this reading of the clock, behind ticks at those readings; before its first tick a session opens
-abbrev pub SpendsAt : Given → List Entry → List ℕ → ℕ → List Entry → Type 0
-SpendsAt given kept [] reading entries =
-    (opening own : List Entry) × Opens given kept reading opening × TickSpends given (kept ++ opening) (max reading (moment_of (kept ++ opening))) own × (entries ≡ opening ++ own)
-SpendsAt given kept (before ∷ readings) reading entries =
+abbrev pub SpendsAt : Type 0 → Given → List Entry → List ℕ → ℕ → List Entry → Type 0
+SpendsAt tells given kept [] reading entries =
+    (opening own : List Entry) × Opens tells given kept reading opening × TickSpends given (kept ++ opening) (max reading (moment_of (kept ++ opening))) own × (entries ≡ opening ++ own)
+SpendsAt tells given kept (before ∷ readings) reading entries =
     TickSpends given kept (max reading (moment_of kept)) entries
 
 -- The list has grown by the ticks at these readings of the clock, and at the next reading a number was spent: behind the list there would be
@@ -71,4 +71,4 @@ pub record RanOutOfNumbers (x : Fixed) (has_read : List ℕ → Type 0) (kept : 
   pub grows : Grows x kept readings added
   pub entries : List Entry
   pub legal : x.keeper_tells → Legal x.start → Legal (kept ++ entries)
-  pub spends : x.keeper_tells → x.source_tells → Legal x.start → SpendsAt x.given kept readings reading entries
+  pub spends : x.keeper_tells → x.source_tells → Legal x.start → SpendsAt x.source_tells x.given kept readings reading entries

@@ -1,9 +1,11 @@
 -- A whole tick, by the state and by the list.
-use Rattle.std.specs.Prelude.{◌≡◌, ◌⊎◌, ℕ, List, [], ◌++◌, take}
+use Rattle.std.specs.Prelude.{◌≡◌, ◌⊎◌, ℕ, List, [], ◌∷◌, ◌++◌, take}
 use Rattle.osq_config.specs.declared.config.Config.{Config}
 use Rattle.source_feeds.specs.Feeding.{Feeding}
 use Rattle.entry_model.specs.declared.entry.Entry.{Entry}
+use Rattle.entry_model.specs.declared.entry.Entry.TheVariants.{Ticked}
 use Rattle.entry_model.specs.Legal.{Legal}
+use Rattle.session_model.specs.Given.{Given}
 use Rattle.session_model.specs.Ticking.{Ticks}
 use Rattle.session_state.specs.Kept.{Kept}
 use Rattle.daemon_rounds.specs.Answering.{SpendsBatches}
@@ -12,7 +14,8 @@ use Rattle.daemon_rounds.specs.Telling.{AreLinesOf}
 use Rattle.daemon_rounds.specs.Ticking.{Fills, FillsTooMuch, asks_again, configured_last}
 use Rattle.daemon_rounds.specs.declared.setup.Setup.{Setup}
 use Rattle.replay_rounds.specs.Fixed.{Fixed}
-use Rattle.replay_rounds.specs.Sources.{AreFullOrOver}
+use Rattle.replay_rounds.specs.OneTick.{IsOneTick}
+use Rattle.replay_rounds.specs.Sources.{AreFullSteps}
 use Rattle.replay_rounds.specs.Standing.{Standing}
 
 -- a tick at this moment, up to its seal: it is filled, each due query is answered, and what is owed expires
@@ -52,11 +55,17 @@ SpendsTick tells left faults setup config documents configured_at moment feeds n
     ((filled : Kept) × Fills tells left faults setup config documents configured_at moment feeds nexts objects rests old filled × SpendsBatches filled)
     ⊎ FillsTooMuch tells left faults setup config documents configured_at moment feeds nexts objects rests old new
 
--- By the list: behind what the session has added there are now the entries of a tick at this moment, and where a source isn't at its end its
--- step behind some of them was full. The state has them in its tail.
+-- a tick at this moment, in which each source that isn't at its end gave a full step behind the list up to its own place
+pub record IsFullTick (tells : Type 0) (given : Given) (kept : List Entry) (moment : ℕ) (feeds : List Feeding) (entries : List Entry) : Type 0 where
+  pub tick : Ticks tells given kept moment entries
+  pub full : AreFullSteps given (kept ++ (Ticked moment ∷ tick.configured)) given.sources feeds tick.taken
+
+-- By the list: behind what the session has added there are now the entries of a tick at this moment, and where the sources tell, those that aren't
+-- at their end gave full steps in it. The state has them in its tail.
 pub record TakesTick {S : Type 0} (left : S → List ℕ) (x : Fixed) (added kept : List Entry) (nexts : List Feeding) (rests : List S) (last moment : ℕ) (old settled : Kept) : Type 0 where
   pub own : List Entry
-  pub ticks : x.keeper_tells → x.source_tells → Legal x.start → Ticks x.given (x.start ++ added) moment own
-  pub full : x.keeper_tells → x.source_tells → Legal x.start → (before : List Entry) × (since : List Entry) × (own ≡ before ++ since) × AreFullOrOver x.given (x.start ++ (added ++ before)) x.given.sources nexts
+  pub ticks : x.keeper_tells → Legal x.start → Ticks x.source_tells x.given (x.start ++ added) moment own
+  pub full : x.keeper_tells → x.source_tells → Legal x.start → IsFullTick x.source_tells x.given (x.start ++ added) moment nexts own
+  pub one : IsOneTick own
   pub standing : Standing left x (added ++ own) kept nexts rests last settled
   pub tail : settled.tail ≡ old.tail ++ own

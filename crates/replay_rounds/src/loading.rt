@@ -5,8 +5,11 @@ ghost use Rattle.osq_outside.specs.Causes.{Rose};
 ghost use Rattle.entry_model.specs.Fits.{Fits};
 ghost use Rattle.entry_model.specs.Legal.{Legal};
 ghost use Rattle.entry_model.specs.Summary.{summary};
+ghost use Rattle.replay_rounds.specs.Stopping.{HasNumbers};
 ghost use Rattle.replay_rounds.specs.declared.loading.LoadError.{LoadError};
+ghost use Rattle.replay_rounds.specs.declared.refused.Numbers.{Numbers};
 
+use crate::refused::{Numbers, numbers_in};
 use batch_keeper::{Keeper, KeeperError};
 use entry_model::laws;
 use entry_model::restored::Restored;
@@ -18,20 +21,21 @@ use std::alloc::Global;
 pub enum LoadError {
     /// The keeper failed.
     KeeperFault,
-    /// The keeper gave values that no session may go on from.
-    KeeperRefused,
+    /// The keeper gave values that no session may go on from. They have these numbers.
+    KeeperRefused { kept: Numbers },
     /// Memory was wanting.
     NoMemory,
 }
 
 /// The values of the keeper's list, where a session may go on from them. Those of a legal list are never refused.
-/// KeeperFault where the keeper failed; KeeperRefused where no session may go on from its values.
+/// KeeperFault where the keeper failed; KeeperRefused, with the numbers of its values, where no session may go on from them.
 pub fn load_values<K: Keeper>(alloc: Global, keeper: &mut K) -> Result<Restored, LoadError>
     ensures fits { IfOk result Fits }
     ensures value { K.tells → IfOk result (λ restored. restored ≡ summary (K.kept keeper.old)) }
     ensures same { K.tells → K.kept keeper.new ≡ K.kept keeper.old }
-    ensures refused { K.tells → result ≡ Err LoadError.KeeperRefused → ¬ Fits (summary (K.kept keeper.old)) }
-    ensures illegal { K.tells → result ≡ Err LoadError.KeeperRefused → ¬ Legal (K.kept keeper.old) }
+    ensures refused { K.tells → (kept : Numbers) → result ≡ Err (LoadError.KeeperRefused kept) → ¬ Fits (summary (K.kept keeper.old)) }
+    ensures illegal { K.tells → (kept : Numbers) → result ≡ Err (LoadError.KeeperRefused kept) → ¬ Legal (K.kept keeper.old) }
+    ensures numbers { K.tells → (kept : Numbers) → result ≡ Err (LoadError.KeeperRefused kept) → HasNumbers (K.kept keeper.old) kept }
     ensures cause { result ≡ Err LoadError.KeeperFault → Rose (K.faults keeper.old) (K.faults keeper.new) }
     ensures later { K.faults keeper.old ≤ K.faults keeper.new }
 {
@@ -44,6 +48,8 @@ pub fn load_values<K: Keeper>(alloc: Global, keeper: &mut K) -> Result<Restored,
     if fits(&restored) {
         Ok(restored)
     } else {
-        Err(LoadError::KeeperRefused)
+        Err(LoadError::KeeperRefused {
+            kept: numbers_in(&restored),
+        })
     }
 }

@@ -1,9 +1,9 @@
 //! What a session tells on the status stream.
 
-ghost use Rattle.std.specs.Prelude.{◌≡◌, ◌≤◌, ◌++◌, IfOk, OnOk};
+ghost use Rattle.std.specs.Prelude.{◌≡◌, ◌≢◌, ◌⊎◌, ◌≤◌, ◌++◌, Err, IfOk, OnOk};
 ghost use Rattle.osq_value.specs.declared.moment.TheConstants.{LAST_MOMENT};
-ghost use Rattle.osq_outside.specs.Causes.{FaultHasCause};
-ghost use Rattle.replay_rounds.specs.Noting.{AreNotesOf, IsGrown, IsNoted, skipped_end, skipped_line, skipped_lines, skipped_of};
+ghost use Rattle.osq_outside.specs.Causes.{FaultHasCause, Rose};
+ghost use Rattle.replay_rounds.specs.Noting.{AreNotesOf, HasSkipped, IsGrown, IsNoted, skipped_end, skipped_line, skipped_lines, skipped_of};
 ghost use Rattle.replay_rounds.specs.declared.noting.NoteError.{NoteError};
 
 use crate::refused::Refused;
@@ -30,6 +30,7 @@ pub(crate) enum NoteError {
 fn write_lines<O: Sink>(status: &mut O, lines: &Bytes) -> Result<(), NoteError>
     ensures text { O.tells → OnOk result (O.written status.new ≡ O.written status.old ++ lines.now) }
     ensures grown { O.tells → IsGrown (O.written status.old) (O.written status.new) }
+    ensures made { result ≢ Err NoteError.NoMemory }
     ensures cause { FaultHasCause NoteError.SinkFault (O.faults status.old) (O.faults status.new) result }
 {
     match write_all(status, lines.as_slice()) {
@@ -55,7 +56,14 @@ fn notes_at(
     let view = state.tables_view(alloc, moment)?;
     let found = found_packs(alloc, config, &view)?;
     let left_out = configured.notes.as_slice();
-    schedule_notes(alloc, config, &setup.host, found.as_slice(), left_out)
+    schedule_notes(
+        alloc,
+        config,
+        &setup.host,
+        found.as_slice(),
+        state.queries(),
+        left_out,
+    )
 }
 
 /// Writes the lines that tell of a configuration at this moment.
@@ -70,6 +78,7 @@ pub(crate) fn write_notes<O: Sink>(
     requires { moment ≤ LAST_MOMENT }
     ensures noted { O.tells → OnOk result (IsNoted configured.now.config setup.now.host configured.now.notes (O.written status.old) (O.written status.new)) }
     ensures grown { O.tells → IsGrown (O.written status.old) (O.written status.new) }
+    ensures unmade { result ≡ Err NoteError.NoMemory → status.new ≡ status.old }
     ensures cause { FaultHasCause NoteError.SinkFault (O.faults status.old) (O.faults status.new) result }
 {
     let Ok(lines) = notes_at(alloc, setup, configured, state, moment) else {
@@ -128,6 +137,7 @@ pub(crate) fn write_skipped<O: Sink>(
 ) -> Result<(), NoteError>
     ensures skipped { O.tells → OnOk result (O.written status.new ≡ O.written status.old ++ skipped_lines feeds.now) }
     ensures grown { O.tells → IsGrown (O.written status.old) (O.written status.new) }
+    ensures unmade { result ≡ Err NoteError.NoMemory → status.new ≡ status.old }
     ensures cause { FaultHasCause NoteError.SinkFault (O.faults status.old) (O.faults status.new) result }
 {
     let Ok(lines) = skipped_lines(alloc, feeds) else {
@@ -144,6 +154,7 @@ pub(crate) fn told<O: Sink>(
     refused: Refused,
 ) -> Refused
     ensures same { result ≡ refused }
+    ensures skipped { O.tells → HasSkipped (O.written status.old) (O.written status.new) ⊎ Rose (O.faults status.old) (O.faults status.new) }
     ensures grown { O.tells → IsGrown (O.written status.old) (O.written status.new) }
     ensures later { O.faults status.old ≤ O.faults status.new }
 {

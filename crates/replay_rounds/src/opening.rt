@@ -1,6 +1,6 @@
 //! A session opens, and what is to be told of its configuration is written.
 
-ghost use Rattle.std.specs.Prelude.{◌≡◌, ◌≢◌, ◌<◌, ◌≤◌, ℕ, length, bytes_eq, Err, IfOk, IfErr};
+ghost use Rattle.std.specs.Prelude.{◌≡◌, ◌≢◌, ◌⊎◌, ◌<◌, ◌≤◌, ℕ, length, bytes_eq, Some, Err, IfOk, IfErr};
 ghost use Rattle.osq_value.specs.declared.moment.TheConstants.{LAST_MOMENT};
 ghost use Rattle.osq_config.specs.Bounds.{IsBounded};
 ghost use Rattle.osq_outside.specs.Causes.{Rose};
@@ -8,12 +8,13 @@ ghost use Rattle.entry_model.specs.Fits.{Fits, IsDistinct};
 ghost use Rattle.daemon_rounds.specs.Rounding.{AreGoing, FailsAt};
 ghost use Rattle.daemon_rounds.specs.Session.{IsOpen, IsOverfull};
 ghost use Rattle.daemon_rounds.specs.Starting.{HasShrunk, source_names};
-ghost use Rattle.replay_rounds.specs.Noting.{IsGrown, IsNoted};
+ghost use Rattle.replay_rounds.specs.Noting.{HasSkipped, IsGrown, IsNoted};
+ghost use Rattle.replay_rounds.specs.Refusals.{numbers_in};
 ghost use Rattle.replay_rounds.specs.declared.refused.Refused.{Refused};
 ghost use Rattle.replay_rounds.specs.declared.refused.RunError.{RunError};
 
 use crate::noting::{told, write_notes};
-use crate::refused::{Numbers, Refused, unnoted, unopened};
+use crate::refused::{Refused, numbers_in, unnoted, unopened};
 use config_files::Configured;
 use daemon_rounds::setup::Setup;
 use daemon_rounds::{Session, open_session};
@@ -21,18 +22,10 @@ use entry_model::restored::Restored;
 use osq_outside::{Clock, Sink, Source};
 use std::alloc::Global;
 
-/// The numbers of these values.
-fn numbers_in(restored: &Restored) -> Numbers {
-    Numbers {
-        events: restored.last,
-        batches: restored.batches,
-        acknowledged: restored.acked,
-    }
-}
-
 /// What a session that was opened is refused with, where what is to be told of its configuration isn't written. The session ends.
 fn unwritten<O: Sink>(alloc: Global, session: Session, status: &mut O, refused: Refused) -> Refused
     ensures same { result ≡ refused }
+    ensures skipped { O.tells → HasSkipped (O.written status.old) (O.written status.new) ⊎ Rose (O.faults status.old) (O.faults status.new) }
     ensures grown { O.tells → IsGrown (O.written status.old) (O.written status.new) }
     ensures later { O.faults status.old ≤ O.faults status.new }
 {
@@ -63,6 +56,8 @@ pub(crate) fn open_noted<S: Source, C: Clock, O: Sink>(
     ensures spent { (refused : Refused) → result ≡ Err refused → refused.error ≡ RunError.NumbersSpent → IsOverfull S.tells S.left S.faults setup.now configured.now.config restored sources.old sources.new }
     ensures sink_cause { (refused : Refused) → result ≡ Err refused → refused.error ≡ RunError.SinkFault → Rose (O.faults status.old) (O.faults status.new) }
     ensures noted { O.tells → IfOk result (λ session. IsNoted configured.now.config setup.now.host configured.now.notes (O.written status.old) (O.written status.new)) }
+    ensures untold { O.tells → IfErr result (λ refused. HasSkipped (O.written status.old) (O.written status.new) ⊎ Rose (O.faults status.old) (O.faults status.new)) }
+    ensures numbers { IfErr result (λ refused. refused.numbers ≡ Some (numbers_in restored)) }
     ensures grown { O.tells → IsGrown (O.written status.old) (O.written status.new) }
     ensures later { O.faults status.old ≤ O.faults status.new }
 {

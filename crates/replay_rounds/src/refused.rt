@@ -1,11 +1,12 @@
 //! Why a session ends before its last tick is done.
 
-ghost use Rattle.std.specs.Prelude.{◌≡◌};
-ghost use Rattle.replay_rounds.specs.Refusals.{numbers_of, unloaded_by, unopened_by, unnoted_by, unfilled_by, unfinished_by};
+ghost use Rattle.std.specs.Prelude.{◌≡◌, Some};
+ghost use Rattle.replay_rounds.specs.Refusals.{numbers_in, numbers_of, unloaded_by, unloaded_numbers, unopened_by, unnoted_by, unfilled_by, unfinished_by, unfinished_numbers};
 
 use crate::loading::LoadError;
 use crate::noting::NoteError;
 use daemon_rounds::{FinishError, OpenError, TakeError};
+use entry_model::restored::Restored;
 use session_state::State;
 
 /// Why a session ends before its last tick is done.
@@ -45,8 +46,19 @@ pub struct Numbers {
 pub struct Refused {
     /// Why it ended.
     pub error: RunError,
-    /// Those of the kept list as it was loaded or last sealed, where it was loaded.
+    /// Those of the kept list as it was loaded or last sealed well, where it was loaded.
     pub numbers: Option<Numbers>,
+}
+
+/// The numbers of these values.
+pub(crate) fn numbers_in(restored: &Restored) -> Numbers
+    ensures { result ≡ numbers_in restored.now }
+{
+    Numbers {
+        events: restored.last,
+        batches: restored.batches,
+        acknowledged: restored.acked,
+    }
 }
 
 /// The numbers that the state has.
@@ -62,22 +74,21 @@ pub(crate) fn numbers_of(state: &State) -> Numbers
 
 /// The answer to values that aren't loaded.
 pub(crate) fn unloaded(error: LoadError) -> Refused
-    ensures { result.error ≡ unloaded_by error }
+    ensures error { result.error ≡ unloaded_by error }
+    ensures numbers { result.numbers ≡ unloaded_numbers error }
 {
-    let error = match error {
-        LoadError::KeeperFault => RunError::KeeperFault,
-        LoadError::KeeperRefused => RunError::KeeperRefused,
-        LoadError::NoMemory => RunError::NoMemory,
+    let (error, numbers) = match error {
+        LoadError::KeeperFault => (RunError::KeeperFault, None),
+        LoadError::KeeperRefused { kept } => (RunError::KeeperRefused, Some(kept)),
+        LoadError::NoMemory => (RunError::NoMemory, None),
     };
-    Refused {
-        error,
-        numbers: None,
-    }
+    Refused { error, numbers }
 }
 
 /// The answer to a session that isn't open, over a kept list of these numbers.
 pub(crate) fn unopened(error: OpenError, kept: Numbers) -> Refused
-    ensures { result.error ≡ unopened_by error }
+    ensures error { result.error ≡ unopened_by error }
+    ensures numbers { result.numbers ≡ Some kept }
 {
     let error = match error {
         OpenError::MomentTooLarge { moment } => RunError::MomentTooLarge { moment },
@@ -96,7 +107,8 @@ pub(crate) fn unopened(error: OpenError, kept: Numbers) -> Refused
 
 /// The answer to lines of the status stream that aren't written, over a kept list of these numbers.
 pub(crate) fn unnoted(error: NoteError, sealed: Numbers) -> Refused
-    ensures { result.error ≡ unnoted_by error }
+    ensures error { result.error ≡ unnoted_by error }
+    ensures numbers { result.numbers ≡ Some sealed }
 {
     let error = match error {
         NoteError::SinkFault => RunError::SinkFault,
@@ -110,7 +122,8 @@ pub(crate) fn unnoted(error: NoteError, sealed: Numbers) -> Refused
 
 /// The answer to a tick that isn't filled, over a kept list of these numbers.
 pub(crate) fn unfilled(error: TakeError, sealed: Numbers) -> Refused
-    ensures { result.error ≡ unfilled_by error }
+    ensures error { result.error ≡ unfilled_by error }
+    ensures numbers { result.numbers ≡ Some sealed }
 {
     let error = match error {
         TakeError::SourceFault { place } => RunError::SourceFault { place },
@@ -126,7 +139,8 @@ pub(crate) fn unfilled(error: TakeError, sealed: Numbers) -> Refused
 /// The answer to a tick that isn't finished, over a kept list of these numbers: where only its lines could not be written, the list has the
 /// numbers of the state.
 pub(crate) fn unfinished(error: FinishError, state: &State, sealed: Numbers) -> Refused
-    ensures { result.error ≡ unfinished_by error }
+    ensures error { result.error ≡ unfinished_by error }
+    ensures numbers { result.numbers ≡ Some (unfinished_numbers error state.now sealed) }
 {
     let (error, numbers) = match error {
         FinishError::NumbersSpent => (RunError::NumbersSpent, sealed),

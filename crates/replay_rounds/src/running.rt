@@ -1,6 +1,6 @@
 //! A whole session.
 
-ghost use Rattle.std.specs.Prelude.{◌≡◌, ◌<◌, ◌≤◌, ◌⊎◌, ℕ, length, bytes_eq, [], ◌∷◌, ◌++◌, List, Err, IfOk, IfErr};
+ghost use Rattle.std.specs.Prelude.{◌≡◌, ◌<◌, ◌≤◌, ◌⊎◌, ℕ, length, bytes_eq, [], ◌∷◌, ◌++◌, List, Some, Err, IfOk, IfErr};
 ghost use Rattle.osq_value.specs.declared.moment.TheConstants.{LAST_MOMENT};
 ghost use Rattle.config_files.specs.Configurations.{IsConfigOf};
 ghost use Rattle.osq_config.specs.Bounds.{IsBounded};
@@ -13,19 +13,20 @@ ghost use Rattle.daemon_rounds.specs.Moments.{IsRead};
 ghost use Rattle.daemon_rounds.specs.Rounding.{FailsAt};
 ghost use Rattle.daemon_rounds.specs.Starting.{HasShrunk, source_names};
 ghost use Rattle.replay_rounds.specs.Fixed.{fixed_of};
-ghost use Rattle.replay_rounds.specs.Noting.{HasTold, IsBetween, IsGrown, IsNotedAgain, skipped_lines};
+ghost use Rattle.replay_rounds.specs.Noting.{HasTold, HasToldSome, IsBetween, IsGrown, IsNotedAgain, skipped_lines};
 ghost use Rattle.daemon_rounds.specs.Ticking.{asks_again};
 ghost use Rattle.replay_rounds.specs.Refusals.{numbers_of};
 ghost use Rattle.replay_rounds.specs.Running.{HasRun, IsKept, IsWritten, ReadsAll};
 ghost use Rattle.replay_rounds.specs.Sources.{all_over};
 ghost use Rattle.replay_rounds.specs.Spent.{RanOutOfNumbers};
+ghost use Rattle.replay_rounds.specs.Stopping.{Stops};
 ghost use Rattle.replay_rounds.specs.declared.refused.Refused.{Refused};
 ghost use Rattle.replay_rounds.specs.declared.refused.RunError.{RunError};
 
 use crate::loading::load_values;
 use crate::noting::{told, write_notes, write_skipped};
 use crate::opening::open_noted;
-use crate::refused::{Numbers, Refused, RunError, numbers_of, unloaded, unnoted};
+use crate::refused::{Numbers, Refused, RunError, numbers_in, numbers_of, unloaded, unnoted};
 use crate::ticking::take_tick;
 use batch_keeper::Keeper;
 use config_files::Configured;
@@ -62,6 +63,8 @@ fn next_moment<C: Clock, O: Sink>(
     ensures once { (reading : ℕ) × C.reads clock.old reading clock.new }
     ensures noted { O.tells → IfOk result (λ moment. IsNotedAgain (asks_again configured.now.config configured_at moment) configured.now.config setup.now.host configured.now.notes (O.written status.old) (O.written status.new)) }
     ensures cause { IfErr result (λ refused. IsBetween (λ moment. C.reads clock.old moment clock.new × (LAST_MOMENT < moment)) (Rose (O.faults status.old) (O.faults status.new)) refused.error) }
+    ensures numbers { IfErr result (λ refused. refused.numbers ≡ Some (numbers_of state.now)) }
+    ensures untold { O.tells → IfErr result (λ refused. (O.written status.new ≡ O.written status.old) ⊎ Rose (O.faults status.old) (O.faults status.new)) }
     ensures grown { O.tells → IsGrown (O.written status.old) (O.written status.new) }
     ensures later { O.faults status.old ≤ O.faults status.new }
 {
@@ -103,6 +106,8 @@ fn end_session<O: Sink>(
     ensures numbers { IfOk result (λ ended. ended.numbers ≡ numbers_of state.now) }
     ensures skipped { O.tells → IfOk result (λ ended. O.written status.new ≡ O.written status.old ++ skipped_lines feeds.now) }
     ensures cause { IfErr result (λ refused. IsBetween (λ moment. ⊥) (Rose (O.faults status.old) (O.faults status.new)) refused.error) }
+    ensures stopped { IfErr result (λ refused. refused.numbers ≡ Some (numbers_of state.now)) }
+    ensures untold { O.tells → IfErr result (λ refused. (O.written status.new ≡ O.written status.old) ⊎ Rose (O.faults status.old) (O.faults status.new)) }
     ensures grown { O.tells → IsGrown (O.written status.old) (O.written status.new) }
     ensures later { O.faults status.old ≤ O.faults status.new }
 {
@@ -135,6 +140,8 @@ pub fn run_session<S: Source, K: Keeper, O: Sink, C: Clock>(
     requires distinct { IsDistinct bytes_eq (source_names setup.now.sources) }
     requires ticks { 1 ≤ setup.now.ticks }
     ensures done { IfOk result (λ ended. HasRun (fixed_of K.tells O.tells S.tells S.left setup.now configured.now.config configured.now.documents sources.old (K.kept keeper.old) (O.written results.old)) (λ readings. ReadsAll C.reads clock.old readings clock.new) setup.now.ticks (K.kept keeper.new) (O.written results.new) ended) }
+    ensures fit { K.tells → IfOk result (λ ended. Fits (summary (K.kept keeper.old))) }
+    ensures stops { IfErr result (λ refused. Stops (fixed_of K.tells O.tells S.tells S.left setup.now configured.now.config configured.now.documents sources.old (K.kept keeper.old) (O.written results.old)) (λ readings. ReadsAll C.reads clock.old readings clock.new) (K.kept keeper.new) (status.new ≡ status.old) refused.error refused.numbers) }
     ensures kept { K.tells → IsKept (fixed_of K.tells O.tells S.tells S.left setup.now configured.now.config configured.now.documents sources.old (K.kept keeper.old) (O.written results.old)) (λ readings. ReadsAll C.reads clock.old readings clock.new) (K.kept keeper.new) }
     ensures written { O.tells → IsWritten (fixed_of K.tells O.tells S.tells S.left setup.now configured.now.config configured.now.documents sources.old (K.kept keeper.old) (O.written results.old)) (K.kept keeper.new) (O.written results.new) }
     ensures keeper_cause { (refused : Refused) → result ≡ Err refused → refused.error ≡ RunError.KeeperFault → Rose (K.faults keeper.old) (K.faults keeper.new) }
@@ -146,6 +153,7 @@ pub fn run_session<S: Source, K: Keeper, O: Sink, C: Clock>(
     ensures spent { (refused : Refused) → result ≡ Err refused → refused.error ≡ RunError.NumbersSpent → RanOutOfNumbers (fixed_of K.tells O.tells S.tells S.left setup.now configured.now.config configured.now.documents sources.old (K.kept keeper.old) (O.written results.old)) (λ readings. ReadsAll C.reads clock.old readings clock.new) (K.kept keeper.new) }
     ensures sink_cause { (refused : Refused) → result ≡ Err refused → refused.error ≡ RunError.SinkFault → Rose (O.faults results.old) (O.faults results.new) ⊎ Rose (O.faults status.old) (O.faults status.new) }
     ensures told { O.tells → IfOk result (λ ended. HasTold configured.now.config setup.now.host configured.now.notes (O.written status.old) (O.written status.new)) }
+    ensures stops_telling { O.tells → IfErr result (λ refused. HasToldSome configured.now.config setup.now.host configured.now.notes (O.written status.old) (O.written status.new) ⊎ Rose (O.faults status.old) (O.faults status.new)) }
     ensures notes { O.tells → IsGrown (O.written status.old) (O.written status.new) }
     ensures later { (K.faults keeper.old ≤ K.faults keeper.new) × (O.faults results.old ≤ O.faults results.new) × (O.faults status.old ≤ O.faults status.new) }
 {
@@ -154,6 +162,7 @@ pub fn run_session<S: Source, K: Keeper, O: Sink, C: Clock>(
         Ok(restored) => restored,
         Err(error) => return Err(unloaded(error)),
     };
+    let sealed = numbers_in(&restored);
     let Session {
         mut state,
         mut feeds,
@@ -172,6 +181,7 @@ pub fn run_session<S: Source, K: Keeper, O: Sink, C: Clock>(
         sources,
         keeper,
         results,
+        sealed,
         configured_at,
         configured_at,
     ) {
@@ -183,8 +193,10 @@ pub fn run_session<S: Source, K: Keeper, O: Sink, C: Clock>(
             Ok(moment) => moment,
             Err(refused) => return Err(told(alloc, feeds, status, refused)),
         };
+        let sealed = numbers_of(&state);
         last = match take_tick(
-            alloc, setup, configured, &mut state, feeds, sources, keeper, results, last, moment,
+            alloc, setup, configured, &mut state, feeds, sources, keeper, results, sealed, last,
+            moment,
         ) {
             Ok(last) => last,
             Err(refused) => return Err(told(alloc, feeds, status, refused)),

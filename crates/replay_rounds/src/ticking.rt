@@ -1,17 +1,18 @@
 //! A whole tick.
 
-ghost use Rattle.std.specs.Prelude.{◌≡◌, ◌≢◌, ◌≤◌, ℕ, length, Err, IfOk, IfErr, OnErr};
+ghost use Rattle.std.specs.Prelude.{◌≡◌, ◌≢◌, ◌≤◌, ℕ, length, Some, Err, IfOk, IfErr, OnErr};
 ghost use Rattle.osq_value.specs.declared.moment.TheConstants.{LAST_MOMENT};
 ghost use Rattle.osq_config.specs.Bounds.{IsBounded};
 ghost use Rattle.osq_outside.specs.Causes.{Rose};
 ghost use Rattle.daemon_rounds.specs.Keeping.{GoesOn};
 ghost use Rattle.daemon_rounds.specs.Rounding.{FailsAt};
+ghost use Rattle.replay_rounds.specs.Refusals.{tick_numbers};
 ghost use Rattle.replay_rounds.specs.Standing.{IsReady};
 ghost use Rattle.replay_rounds.specs.Ticked.{IsPartlyTold, IsTick, IsWholeTick, SpendsTick};
 ghost use Rattle.replay_rounds.specs.declared.refused.Refused.{Refused};
 ghost use Rattle.replay_rounds.specs.declared.refused.RunError.{RunError};
 
-use crate::refused::{Refused, numbers_of, unfilled, unfinished};
+use crate::refused::{Numbers, Refused, unfilled, unfinished};
 use batch_keeper::Keeper;
 use config_files::Configured;
 use daemon_rounds::setup::Setup;
@@ -22,7 +23,8 @@ use source_feeds::Feed;
 use std::alloc::Global;
 
 /// A whole tick at this moment: it begins, the session is configured again where discovery is asked again, each source takes one step, each due
-/// query is answered, what is owed expires, and what the state gained is sealed and then told. It answers when the session was configured last.
+/// query is answered, what is owed expires, and what the state gained is sealed and then told. `sealed` are the numbers of the keeper's list. It
+/// answers when the session was configured last.
 ///
 /// SourceFault with the place of the source that failed; NumbersSpent where a number would pass 2^62; KeeperFault and SinkFault where the
 /// keeper or a sink failed.
@@ -35,6 +37,7 @@ pub fn take_tick<S: Source, K: Keeper, O: Sink>(
     sources: &mut [S],
     keeper: &mut K,
     results: &mut O,
+    sealed: Numbers,
     configured_at: u64,
     moment: u64,
 ) -> Result<u64, Refused>
@@ -49,16 +52,16 @@ pub fn take_tick<S: Source, K: Keeper, O: Sink>(
     ensures goes_on { IfOk result (λ last. GoesOn K.tells (K.kept keeper.new) state.new) }
     ensures kept { K.tells → OnErr result (IsWholeTick S.tells S.left S.faults setup.now configured.now.config configured.now.documents configured_at moment (K.kept keeper.old) (K.kept keeper.new) feeds.old feeds.new sources.old sources.new state.old) }
     ensures partly { O.tells → (refused : Refused) → result ≡ Err refused → refused.error ≡ RunError.SinkFault → IsPartlyTold K.tells S.tells S.left S.faults setup.now configured.now.config configured.now.documents configured_at moment (K.kept keeper.old) (K.kept keeper.new) (O.written results.old) (O.written results.new) feeds.old feeds.new sources.old sources.new state.old }
+    ensures numbers { IfErr result (λ refused. refused.numbers ≡ Some (tick_numbers refused.error sealed state.new)) }
     ensures unwritten { IfErr result (λ refused. refused.error ≢ RunError.SinkFault → results.new ≡ results.old) }
     ensures fault { (refused : Refused) (place : ℕ) → result ≡ Err refused → refused.error ≡ RunError.SourceFault place → FailsAt S.faults place sources.old sources.new }
     ensures opened { (refused : Refused) → result ≡ Err refused → (refused.error ≢ RunError.KeeperRefused) × ((moment : ℕ) → refused.error ≢ RunError.MomentTooLarge moment) × ((place kept found : ℕ) → refused.error ≢ RunError.SourceShrank place kept found) }
     ensures spent { (refused : Refused) → result ≡ Err refused → refused.error ≡ RunError.NumbersSpent → SpendsTick S.tells S.left S.faults setup.now configured.now.config configured.now.documents configured_at moment feeds.old feeds.new sources.old sources.new state.old state.new }
-    ensures unkept { K.tells → (refused : Refused) → result ≡ Err refused → refused.error ≡ RunError.NumbersSpent → K.kept keeper.new ≡ K.kept keeper.old }
+    ensures unkept { K.tells → (refused : Refused) → result ≡ Err refused → refused.error ≢ RunError.KeeperFault → refused.error ≢ RunError.SinkFault → K.kept keeper.new ≡ K.kept keeper.old }
     ensures keeper_cause { (refused : Refused) → result ≡ Err refused → refused.error ≡ RunError.KeeperFault → Rose (K.faults keeper.old) (K.faults keeper.new) }
     ensures sink_cause { (refused : Refused) → result ≡ Err refused → refused.error ≡ RunError.SinkFault → Rose (O.faults results.old) (O.faults results.new) }
     ensures later { (K.faults keeper.old ≤ K.faults keeper.new) × (O.faults results.old ≤ O.faults results.new) }
 {
-    let sealed = numbers_of(state);
     let form = state.form();
     let last = match fill_tick(
         alloc,

@@ -47,7 +47,7 @@ module _ (host : Host) (documents : List (List ℕ)) (notes : List ℕ) (is : Is
       let again : LegalNext (Opened 1 ∷ Configured documents no_queries 1000 ∷ Ticked 1000 ∷ []) (Ticked 1000) = (on, refl, λ table evented. refl) in
       (refl, ((sound, record { later = lit≤ tt; calendar = lit≤ tt }), (tick, (again, tt))))
 
-  quiet_session : IsSession given [] 1000 (940 ∷ []) entries
+  quiet_session : IsSession (Unit {0}) given [] 1000 (940 ∷ []) entries
   quiet_session = record {
     notes = notes;
     configuration = is;
@@ -67,11 +67,11 @@ module _ (host : Host) (documents : List (List ℕ)) (notes : List ℕ) (is : Is
     ticks_at = (
       Ticked 1000 ∷ [],
       Ticked 1000 ∷ [],
-      record { configured = []; taken = []; answered = []; configures = refl; takes = refl; answers = refl; are = refl },
+      record { configured = []; taken = []; answered = []; configures = refl; takes = refl; answers = refl; none = refl; are = refl },
       (
         Ticked 1000 ∷ [],
         [],
-        record { configured = []; taken = []; answered = []; configures = refl; takes = refl; answers = refl; are = refl },
+        record { configured = []; taken = []; answered = []; configures = refl; takes = refl; answers = refl; none = refl; are = refl },
         refl,
         refl,
       ),

@@ -1,1 +1,5 @@
-pub mod Examples
+mod Done
+mod Examples
+mod Forgotten
+mod Names
+mod Steps

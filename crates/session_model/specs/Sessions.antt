@@ -1,5 +1,5 @@
 -- What one session may add to a kept list.
-use Rattle.std.specs.Prelude.{◌≡◌, ◌⊎◌, ℕ, ◌+◌, max, Bool, true, false, List, [], ◌∷◌, ◌++◌, filter}
+use Rattle.std.specs.Prelude.{◌≡◌, ℕ, ◌+◌, max, Bool, true, false, List, [], ◌∷◌, ◌++◌, filter, Option}
 use Rattle.config_files.specs.Configurations.{IsConfigOf}
 use Rattle.entry_model.specs.declared.entry.Entry.{Entry}
 use Rattle.entry_model.specs.declared.entry.Entry.TheVariants.{Opened}
@@ -9,40 +9,63 @@ use Rattle.osq_value.specs.declared.source.SourceKind.{SourceKind}
 use Rattle.osq_value.specs.declared.source.SourceKind.TheVariants.{Tables}
 use Rattle.session_model.specs.Configuring.{Configures}
 use Rattle.session_model.specs.Given.{Given, Source}
-use Rattle.session_model.specs.Taking.{TakesSteps}
+use Rattle.session_model.specs.Taking.{GivesSteps}
 use Rattle.session_model.specs.Ticking.{Ticks}
+use Rattle.session_model.specs.Working.{Passes}
 
 abbrev pub is_tables : SourceKind → Bool
 is_tables Tables = true
 is_tables _ = false
 
 -- Before its first tick a session opens, takes a step of each source of tables, and is configured once, at the moment of the clock's first
--- reading or the last moment that was kept, whichever is later.
-pub record Opens (given : Given) (kept : List Entry) (reading : ℕ) (entries : List Entry) : Type 0 where
+-- reading or the last moment that was kept, whichever is later. `tells` says whether the sources tell their bytes.
+pub record Opens (tells : Type 0) (given : Given) (kept : List Entry) (reading : ℕ) (entries : List Entry) : Type 0 where
   pub tables : List Entry
   pub configured : Entry
-  pub takes : TakesSteps given (kept ++ Opened (sessions kept + 1) ∷ []) (filter (λ (source : Source). is_tables source.kind) given.sources) tables
+  pub takes : GivesSteps tells given (kept ++ Opened (sessions kept + 1) ∷ []) (filter (λ (source : Source). is_tables source.kind) given.sources) tables
   pub configures : Configures given (kept ++ (Opened (sessions kept + 1) ∷ tables)) (max reading (moment_of kept)) configured
   pub are : entries ≡ Opened (sessions kept + 1) ∷ tables ++ configured ∷ []
 
 -- a tick at each of these readings of the clock, or at the moment before where that is later
-abbrev pub TicksAt : Given → List Entry → List ℕ → List Entry → Type 0
-TicksAt given kept [] entries = entries ≡ []
-TicksAt given kept (reading ∷ readings) entries =
-    (own others : List Entry) × Ticks given kept (max reading (moment_of kept)) own × TicksAt given (kept ++ own) readings others × (entries ≡ own ++ others)
+abbrev pub TicksAt : Type 0 → Given → List Entry → List ℕ → List Entry → Type 0
+TicksAt tells given kept [] entries = entries ≡ []
+TicksAt tells given kept (reading ∷ readings) entries =
+    (own others : List Entry) × Ticks tells given kept (max reading (moment_of kept)) own × TicksAt tells given (kept ++ own) readings others × (entries ≡ own ++ others)
 
--- A session at these readings of the clock, of which the first is that of the opening and of the first tick: it opens, and then it ticks. What
+-- A session of one thread at these readings of the clock, of which the first is that of the opening and of the first tick: it opens, and then it ticks. What
 -- the configuration gives is a matter of its documents alone, and the list with the session behind it is legal.
-pub record IsSession (given : Given) (kept : List Entry) (reading : ℕ) (readings : List ℕ) (entries : List Entry) : Type 0 where
+pub record IsSession (tells : Type 0) (given : Given) (kept : List Entry) (reading : ℕ) (readings : List ℕ) (entries : List Entry) : Type 0 where
   pub notes : List ℕ
   pub configuration : IsConfigOf given.documents given.config notes
   pub opening : List Entry
   pub ticks : List Entry
-  pub opens : Opens given kept reading opening
-  pub ticks_at : TicksAt given (kept ++ opening) (reading ∷ readings) ticks
+  pub opens : Opens tells given kept reading opening
+  pub ticks_at : TicksAt tells given (kept ++ opening) (reading ∷ readings) ticks
   pub are : entries ≡ opening ++ ticks
   pub legal : Legal (kept ++ entries)
 
--- what a run adds to the list: nothing, or a session
-abbrev pub Adds : Given → List Entry → ℕ → List ℕ → List Entry → Type 0
-Adds given kept reading readings entries = (entries ≡ []) ⊎ IsSession given kept reading readings entries
+-- what the world gives a tick: the clock's reading, and of each answer that was polled its mark, where the answer is one of this host
+pub record Beat : Type 0 where
+  pub reading : ℕ
+  pub polled : List (Option ℕ)
+
+-- a tick of a run without a link
+abbrev pub quiet : ℕ → Beat
+quiet reading = record { reading = reading; polled = [] }
+
+-- the same in any order, with what was polled
+abbrev pub PassesAt : Type 0 → Given → List Entry → List Beat → List Entry → Type 0
+PassesAt tells given kept [] entries = entries ≡ []
+PassesAt tells given kept (beat ∷ beats) entries =
+    (own others : List Entry) × Passes tells given kept (max beat.reading (moment_of kept)) beat.polled own × PassesAt tells given (kept ++ own) beats others × (entries ≡ own ++ others)
+
+-- A session in whatever order those who work on its ticks come to their turns, which may acknowledge batches.
+pub record IsSessionInAnyOrder (tells : Type 0) (given : Given) (kept : List Entry) (first : Beat) (beats : List Beat) (entries : List Entry) : Type 0 where
+  pub notes : List ℕ
+  pub configuration : IsConfigOf given.documents given.config notes
+  pub opening : List Entry
+  pub ticks : List Entry
+  pub opens : Opens tells given kept first.reading opening
+  pub passes_at : PassesAt tells given (kept ++ opening) (first ∷ beats) ticks
+  pub are : entries ≡ opening ++ ticks
+  pub legal : Legal (kept ++ entries)

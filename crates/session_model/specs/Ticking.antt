@@ -10,7 +10,7 @@ use Rattle.entry_model.specs.Values.{moment_of}
 use Rattle.entry_model.specs.Views.{due_queries, owed_floor}
 use Rattle.session_model.specs.Configuring.{ConfiguresAgain}
 use Rattle.session_model.specs.Given.{Given}
-use Rattle.session_model.specs.Taking.{TakesSteps}
+use Rattle.session_model.specs.Taking.{GivesSteps}
 
 -- a batch for each of these queries, in their order, each made of all that stands before it
 abbrev pub Answers : List Entry → List QueryKey → List Entry → Type 0
@@ -27,12 +27,13 @@ abbrev pub expiries_of : List Entry → List Entry
 expiries_of kept = filter_map (expiry_of kept) evented_ids
 
 -- At this moment the tick begins; the session is configured again where that is due; each source is taken a step; each query that is then due
--- is answered; and what is then owed expires.
-pub record Ticks (given : Given) (kept : List Entry) (moment : ℕ) (entries : List Entry) : Type 0 where
+-- is answered, behind which none is; and what is then owed expires. `tells` says whether the sources tell their bytes.
+pub record Ticks (tells : Type 0) (given : Given) (kept : List Entry) (moment : ℕ) (entries : List Entry) : Type 0 where
   pub configured : List Entry
   pub taken : List Entry
   pub answered : List Entry
   pub configures : ConfiguresAgain given (kept ++ Ticked moment ∷ []) moment configured
-  pub takes : TakesSteps given (kept ++ (Ticked moment ∷ configured)) given.sources taken
+  pub takes : GivesSteps tells given (kept ++ (Ticked moment ∷ configured)) given.sources taken
   pub answers : Answers (kept ++ (Ticked moment ∷ configured ++ taken)) (due_queries (kept ++ (Ticked moment ∷ configured ++ taken))) answered
+  pub none : due_queries (kept ++ (Ticked moment ∷ configured ++ taken ++ answered)) ≡ []
   pub are : entries ≡ Ticked moment ∷ configured ++ taken ++ answered ++ expiries_of (kept ++ (Ticked moment ∷ configured ++ taken ++ answered))

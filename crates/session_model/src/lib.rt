@@ -1,2 +1,4 @@
-//! What one session may add to a kept list: definitions alone.
+//! What one session may add to a kept list: definitions, and their laws.
 #![tactic(auto)]
+
+pub mod laws;

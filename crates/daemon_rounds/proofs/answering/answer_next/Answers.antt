@@ -14,7 +14,7 @@ rows_of-requires g c =
     let cut = c.in-Ok-Some.cut in
     let g = given c.args.state.now cut (sym c.in-Ok-Some.field-0-is ∙ c.in-Ok-Some.ensures.cut) in
     let is = accepted c.args.state.now c.is_state.ensures cut g c.claim_cut.new.self c.in-Ok-Some.ensures.claimed in
-    ap is_accepted (c.as_str.ensures ∙ ap (λ (k : QueryKey). k.text) c.key.ensures) ∙ is
+    ap is_accepted (ap (λ (k : QueryKey). k.text) c.key.ensures) ∙ is
 
 pub unreachable-requires : goal.unreachable-requires
 unreachable-requires g c =

@@ -1,10 +1,12 @@
 use Rattle.std.proofs.Common.{◌≡◌, ◌≤◌, ℕ, Err, ap, max, sym, ◌∙◌, subst, arith}
 use Rattle.osq_value.specs.declared.moment.TheConstants.{LAST_MOMENT}
+use Rattle.entry_model.specs.Fits.{Fits}
 use Rattle.entry_model.specs.declared.restored.Restored.{Restored}
 use Rattle.query_rounds.specs.Reading.{HasRead, IsOverfull}
-use Rattle.query_rounds.specs.declared.error.AskError.TheVariants.{NumbersSpent}
+use Rattle.query_rounds.specs.declared.error.AskError.TheVariants.{KeeperRefused, NumbersSpent}
 use Rattle.query_rounds.proofs.Answered.{answered}
 use Rattle.query_rounds.proofs.Meant.{meant}
+use Rattle.query_rounds.proofs.Refused.{unloaded_refused}
 use Rattle.query_rounds.proofs.Spent.{has_spent}
 use Rattle.query_rounds.proofs.asking.ask_kept.Goals as goal
 
@@ -37,3 +39,18 @@ returns-in-Err-read_behind-clause-spent g c = λ is told sources_told legal give
     let why : c.in-Err-read_behind.error ≡ NumbersSpent = cc in
     has_spent g.S.Source.tells g.S.Source.left g.S.Source.faults c.args.names.now c.args.sources.now c.read_behind.new.sources c.args.rounds given (g.K.Keeper.kept c.args.keeper.now) sources_told legal c.requires.distinct c.args.paths.now c.args.records over
     (subst (λ (restored : Restored). IsOverfull g.S.Source.tells g.S.Source.left g.S.Source.faults c.args.names.now c.args.paths.now c.args.records c.args.rounds restored c.args.sources.now c.read_behind.new.sources) (c.in-Ok.ensures.value told) (c.in-Err-read_behind.ensures.over (ap Err why)))
+
+pub returns-clause-fit : goal.returns-clause-fit
+returns-clause-fit g c told = subst Fits (c.in-Ok.ensures.value told) c.in-Ok.ensures.fits
+
+pub returns-in-Err-clause-refused : goal.returns-in-Err-clause-refused
+returns-in-Err-clause-refused g c = λ told is.
+    let why : c.unloaded.result ≡ KeeperRefused = cc in
+    let (kept, loading) = unloaded_refused c.in-Err.error (sym c.unloaded.ensures ∙ why) in
+    c.load_values.ensures.refused told kept (c.in-Err.is ∙ ap Err loading)
+
+pub returns-in-Err-clause-illegal : goal.returns-in-Err-clause-illegal
+returns-in-Err-clause-illegal g c = λ told is.
+    let why : c.unloaded.result ≡ KeeperRefused = cc in
+    let (kept, loading) = unloaded_refused c.in-Err.error (sym c.unloaded.ensures ∙ why) in
+    c.load_values.ensures.illegal told kept (c.in-Err.is ∙ ap Err loading)

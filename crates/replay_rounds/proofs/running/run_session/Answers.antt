@@ -1,20 +1,26 @@
-use Rattle.std.proofs.Common.{◌≡◌, List, [], ◌∷◌, refl, sym, ap, ◌∙◌, subst, arith, inl, inr}
+use Rattle.std.proofs.Common.{◌≡◌, List, [], ◌∷◌, Err, refl, sym, ap, ◌∙◌, subst, arith, inl, inr}
 use Rattle.std.proofs.lemmas.List.{append-nil}
 use Rattle.source_feeds.specs.Feeding.{Feeding}
+use Rattle.entry_model.specs.declared.entry.Entry.{Entry}
 use Rattle.entry_model.specs.declared.restored.Restored.{Restored}
+use Rattle.entry_model.specs.Fits.{Fits}
 use Rattle.daemon_rounds.specs.Rounding.{AreGoing}
 use Rattle.daemon_rounds.proofs.Laters.{fails_since}
 use Rattle.replay_rounds.specs.Fixed.{fixed_of}
 use Rattle.replay_rounds.specs.Noting.{IsBetween}
+use Rattle.replay_rounds.specs.Refusals.{numbers_in, numbers_of}
 use Rattle.replay_rounds.specs.Running.{IsWritten, ReadsAll}
+use Rattle.replay_rounds.specs.Stopping.{AreNumbersOf, AreSealed, HasNumbers, Stops}
+use Rattle.replay_rounds.specs.declared.refused.Numbers.{Numbers}
 use Rattle.replay_rounds.specs.declared.refused.Refused.{Refused}
-use Rattle.replay_rounds.proofs.Causes.{by_sink, same_refusal}
+use Rattle.replay_rounds.proofs.Causes.{by_sink, same_refusal, spent_not_keeper, spent_not_sink}
 use Rattle.replay_rounds.proofs.Done.{has_run}
 use Rattle.replay_rounds.proofs.Grown.{grown_then, of_error, of_value}
-use Rattle.replay_rounds.proofs.Looping.{goes_on_here, grown_of, kept_first, kept_on, looped_first, looped_on, opens_here, partly_first, partly_on, still_written, written_on}
-use Rattle.replay_rounds.proofs.Noted.{noted_first, noted_on}
-use Rattle.replay_rounds.proofs.Ran.{all_is_kept, none_kept, none_written, reads_more, still_kept}
+use Rattle.replay_rounds.proofs.Looping.{goes_on_here, kept_first, kept_on, looped_first, looped_on, numbers_same, opens_here, partly_first, partly_on, sealed_first, sealed_on, still_written, unwritten_first, written_on}
+use Rattle.replay_rounds.proofs.Noted.{none_skipped, noted_first, noted_on, of_any, of_refusal, skipped_behind, skipped_unless, told_some}
+use Rattle.replay_rounds.proofs.Ran.{all_is_kept, no_tick, none_kept, none_written, numbers_are, reads_more, still_kept}
 use Rattle.replay_rounds.proofs.Spent.{spent_first, spent_nowhere, spent_on}
+use Rattle.replay_rounds.proofs.Stopped.{loaded_numbers, numbers_between, numbers_for, stops_with, tick_stops, unloaded_refused, unloaded_stops}
 use Rattle.replay_rounds.proofs.running.run_session.Goals as goal
 
 pub returns-in-Err-clause-kept : goal.returns-in-Err-clause-kept
@@ -23,7 +29,7 @@ returns-in-Err-clause-kept g c told =
 
 pub returns-in-Err-clause-written : goal.returns-in-Err-clause-written
 returns-in-Err-clause-written g c told =
-    none_written (fixed_of g.K.Keeper.tells g.O.Sink.tells g.S.Source.tells g.S.Source.left c.args.setup.now c.args.configured.now.config c.args.configured.now.documents c.args.sources.now (g.K.Keeper.kept c.args.keeper.now) (g.O.Sink.written c.args.results.now)) (g.K.Keeper.kept c.load_values.new.keeper) (g.O.Sink.written c.args.results.now) (λ tells. ([], c.in-Err.ensures.same tells ∙ sym (append-nil (g.K.Keeper.kept c.args.keeper.now)))) refl
+    none_written (fixed_of g.K.Keeper.tells g.O.Sink.tells g.S.Source.tells g.S.Source.left c.args.setup.now c.args.configured.now.config c.args.configured.now.documents c.args.sources.now (g.K.Keeper.kept c.args.keeper.now) (g.O.Sink.written c.args.results.now)) (g.K.Keeper.kept c.load_values.new.keeper) (g.O.Sink.written c.args.results.now) (λ tells. ([], no_tick, c.in-Err.ensures.same tells ∙ sym (append-nil (g.K.Keeper.kept c.args.keeper.now)))) refl
 
 pub returns-in-Err-open_noted-clause-kept : goal.returns-in-Err-open_noted-clause-kept
 returns-in-Err-open_noted-clause-kept g c told =
@@ -32,7 +38,7 @@ returns-in-Err-open_noted-clause-kept g c told =
 
 pub returns-in-Err-open_noted-clause-written : goal.returns-in-Err-open_noted-clause-written
 returns-in-Err-open_noted-clause-written g c told =
-    none_written (fixed_of g.K.Keeper.tells g.O.Sink.tells g.S.Source.tells g.S.Source.left c.args.setup.now c.args.configured.now.config c.args.configured.now.documents c.args.sources.now (g.K.Keeper.kept c.args.keeper.now) (g.O.Sink.written c.args.results.now)) (g.K.Keeper.kept c.load_values.new.keeper) (g.O.Sink.written c.args.results.now) (λ tells. ([], c.in-Ok.ensures.same tells ∙ sym (append-nil (g.K.Keeper.kept c.args.keeper.now)))) refl
+    none_written (fixed_of g.K.Keeper.tells g.O.Sink.tells g.S.Source.tells g.S.Source.left c.args.setup.now c.args.configured.now.config c.args.configured.now.documents c.args.sources.now (g.K.Keeper.kept c.args.keeper.now) (g.O.Sink.written c.args.results.now)) (g.K.Keeper.kept c.load_values.new.keeper) (g.O.Sink.written c.args.results.now) (λ tells. ([], no_tick, c.in-Ok.ensures.same tells ∙ sym (append-nil (g.K.Keeper.kept c.args.keeper.now)))) refl
 
 pub returns-in-Err-open_noted-clause-moment : goal.returns-in-Err-open_noted-clause-moment
 returns-in-Err-open_noted-clause-moment g c refused moment is error =
@@ -74,7 +80,7 @@ returns-in-Err-take_tick-clause-written g c told =
     let going = subst (λ (feeds : List Feeding). AreGoing c.in-Ok-open_noted.session.state.counts.taken feeds) (sym c.as_mut_slice-feeds.ensures.value) c.in-Ok-open_noted.ensures.going in
     by_sink c.in-Err-take_tick.refused.error (fixed_of g.K.Keeper.tells g.O.Sink.tells g.S.Source.tells g.S.Source.left c.args.setup.now c.args.configured.now.config c.args.configured.now.documents c.args.sources.now (g.K.Keeper.kept c.args.keeper.now) (g.O.Sink.written c.args.results.now)) (g.K.Keeper.kept c.take_tick.new.keeper) (g.O.Sink.written c.take_tick.new.results)
     (λ is. partly_first g.K.Keeper.tells g.O.Sink.tells g.S.Source.tells g.S.Source.left g.S.Source.faults c.args.setup.now c.args.configured.now.config c.args.configured.now.documents c.args.sources.now (g.K.Keeper.kept c.args.keeper.now) (g.O.Sink.written c.args.results.now) g.C.Clock.reads c.args.clock.now c.open_noted.new.clock (g.K.Keeper.kept c.load_values.new.keeper) (g.K.Keeper.kept c.take_tick.new.keeper) (g.O.Sink.written c.take_tick.new.results) c.as_mut_slice-feeds.result.now c.take_tick.new.feeds c.open_noted.new.sources c.take_tick.new.sources c.in-Ok-open_noted.session.configured_at c.in-Ok-open_noted.session.state c.args.configured.now.notes c.requires.configuration opens.0 going kept_is (c.take_tick.ensures.partly told c.in-Err-take_tick.refused c.in-Err-take_tick.is is))
-    (λ other. none_written (fixed_of g.K.Keeper.tells g.O.Sink.tells g.S.Source.tells g.S.Source.left c.args.setup.now c.args.configured.now.config c.args.configured.now.documents c.args.sources.now (g.K.Keeper.kept c.args.keeper.now) (g.O.Sink.written c.args.results.now)) (g.K.Keeper.kept c.take_tick.new.keeper) (g.O.Sink.written c.take_tick.new.results) (λ tells. grown_of (fixed_of g.K.Keeper.tells g.O.Sink.tells g.S.Source.tells g.S.Source.left c.args.setup.now c.args.configured.now.config c.args.configured.now.documents c.args.sources.now (g.K.Keeper.kept c.args.keeper.now) (g.O.Sink.written c.args.results.now)) (λ readings. ReadsAll g.C.Clock.reads c.args.clock.now readings c.open_noted.new.clock) (g.K.Keeper.kept c.take_tick.new.keeper) (kept_first g.K.Keeper.tells g.O.Sink.tells g.S.Source.tells g.S.Source.left g.S.Source.faults c.args.setup.now c.args.configured.now.config c.args.configured.now.documents c.args.sources.now (g.K.Keeper.kept c.args.keeper.now) (g.O.Sink.written c.args.results.now) g.C.Clock.reads c.args.clock.now c.open_noted.new.clock (g.K.Keeper.kept c.load_values.new.keeper) (g.K.Keeper.kept c.take_tick.new.keeper) (g.O.Sink.written c.take_tick.new.results) c.as_mut_slice-feeds.result.now c.take_tick.new.feeds c.open_noted.new.sources c.take_tick.new.sources c.in-Ok-open_noted.session.configured_at c.in-Ok-open_noted.session.state c.args.configured.now.notes c.requires.configuration opens.0 going kept_is (c.in-Err-take_tick.ensures.kept tells) tells) tells) (ap g.O.Sink.written (c.in-Err-take_tick.ensures.unwritten other)))
+    (λ other. unwritten_first g.K.Keeper.tells g.O.Sink.tells g.S.Source.tells g.S.Source.left g.S.Source.faults c.args.setup.now c.args.configured.now.config c.args.configured.now.documents c.args.sources.now (g.K.Keeper.kept c.args.keeper.now) (g.O.Sink.written c.args.results.now) g.C.Clock.reads c.args.clock.now c.open_noted.new.clock (g.K.Keeper.kept c.load_values.new.keeper) (g.K.Keeper.kept c.take_tick.new.keeper) (g.O.Sink.written c.take_tick.new.results) c.as_mut_slice-feeds.result.now c.take_tick.new.feeds c.open_noted.new.sources c.take_tick.new.sources c.in-Ok-open_noted.session.configured_at c.in-Ok-open_noted.session.state c.args.configured.now.notes c.requires.configuration opens.0 going kept_is c.in-Err-take_tick.ensures.kept (g.O.Sink.written c.take_tick.new.results) (ap g.O.Sink.written (c.in-Err-take_tick.ensures.unwritten other)))
 
 pub returns-in-Err-take_tick-clause-keeper_cause : goal.returns-in-Err-take_tick-clause-keeper_cause
 returns-in-Err-take_tick-clause-keeper_cause g c refused is error =
@@ -120,7 +126,7 @@ returns-in-Err-take_tick-clause-spent g c refused is error =
     let opens = opens_here g.K.Keeper.tells g.O.Sink.tells g.S.Source.tells g.S.Source.left g.S.Source.faults c.args.setup.now c.args.configured.now.config c.args.configured.now.documents c.args.sources.now (g.K.Keeper.kept c.args.keeper.now) (g.O.Sink.written c.args.results.now) g.C.Clock.reads c.args.clock.now c.open_noted.new.clock c.in-Ok.restored (g.K.Keeper.kept c.load_values.new.keeper) c.in-Ok-open_noted.session.feeds.items c.as_mut_slice-feeds.result.now c.open_noted.new.sources c.in-Ok-open_noted.session.configured_at c.in-Ok-open_noted.session.state c.in-Ok.ensures.value kept_is c.requires.distinct c.in-Ok-open_noted.ensures.opened c.as_mut_slice-feeds.ensures.value in
     let going = subst (λ (feeds : List Feeding). AreGoing c.in-Ok-open_noted.session.state.counts.taken feeds) (sym c.as_mut_slice-feeds.ensures.value) c.in-Ok-open_noted.ensures.going in
     spent_first g.K.Keeper.tells g.O.Sink.tells g.S.Source.tells g.S.Source.left g.S.Source.faults c.args.setup.now c.args.configured.now.config c.args.configured.now.documents c.args.sources.now (g.K.Keeper.kept c.args.keeper.now) (g.O.Sink.written c.args.results.now) g.C.Clock.reads c.args.clock.now c.open_noted.new.clock (g.K.Keeper.kept c.load_values.new.keeper) (g.K.Keeper.kept c.take_tick.new.keeper) c.as_mut_slice-feeds.result.now c.take_tick.new.feeds c.open_noted.new.sources c.take_tick.new.sources c.in-Ok-open_noted.session.configured_at c.in-Ok-open_noted.session.state c.take_tick.new.state opens.0 going.distinct
-    (λ tells. c.take_tick.ensures.unkept tells c.in-Err-take_tick.refused c.in-Err-take_tick.is why ∙ kept_is tells) (c.take_tick.ensures.spent c.in-Err-take_tick.refused c.in-Err-take_tick.is why)
+    (λ tells. c.take_tick.ensures.unkept tells c.in-Err-take_tick.refused c.in-Err-take_tick.is (spent_not_keeper _ why) (spent_not_sink _ why) ∙ kept_is tells) (c.take_tick.ensures.spent c.in-Err-take_tick.refused c.in-Err-take_tick.is why)
 
 pub returns-in-Err-take_tick-clause-sink_cause : goal.returns-in-Err-take_tick-clause-sink_cause
 returns-in-Err-take_tick-clause-sink_cause g c refused is error =
@@ -284,7 +290,7 @@ returns-in-Err-take_tick-2-clause-spent g c refused is error =
     let same : c.in-Err-take_tick-2.refused ≡ refused = sym c.told-in-Err-take_tick-2.ensures.same ∙ same_refusal _ _ is in
     let why = ap (λ (r : Refused). r.error) same ∙ error in
     spent_on g.K.Keeper.tells g.O.Sink.tells g.S.Source.tells g.S.Source.left g.S.Source.faults c.args.setup.now c.args.configured.now.config c.args.configured.now.documents c.args.sources.now (g.K.Keeper.kept c.args.keeper.now) (g.O.Sink.written c.args.results.now) g.C.Clock.reads c.args.clock.now c.loop.clock c.next_moment.new.clock (g.K.Keeper.kept c.loop.keeper) (g.K.Keeper.kept c.take_tick-in-loop.new.keeper) c.loop.feeds c.take_tick-in-loop.new.feeds c.loop.sources c.take_tick-in-loop.new.sources c.loop.last c.in-Ok-next_moment.moment c.loop.state c.take_tick-in-loop.new.state c.loop.invariant.looping.running.added c.loop.invariant.ready.going.distinct c.in-Ok-next_moment.ensures.read
-    (λ tells. c.take_tick-in-loop.ensures.unkept tells c.in-Err-take_tick-2.refused c.in-Err-take_tick-2.is why) (c.take_tick-in-loop.ensures.spent c.in-Err-take_tick-2.refused c.in-Err-take_tick-2.is why)
+    (λ tells. c.take_tick-in-loop.ensures.unkept tells c.in-Err-take_tick-2.refused c.in-Err-take_tick-2.is (spent_not_keeper _ why) (spent_not_sink _ why)) (c.take_tick-in-loop.ensures.spent c.in-Err-take_tick-2.refused c.in-Err-take_tick-2.is why)
 
 pub returns-in-Err-take_tick-2-clause-later : goal.returns-in-Err-take_tick-2-clause-later
 returns-in-Err-take_tick-2-clause-later g c =
@@ -383,3 +389,104 @@ returns-clause-later g c =
     let before = c.loop.invariant.status_later in
     let behind = c.end_session.ensures.later in
     (c.loop.invariant.keeper_later, c.loop.invariant.results_later, omega (arith, before, behind))
+
+pub returns-in-Err-clause-stops : goal.returns-in-Err-clause-stops
+returns-in-Err-clause-stops g c =
+    unloaded_stops (fixed_of g.K.Keeper.tells g.O.Sink.tells g.S.Source.tells g.S.Source.left c.args.setup.now c.args.configured.now.config c.args.configured.now.documents c.args.sources.now (g.K.Keeper.kept c.args.keeper.now) (g.O.Sink.written c.args.results.now)) (λ readings. ReadsAll g.C.Clock.reads c.args.clock.now readings c.args.clock.now) (g.K.Keeper.kept c.load_values.new.keeper) (c.args.status.now ≡ c.args.status.now) c.in-Err.error c.unloaded.result c.unloaded.ensures.error c.unloaded.ensures.numbers refl refl
+    (λ tells numbers is. subst (λ (list : List Entry). HasNumbers list numbers) (sym (c.in-Err.ensures.same tells)) (c.load_values.ensures.numbers tells numbers (c.in-Err.is ∙ ap Err is)))
+
+pub returns-in-Err-clause-stops_telling : goal.returns-in-Err-clause-stops_telling
+returns-in-Err-clause-stops_telling g c tells = inl (_, inl refl, none_skipped _ _ refl)
+
+pub returns-in-Err-open_noted-clause-stops : goal.returns-in-Err-open_noted-clause-stops
+returns-in-Err-open_noted-clause-stops g c =
+    let refused = c.in-Err-open_noted.refused in
+    let loaded = c.in-Err-open_noted.ensures.loaded in
+    stops_with (fixed_of g.K.Keeper.tells g.O.Sink.tells g.S.Source.tells g.S.Source.left c.args.setup.now c.args.configured.now.config c.args.configured.now.documents c.args.sources.now (g.K.Keeper.kept c.args.keeper.now) (g.O.Sink.written c.args.results.now)) (λ readings. ReadsAll g.C.Clock.reads c.args.clock.now readings c.open_noted.new.clock) (g.K.Keeper.kept c.load_values.new.keeper) (c.open_noted.new.status ≡ c.args.status.now) refused.error refused.numbers (numbers_in c.in-Ok.restored) c.in-Err-open_noted.ensures.numbers
+    (numbers_for (fixed_of g.K.Keeper.tells g.O.Sink.tells g.S.Source.tells g.S.Source.left c.args.setup.now c.args.configured.now.config c.args.configured.now.documents c.args.sources.now (g.K.Keeper.kept c.args.keeper.now) (g.O.Sink.written c.args.results.now)) (λ readings. ReadsAll g.C.Clock.reads c.args.clock.now readings c.open_noted.new.clock) (g.K.Keeper.kept c.load_values.new.keeper) refused.error (numbers_in c.in-Ok.restored) loaded.0 loaded.1
+    (loaded_numbers (fixed_of g.K.Keeper.tells g.O.Sink.tells g.S.Source.tells g.S.Source.left c.args.setup.now c.args.configured.now.config c.args.configured.now.documents c.args.sources.now (g.K.Keeper.kept c.args.keeper.now) (g.O.Sink.written c.args.results.now)) (λ readings. ReadsAll g.C.Clock.reads c.args.clock.now readings c.open_noted.new.clock) (g.K.Keeper.kept c.load_values.new.keeper) c.in-Ok.restored c.in-Ok.ensures.value c.in-Ok.ensures.same))
+
+pub returns-in-Err-open_noted-clause-stops_telling : goal.returns-in-Err-open_noted-clause-stops_telling
+returns-in-Err-open_noted-clause-stops_telling g c tells =
+    told_some c.args.configured.now.config c.args.setup.now.host c.args.configured.now.notes (g.O.Sink.written c.args.status.now) (g.O.Sink.written c.args.status.now) (g.O.Sink.written c.open_noted.new.status) (g.O.Sink.faults c.args.status.now) (g.O.Sink.faults c.args.status.now) (g.O.Sink.faults c.open_noted.new.status) (inl refl) (c.in-Err-open_noted.ensures.untold tells) (omega arith)
+
+pub returns-in-Err-take_tick-clause-stops : goal.returns-in-Err-take_tick-clause-stops
+returns-in-Err-take_tick-clause-stops g c =
+    let kept_is = c.in-Ok.ensures.same in
+    let opens = opens_here g.K.Keeper.tells g.O.Sink.tells g.S.Source.tells g.S.Source.left g.S.Source.faults c.args.setup.now c.args.configured.now.config c.args.configured.now.documents c.args.sources.now (g.K.Keeper.kept c.args.keeper.now) (g.O.Sink.written c.args.results.now) g.C.Clock.reads c.args.clock.now c.open_noted.new.clock c.in-Ok.restored (g.K.Keeper.kept c.load_values.new.keeper) c.in-Ok-open_noted.session.feeds.items c.as_mut_slice-feeds.result.now c.open_noted.new.sources c.in-Ok-open_noted.session.configured_at c.in-Ok-open_noted.session.state c.in-Ok.ensures.value kept_is c.requires.distinct c.in-Ok-open_noted.ensures.opened c.as_mut_slice-feeds.ensures.value in
+    let going = subst (λ (feeds : List Feeding). AreGoing c.in-Ok-open_noted.session.state.counts.taken feeds) (sym c.as_mut_slice-feeds.ensures.value) c.in-Ok-open_noted.ensures.going in
+    let refused = c.in-Err-take_tick.refused in
+    let same : c.numbers_in-sealed.result ≡ numbers_in c.in-Ok.restored = c.numbers_in-sealed.ensures in
+    let loaded = loaded_numbers (fixed_of g.K.Keeper.tells g.O.Sink.tells g.S.Source.tells g.S.Source.left c.args.setup.now c.args.configured.now.config c.args.configured.now.documents c.args.sources.now (g.K.Keeper.kept c.args.keeper.now) (g.O.Sink.written c.args.results.now)) (λ readings. ReadsAll g.C.Clock.reads c.args.clock.now readings c.open_noted.new.clock) (g.K.Keeper.kept c.take_tick.new.keeper) c.in-Ok.restored c.in-Ok.ensures.value in
+    tick_stops (fixed_of g.K.Keeper.tells g.O.Sink.tells g.S.Source.tells g.S.Source.left c.args.setup.now c.args.configured.now.config c.args.configured.now.documents c.args.sources.now (g.K.Keeper.kept c.args.keeper.now) (g.O.Sink.written c.args.results.now)) (λ readings. ReadsAll g.C.Clock.reads c.args.clock.now readings c.open_noted.new.clock) (g.K.Keeper.kept c.take_tick.new.keeper) (c.told.new.status ≡ c.args.status.now) refused c.told.result c.numbers_in-sealed.result c.take_tick.new.state c.told.ensures.same c.in-Err-take_tick.ensures.numbers
+    (c.take_tick.ensures.opened refused c.in-Err-take_tick.is).0
+    (λ is. sealed_first g.K.Keeper.tells g.O.Sink.tells g.S.Source.tells g.S.Source.left g.S.Source.faults c.args.setup.now c.args.configured.now.config c.args.configured.now.documents c.args.sources.now (g.K.Keeper.kept c.args.keeper.now) (g.O.Sink.written c.args.results.now) g.C.Clock.reads c.args.clock.now c.open_noted.new.clock (g.K.Keeper.kept c.load_values.new.keeper) (g.K.Keeper.kept c.take_tick.new.keeper) (g.O.Sink.written c.take_tick.new.results) c.as_mut_slice-feeds.result.now c.take_tick.new.feeds c.open_noted.new.sources c.take_tick.new.sources c.in-Ok-open_noted.session.configured_at c.in-Ok-open_noted.session.state c.args.configured.now.notes c.requires.configuration opens.0 going kept_is c.numbers_in-sealed.result
+    (subst (λ (numbers : Numbers). AreNumbersOf (fixed_of g.K.Keeper.tells g.O.Sink.tells g.S.Source.tells g.S.Source.left c.args.setup.now c.args.configured.now.config c.args.configured.now.documents c.args.sources.now (g.K.Keeper.kept c.args.keeper.now) (g.O.Sink.written c.args.results.now)) (g.K.Keeper.kept c.args.keeper.now) numbers) (sym same) (loaded_numbers (fixed_of g.K.Keeper.tells g.O.Sink.tells g.S.Source.tells g.S.Source.left c.args.setup.now c.args.configured.now.config c.args.configured.now.documents c.args.sources.now (g.K.Keeper.kept c.args.keeper.now) (g.O.Sink.written c.args.results.now)) (λ readings. ReadsAll g.C.Clock.reads c.args.clock.now readings c.open_noted.new.clock) (g.K.Keeper.kept c.args.keeper.now) c.in-Ok.restored c.in-Ok.ensures.value (λ tells. refl))) c.in-Err-take_tick.ensures.kept)
+    (λ not_keeper not_sink. subst (λ (numbers : Numbers). AreNumbersOf (fixed_of g.K.Keeper.tells g.O.Sink.tells g.S.Source.tells g.S.Source.left c.args.setup.now c.args.configured.now.config c.args.configured.now.documents c.args.sources.now (g.K.Keeper.kept c.args.keeper.now) (g.O.Sink.written c.args.results.now)) (g.K.Keeper.kept c.take_tick.new.keeper) numbers) (sym same)
+    (loaded (λ tells. c.take_tick.ensures.unkept tells refused c.in-Err-take_tick.is not_keeper not_sink ∙ kept_is tells)))
+
+pub returns-in-Err-take_tick-clause-stops_telling : goal.returns-in-Err-take_tick-clause-stops_telling
+returns-in-Err-take_tick-clause-stops_telling g c tells =
+    told_some c.args.configured.now.config c.args.setup.now.host c.args.configured.now.notes (g.O.Sink.written c.args.status.now) (g.O.Sink.written c.open_noted.new.status) (g.O.Sink.written c.told.new.status) (g.O.Sink.faults c.args.status.now) (g.O.Sink.faults c.open_noted.new.status) (g.O.Sink.faults c.told.new.status)
+    (inr (noted_first _ _ _ _ _ (c.in-Ok-open_noted.ensures.noted tells))) (c.told.ensures.skipped tells) c.open_noted.ensures.later
+
+pub returns-in-Err-next_moment-clause-stops : goal.returns-in-Err-next_moment-clause-stops
+returns-in-Err-next_moment-clause-stops g c =
+    let refused = c.in-Err-next_moment.refused in
+    let r = c.loop.invariant.looping.running.added in
+    subst (λ (r : Refused). Stops (fixed_of g.K.Keeper.tells g.O.Sink.tells g.S.Source.tells g.S.Source.left c.args.setup.now c.args.configured.now.config c.args.configured.now.documents c.args.sources.now (g.K.Keeper.kept c.args.keeper.now) (g.O.Sink.written c.args.results.now)) (λ readings. ReadsAll g.C.Clock.reads c.args.clock.now readings c.next_moment.new.clock) (g.K.Keeper.kept c.loop.keeper) (c.told-in-Err-next_moment.new.status ≡ c.args.status.now) r.error r.numbers) (sym c.told-in-Err-next_moment.ensures.same)
+    (stops_with (fixed_of g.K.Keeper.tells g.O.Sink.tells g.S.Source.tells g.S.Source.left c.args.setup.now c.args.configured.now.config c.args.configured.now.documents c.args.sources.now (g.K.Keeper.kept c.args.keeper.now) (g.O.Sink.written c.args.results.now)) (λ readings. ReadsAll g.C.Clock.reads c.args.clock.now readings c.next_moment.new.clock) (g.K.Keeper.kept c.loop.keeper) (c.told-in-Err-next_moment.new.status ≡ c.args.status.now) refused.error refused.numbers (numbers_of c.loop.state) c.in-Err-next_moment.ensures.numbers
+    (numbers_between (fixed_of g.K.Keeper.tells g.O.Sink.tells g.S.Source.tells g.S.Source.left c.args.setup.now c.args.configured.now.config c.args.configured.now.documents c.args.sources.now (g.K.Keeper.kept c.args.keeper.now) (g.O.Sink.written c.args.results.now)) (λ readings. ReadsAll g.C.Clock.reads c.args.clock.now readings c.next_moment.new.clock) (g.K.Keeper.kept c.loop.keeper) _ _ refused.error (numbers_of c.loop.state) c.in-Err-next_moment.ensures.cause
+    (numbers_are g.S.Source.left (fixed_of g.K.Keeper.tells g.O.Sink.tells g.S.Source.tells g.S.Source.left c.args.setup.now c.args.configured.now.config c.args.configured.now.documents c.args.sources.now (g.K.Keeper.kept c.args.keeper.now) (g.O.Sink.written c.args.results.now)) r.entries (g.K.Keeper.kept c.loop.keeper) c.loop.feeds c.loop.sources c.loop.last c.loop.state r.standing r.empty)))
+
+pub returns-in-Err-next_moment-clause-stops_telling : goal.returns-in-Err-next_moment-clause-stops_telling
+returns-in-Err-next_moment-clause-stops_telling g c tells =
+    told_some c.args.configured.now.config c.args.setup.now.host c.args.configured.now.notes (g.O.Sink.written c.args.status.now) (g.O.Sink.written c.loop.status) (g.O.Sink.written c.told-in-Err-next_moment.new.status) (g.O.Sink.faults c.args.status.now) (g.O.Sink.faults c.loop.status) (g.O.Sink.faults c.told-in-Err-next_moment.new.status)
+    (inr (c.loop.invariant.told tells)) (skipped_behind (g.O.Sink.written c.loop.status) (g.O.Sink.written c.next_moment.new.status) (g.O.Sink.written c.told-in-Err-next_moment.new.status) (g.O.Sink.faults c.loop.status) (g.O.Sink.faults c.next_moment.new.status) (g.O.Sink.faults c.told-in-Err-next_moment.new.status) (c.in-Err-next_moment.ensures.untold tells) (c.told-in-Err-next_moment.ensures.skipped tells) c.next_moment.ensures.later c.told-in-Err-next_moment.ensures.later) c.loop.invariant.status_later
+
+pub returns-in-Err-take_tick-2-clause-stops : goal.returns-in-Err-take_tick-2-clause-stops
+returns-in-Err-take_tick-2-clause-stops g c =
+    let refused = c.in-Err-take_tick-2.refused in
+    let same : c.numbers_of-sealed.result ≡ numbers_of c.loop.state = c.numbers_of-sealed.ensures in
+    tick_stops (fixed_of g.K.Keeper.tells g.O.Sink.tells g.S.Source.tells g.S.Source.left c.args.setup.now c.args.configured.now.config c.args.configured.now.documents c.args.sources.now (g.K.Keeper.kept c.args.keeper.now) (g.O.Sink.written c.args.results.now)) (λ readings. ReadsAll g.C.Clock.reads c.args.clock.now readings c.next_moment.new.clock) (g.K.Keeper.kept c.take_tick-in-loop.new.keeper) (c.told-in-Err-take_tick-2.new.status ≡ c.args.status.now) refused c.told-in-Err-take_tick-2.result c.numbers_of-sealed.result c.take_tick-in-loop.new.state c.told-in-Err-take_tick-2.ensures.same c.in-Err-take_tick-2.ensures.numbers
+    (c.take_tick-in-loop.ensures.opened refused c.in-Err-take_tick-2.is).0
+    (λ is. subst (λ (numbers : Numbers). AreSealed (fixed_of g.K.Keeper.tells g.O.Sink.tells g.S.Source.tells g.S.Source.left c.args.setup.now c.args.configured.now.config c.args.configured.now.documents c.args.sources.now (g.K.Keeper.kept c.args.keeper.now) (g.O.Sink.written c.args.results.now)) (λ readings. ReadsAll g.C.Clock.reads c.args.clock.now readings c.next_moment.new.clock) (g.K.Keeper.kept c.take_tick-in-loop.new.keeper) numbers) (sym same) (sealed_on g.K.Keeper.tells g.O.Sink.tells g.S.Source.tells g.S.Source.left g.S.Source.faults c.args.setup.now c.args.configured.now.config c.args.configured.now.documents c.args.sources.now (g.K.Keeper.kept c.args.keeper.now) (g.O.Sink.written c.args.results.now) g.C.Clock.reads c.args.clock.now c.loop.clock c.next_moment.new.clock c.loop.counter (g.K.Keeper.kept c.loop.keeper) (g.K.Keeper.kept c.take_tick-in-loop.new.keeper) (g.O.Sink.written c.loop.results) c.loop.feeds c.take_tick-in-loop.new.feeds c.loop.sources c.take_tick-in-loop.new.sources c.loop.last c.in-Ok-next_moment.moment c.loop.state c.loop.invariant.looping c.loop.invariant.ready.going c.in-Ok-next_moment.ensures.read c.in-Err-take_tick-2.ensures.kept))
+    (λ not_keeper not_sink. subst (λ (numbers : Numbers). AreNumbersOf (fixed_of g.K.Keeper.tells g.O.Sink.tells g.S.Source.tells g.S.Source.left c.args.setup.now c.args.configured.now.config c.args.configured.now.documents c.args.sources.now (g.K.Keeper.kept c.args.keeper.now) (g.O.Sink.written c.args.results.now)) (g.K.Keeper.kept c.take_tick-in-loop.new.keeper) numbers) (sym same)
+    (numbers_same g.K.Keeper.tells g.O.Sink.tells g.S.Source.tells g.S.Source.left g.S.Source.faults c.args.setup.now c.args.configured.now.config c.args.configured.now.documents c.args.sources.now (g.K.Keeper.kept c.args.keeper.now) (g.O.Sink.written c.args.results.now) g.C.Clock.reads c.args.clock.now c.loop.clock c.next_moment.new.clock c.loop.counter (g.K.Keeper.kept c.loop.keeper) (g.K.Keeper.kept c.take_tick-in-loop.new.keeper) (g.O.Sink.written c.loop.results) c.loop.feeds c.take_tick-in-loop.new.feeds c.loop.sources c.take_tick-in-loop.new.sources c.loop.last c.in-Ok-next_moment.moment c.loop.state c.loop.invariant.looping c.loop.invariant.ready.going c.in-Ok-next_moment.ensures.read (λ tells. c.take_tick-in-loop.ensures.unkept tells refused c.in-Err-take_tick-2.is not_keeper not_sink)))
+
+pub returns-in-Err-take_tick-2-clause-stops_telling : goal.returns-in-Err-take_tick-2-clause-stops_telling
+returns-in-Err-take_tick-2-clause-stops_telling g c tells =
+    let before = c.loop.invariant.status_later in
+    let noted = c.next_moment.ensures.later in
+    told_some c.args.configured.now.config c.args.setup.now.host c.args.configured.now.notes (g.O.Sink.written c.args.status.now) (g.O.Sink.written c.next_moment.new.status) (g.O.Sink.written c.told-in-Err-take_tick-2.new.status) (g.O.Sink.faults c.args.status.now) (g.O.Sink.faults c.next_moment.new.status) (g.O.Sink.faults c.told-in-Err-take_tick-2.new.status)
+    (inr (noted_on _ _ _ _ _ _ _ (c.loop.invariant.told tells) (c.in-Ok-next_moment.ensures.noted tells))) (c.told-in-Err-take_tick-2.ensures.skipped tells) (omega (arith, before, noted))
+
+pub returns-clause-stops : goal.returns-clause-stops
+returns-clause-stops g c =
+    let r = c.loop.invariant.looping.running.added in
+    of_refusal _ _ _ c.end_session.result c.end_session.ensures.cause c.end_session.ensures.stopped
+    (λ refused is numbers. stops_with (fixed_of g.K.Keeper.tells g.O.Sink.tells g.S.Source.tells g.S.Source.left c.args.setup.now c.args.configured.now.config c.args.configured.now.documents c.args.sources.now (g.K.Keeper.kept c.args.keeper.now) (g.O.Sink.written c.args.results.now)) (λ readings. ReadsAll g.C.Clock.reads c.args.clock.now readings c.loop.clock) (g.K.Keeper.kept c.loop.keeper) (c.end_session.new.status ≡ c.args.status.now) refused.error refused.numbers (numbers_of c.loop.state) numbers
+    (numbers_between (fixed_of g.K.Keeper.tells g.O.Sink.tells g.S.Source.tells g.S.Source.left c.args.setup.now c.args.configured.now.config c.args.configured.now.documents c.args.sources.now (g.K.Keeper.kept c.args.keeper.now) (g.O.Sink.written c.args.results.now)) (λ readings. ReadsAll g.C.Clock.reads c.args.clock.now readings c.loop.clock) (g.K.Keeper.kept c.loop.keeper) _ _ refused.error (numbers_of c.loop.state) is
+    (numbers_are g.S.Source.left (fixed_of g.K.Keeper.tells g.O.Sink.tells g.S.Source.tells g.S.Source.left c.args.setup.now c.args.configured.now.config c.args.configured.now.documents c.args.sources.now (g.K.Keeper.kept c.args.keeper.now) (g.O.Sink.written c.args.results.now)) r.entries (g.K.Keeper.kept c.loop.keeper) c.loop.feeds c.loop.sources c.loop.last c.loop.state r.standing r.empty)))
+
+pub returns-clause-stops_telling : goal.returns-clause-stops_telling
+returns-clause-stops_telling g c tells =
+    let untold = c.end_session.ensures.untold tells in
+    of_refusal _ _ _ c.end_session.result untold untold
+    (λ refused is same. told_some c.args.configured.now.config c.args.setup.now.host c.args.configured.now.notes (g.O.Sink.written c.args.status.now) (g.O.Sink.written c.loop.status) (g.O.Sink.written c.end_session.new.status) (g.O.Sink.faults c.args.status.now) (g.O.Sink.faults c.loop.status) (g.O.Sink.faults c.end_session.new.status)
+    (inr (c.loop.invariant.told tells)) (skipped_unless (g.O.Sink.written c.loop.status) (g.O.Sink.written c.end_session.new.status) (g.O.Sink.faults c.loop.status) (g.O.Sink.faults c.end_session.new.status) is) c.loop.invariant.status_later)
+
+pub returns-clause-fit : goal.returns-clause-fit
+returns-clause-fit g c tells = of_any _ c.end_session.result (subst Fits (c.in-Ok.ensures.value tells) c.in-Ok.ensures.fits)
+
+pub returns-in-Err-clause-refused : goal.returns-in-Err-clause-refused
+returns-in-Err-clause-refused g c told refused is error =
+    let same : c.unloaded.result ≡ refused = same_refusal _ _ is in
+    let (kept, why) = unloaded_refused c.in-Err.error (sym c.unloaded.ensures.error ∙ ap (λ (r : Refused). r.error) same ∙ error) in
+    c.load_values.ensures.refused told kept (c.in-Err.is ∙ ap Err why)
+
+pub returns-in-Err-clause-illegal : goal.returns-in-Err-clause-illegal
+returns-in-Err-clause-illegal g c told refused is error =
+    let same : c.unloaded.result ≡ refused = same_refusal _ _ is in
+    let (kept, why) = unloaded_refused c.in-Err.error (sym c.unloaded.ensures.error ∙ ap (λ (r : Refused). r.error) same ∙ error) in
+    c.load_values.ensures.illegal told kept (c.in-Err.is ∙ ap Err why)
