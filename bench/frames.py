@@ -103,11 +103,11 @@ fn frame(alloc: Global) -> Result<Frame, NoMemory> {
     for number in 0..10 {
         rows.push(row(alloc, number)?)?;
     }
-    let query = QueryKey {
-        name: Str::of(alloc, "files")?,
-        text: Str::of(alloc, "SELECT * FROM file_events")?,
-        mode: Mode::Evented,
-    };
+    let query = QueryKey::read(
+        Str::of(alloc, "files")?,
+        Str::of(alloc, "SELECT * FROM file_events")?,
+        Mode::Evented,
+    );
     let batch = Batch {
         number: 1,
         query,

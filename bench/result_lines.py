@@ -97,11 +97,11 @@ fn batch(alloc: Global) -> Result<Batch, NoMemory>
     for number in 0..1000 {
         rows.push(row(alloc, number)?)?;
     }
-    let query = QueryKey {
-        name: Str::of(alloc, "files")?,
-        text: Str::of(alloc, "SELECT * FROM file_events")?,
-        mode: Mode::Evented,
-    };
+    let query = QueryKey::read(
+        Str::of(alloc, "files")?,
+        Str::of(alloc, "SELECT * FROM file_events")?,
+        Mode::Evented,
+    );
     Ok(Batch {
         number: 1,
         query,

@@ -63,11 +63,11 @@ fn paths(alloc: Global) -> Result<Scheduled, NoMemory>
         return Err(NoMemory);
     }
     Ok(Scheduled {
-        key: QueryKey {
-            name: Str::of(alloc, "fe")?,
-            text: Str::of(alloc, PATHS)?,
-            mode: Mode::Evented,
-        },
+        key: QueryKey::read(
+            Str::of(alloc, "fe")?,
+            Str::of(alloc, PATHS)?,
+            Mode::Evented,
+        ),
         interval: 60,
     })
 }

@@ -5,9 +5,10 @@ Usage: bench/sqlite_queries.py [QUERIES [SEED [PROGRAM]]]: so many queries (defa
 built program (default crates/osqd/out/osqd, which `rt run` in crates/osqd makes). The tables are users, groups and
 user_groups with Nulls, equal values, and texts that spell numbers. A query has joins, LEFT JOINs, USING, WHERE, GROUP BY
 with aggregates and HAVING, DISTINCT, ORDER BY, LIMIT and OFFSET. It is built so that the two languages agree: no result
-leaves 64 bits, no column stands bare beside an aggregate, and a query with LIMIT or OFFSET is sorted by all its columns.
-Without ORDER BY the rows are compared as a bag, since SQLite promises no order there. Ends with 1 where a difference is
-found, and lists each with its text. Skipped where the program isn't built.
+leaves 64 bits, no column stands bare beside an aggregate, and a query with LIMIT or OFFSET is sorted by all its columns, or
+is of one table without groups, whose rows SQLite reads in their order. Any other without ORDER BY is compared as a bag of
+rows, since SQLite promises no order there. Ends with 1 where a difference is found, and lists each with its text. Skipped
+where the program isn't built.
 """
 
 import collections
@@ -107,6 +108,11 @@ class Query:
             return f"NOT ({self.condition(depth - 1)})"
         return f"({self.condition(depth - 1)} {self.rng.choice(['AND', 'OR'])} {self.condition(depth - 1)})"
 
+    def filter(self) -> str:
+        """Conditions side by side, so that each is a part of WHERE or a side of its OR."""
+        between = self.rng.choice([" AND ", " OR "])
+        return between.join(self.condition(self.rng.randrange(3)) for _ in range(self.rng.choice([1, 1, 2, 3])))
+
     def sources(self) -> str:
         text = ""
         for at in range(self.rng.choice([0, 1, 1, 1, 2, 2, 3])):
@@ -136,13 +142,20 @@ class Query:
         return f"{fold}({argument})"
 
 
+def limited(rng: random.Random) -> str:
+    if rng.randrange(2):
+        return ""
+    return f" LIMIT {rng.choice([-1, 0, 1, 2, 5])}" + rng.choice(["", f" OFFSET {rng.choice([-1, 0, 1, 3])}"])
+
+
 def generate(rng: random.Random) -> tuple[str, bool]:
     """A text, and whether its rows have an order."""
     query = Query(rng)
     sources = query.sources()
-    where = f" WHERE {query.condition(2)}" if sources and rng.randrange(2) else ""
+    where = f" WHERE {query.filter()}" if sources and rng.randrange(2) else ""
     grouping = having = ""
-    if sources and rng.randrange(3) == 0:
+    is_grouped = bool(sources) and rng.randrange(3) == 0
+    if is_grouped:
         keys = [query.column() for _ in range(rng.randrange(3))]
         items = keys + [query.aggregate() for _ in range(rng.randrange(1, 3))]
         grouping = f" GROUP BY {', '.join(keys)}" if keys else ""
@@ -158,9 +171,10 @@ def generate(rng: random.Random) -> tuple[str, bool]:
         terms = [f"c{at}{rng.choice(['', ' ASC', ' DESC'])}" for at in range(len(items))]
         rng.shuffle(terms)
         order = f" ORDER BY {', '.join(terms)}"
-        if rng.randrange(2):
-            limit = f" LIMIT {rng.choice([-1, 0, 1, 2, 5])}"
-            limit += rng.choice(["", f" OFFSET {rng.choice([-1, 0, 1, 3])}"])
+        limit = limited(rng)
+    elif len(query.tables) == 1 and not is_grouped:
+        limit = limited(rng)
+        has_order = True
     return f"SELECT {distinct}{', '.join(shown)}{sources}{where}{grouping}{having}{order}{limit}", has_order
 
 

@@ -16,7 +16,7 @@ import sys
 import tempfile
 
 TOP = pathlib.Path(__file__).resolve().parent.parent
-ABOVE = ("event_store", "query_cursors")
+ABOVE = ("event_store", "query_cursors", "entry_summary")
 
 PROGRAM = """\
 //! Prints what calls of an image and of cursors take, a line each: `CALL SIZE PART NANOSECONDS`.
@@ -25,9 +25,11 @@ PROGRAM = """\
 ghost use Rattle.std.specs.Prelude.{◌≡◌, ◌<◌, ◌≤◌, All, IfOk, length};
 ghost use Rattle.entry_model.specs.Fits.{Fits};
 ghost use Rattle.entry_model.specs.Legal.{IsEvent};
+ghost use Rattle.entry_model.specs.Reserved.{HaveOwnKeys};
 ghost use Rattle.query_cursors.specs.Places.{places_of};
 
 use entry_model::restored::{Restored, Run, RunList};
+use entry_summary::distinct::have_own_keys;
 use event_store::{Image, Steps};
 use osq_value::{Event, EventList, NoMemory, Row, Str, TableId, Value};
 use pack_rules::schedule::{Form, Mode, QueryKey, Schedule, Scheduled, ScheduledList};
@@ -147,11 +149,11 @@ fn time_expiry<R: Clock>(rt: &R, alloc: Global, old: u64, live: u64) -> Result<u
 
 /// The key of the query of this number.
 fn key(alloc: Global, number: u64) -> Result<QueryKey, NoMemory> {
-    Ok(QueryKey {
-        name: Str::from_string(format!(in alloc; "pack/some_pack/query_{number}")?),
-        text: Str::of(alloc, "SELECT target_path, action, time FROM file_events")?,
-        mode: Mode::Evented,
-    })
+    Ok(QueryKey::read(
+        Str::from_string(format!(in alloc; "pack/some_pack/query_{number}")?),
+        Str::of(alloc, "SELECT target_path, action, time FROM file_events")?,
+        Mode::Evented,
+    ))
 }
 
 /// So many queries, at most 10000.
@@ -177,7 +179,9 @@ fn schedule_of(alloc: Global, count: u64) -> Result<Schedule, NoMemory>
 }
 
 /// A run of each of so many queries.
-fn runs_of(alloc: Global, count: u64) -> Result<RunList, NoMemory> {
+fn runs_of(alloc: Global, count: u64) -> Result<RunList, NoMemory>
+    ensures { IfOk result HaveOwnKeys }
+{
     let mut runs = RunList::new(alloc);
     for number in 0..count {
         runs.push(Run {
@@ -188,11 +192,15 @@ fn runs_of(alloc: Global, count: u64) -> Result<RunList, NoMemory> {
             count: 1,
         })?;
     }
+    if !have_own_keys(runs.as_slice()) {
+        return Err(NoMemory);
+    }
     Ok(runs)
 }
 
 /// Cursors that know the places of a schedule's runs.
 fn placed(alloc: Global, runs: RunList, schedule: &Schedule) -> Result<Cursors, NoMemory>
+    requires { HaveOwnKeys runs }
     ensures { IfOk result (λ cursors. cursors.places ≡ places_of cursors.runs schedule.now.queries) }
 {
     let mut cursors = Cursors::restore(alloc, runs);
@@ -209,7 +217,7 @@ fn look(cursors: &Cursors, schedule: &Schedule, claimed: &[bool], rounds: u64) -
 {
     let mut none = 0u64;
     for _ in 0..rounds {
-        if cursors.next_due(schedule, claimed, 1030).is_none() {
+        if cursors.next_due(schedule, claimed, 0, 1030).is_none() {
             none = none.wrapping_add(1);
         }
     }

@@ -1,15 +1,18 @@
 -- What a run of each command does.
 use Rattle.std.specs.Prelude.{Bool, true, false}
 use Rattle.program_words.specs.declared.command.CommandWords.{CommandWords}
-use Rattle.program_words.specs.declared.command.CommandWords.TheVariants.{Replay as AsksReplay, Query as AsksQuery, Check as AsksCheck, Collect as AsksCollect}
+use Rattle.program_words.specs.declared.command.CommandWords.TheVariants.{Replay as AsksReplay, Query as AsksQuery, Check as AsksCheck, Collect as AsksCollect, Generate as AsksGenerate, SelfTest as AsksSelfTest, Report as AsksReport}
 use Rattle.program_words.specs.declared.command.QueryWords.{QueryWords}
 use Rattle.osq_program.specs.declared.status.Status.{Status}
 use Rattle.osq_program.specs.Checking.{IsCheck}
 use Rattle.osq_program.specs.Collecting.{IsCollect}
 use Rattle.osq_program.specs.Explaining.{IsExplain}
+use Rattle.osq_program.specs.Generating.{IsGenerate}
 use Rattle.osq_program.specs.Querying.{IsQuery}
 use Rattle.osq_program.specs.Replaying.{IsReplay}
+use Rattle.osq_program.specs.Reporting.{IsShown}
 use Rattle.osq_program.specs.Observed.{Observed}
+use Rattle.osq_program.specs.SelfTesting.{IsSelfTest}
 
 abbrev pub QueriesBy : Bool → QueryWords → Observed → Status → Type 0
 QueriesBy true words seen status = IsExplain (record { text = words.text }) seen status
@@ -23,3 +26,6 @@ MeetsCommand (AsksReplay words) seen status = IsReplay words seen status
 MeetsCommand (AsksQuery words) seen status = DoesQuery words seen status
 MeetsCommand (AsksCheck words) seen status = IsCheck words seen status
 MeetsCommand (AsksCollect words) seen status = IsCollect words seen status
+MeetsCommand (AsksGenerate words) seen status = IsGenerate words seen status
+MeetsCommand (AsksSelfTest words) seen status = IsSelfTest words seen status
+MeetsCommand (AsksReport words) seen status = IsShown seen status

@@ -43,13 +43,23 @@ struct Checked {
     notes: Bytes,
 }
 
-/// The lines of the schedule that a configuration gives the host.
-fn listing(alloc: Global, config: &Config, host: &Host, found: &[bool]) -> Result<Bytes, NoMemory>
+/// What is written of a configuration on a host, with lines of packs that are left out.
+fn texts_for(
+    alloc: Global,
+    config: &Config,
+    host: &Host,
+    found: &[bool],
+    left_out: &[u8],
+) -> Result<Checked, NoMemory>
     requires { length found.now ≡ length config.now.packs }
-    ensures { IfOk result (IsListing config.now host.now found.now) }
+    ensures lines { IfOk result (λ checked. IsListing config.now host.now found.now checked.lines) }
+    ensures notes { IfOk result (λ checked. AreNotes config.now host.now found.now left_out.now checked.notes) }
 {
     let schedule = schedule_of(alloc, config, host, found)?;
-    lines_of(alloc, schedule.queries.as_slice())
+    let queries = schedule.queries.as_slice();
+    let lines = lines_of(alloc, queries)?;
+    let notes = schedule_notes(alloc, config, host, found, queries, left_out)?;
+    Ok(Checked { lines, notes })
 }
 
 /// What is written of a configuration.
@@ -61,9 +71,8 @@ fn texts_of(alloc: Global, configured: &Configured, words: &CheckWords) -> Resul
     let host = host_of(alloc, &words.host, &words.platform, &words.agent)?;
     let found = all_found(alloc, config.packs.as_slice())?;
     let found = found.as_slice();
-    let lines = listing(alloc, config, &host, found)?;
-    let notes = schedule_notes(alloc, config, &host, found, configured.notes.as_slice())?;
-    Ok(Checked { lines, notes })
+    let checked = texts_for(alloc, config, &host, found, configured.notes.as_slice())?;
+    Ok(checked)
 }
 
 /// Writes the schedule of the configuration, and tells on the status stream what a session would tell of the configuration, or why nothing is

@@ -4,8 +4,10 @@ ghost use Rattle.std.specs.Prelude.{◌≡◌, ◌≢◌, ℕ, List, [], ◌∷�
 ghost use Rattle.program_words.specs.Bounds.{IsBounded, RunBounds};
 ghost use Rattle.program_words.specs.declared.command.CheckWords.{CheckWords};
 ghost use Rattle.program_words.specs.declared.command.CollectWords.{CollectWords};
+ghost use Rattle.program_words.specs.declared.command.GenerateWords.{GenerateWords};
 ghost use Rattle.program_words.specs.declared.command.QueryWords.{QueryWords};
-ghost use Rattle.program_words.specs.declared.command.CommandWords.TheVariants.{Check as AsksCheck, Collect as AsksCollect, Query as AsksQuery};
+ghost use Rattle.program_words.specs.declared.command.ReportWords.{ReportWords};
+ghost use Rattle.program_words.specs.declared.command.CommandWords.TheVariants.{Check as AsksCheck, Collect as AsksCollect, Generate as AsksGenerate, Query as AsksQuery, Report as AsksReport, SelfTest as AsksSelfTest};
 ghost use Rattle.program_words.specs.Commands.{sources_in};
 ghost use Rattle.osq_program.specs.Answers.{IsUsageStatus};
 ghost use Rattle.osq_program.specs.Doing.{MeetsCommand, DoesQuery};
@@ -13,10 +15,13 @@ ghost use Rattle.osq_program.specs.Doing.{MeetsCommand, DoesQuery};
 use crate::check::run_check;
 use crate::collect::run_collect;
 use crate::explain::run_explain;
+use crate::generate::run_generate;
 use crate::link::Link;
 use crate::outside::{Observes, Outside};
 use crate::query::run_query;
 use crate::replay::run_replay;
+use crate::reporting::run_report;
+use crate::self_test::run_self_test;
 use crate::status::Status;
 use batch_keeper::Keeper;
 use osq_outside::{Clock, Files, Sink, Source};
@@ -62,6 +67,9 @@ pub(crate) fn run_command<S: Source, O: Sink, F: Files, C: Clock, K: Keeper, L: 
         → outside.new ≡ record outside.old { results = outside.new.results; status = outside.new.status } }
     ensures check_unread { (check : CheckWords) → words.now ≡ AsksCheck check
         → (outside.new.sources ≡ outside.old.sources) × (outside.new.clock ≡ outside.old.clock) × (outside.new.keeper ≡ outside.old.keeper) }
+    ensures generate_unread { (generate : GenerateWords) → words.now ≡ AsksGenerate generate → outside.new ≡ record outside.old { results = outside.new.results; status = outside.new.status } }
+    ensures self_test_unread { (load : GenerateWords) → words.now ≡ AsksSelfTest load → outside.new ≡ record outside.old { results = outside.new.results; status = outside.new.status } }
+    ensures report_unread { (report : ReportWords) → words.now ≡ AsksReport report → outside.new ≡ record outside.old { results = outside.new.results; status = outside.new.status; keeper = outside.new.keeper } }
     ensures does { MeetsCommand words.now (⟦<Outside<S, O, F, C, K, L> as Observes>⟧.observed outside.old outside.new) result }
 {
     match words {
@@ -69,5 +77,8 @@ pub(crate) fn run_command<S: Source, O: Sink, F: Files, C: Clock, K: Keeper, L: 
         CommandWords::Query(words) => do_query(alloc, words, outside),
         CommandWords::Check(words) => run_check(alloc, words, outside),
         CommandWords::Collect(words) => run_collect(alloc, words, outside),
+        CommandWords::Generate(words) => run_generate(alloc, words, outside),
+        CommandWords::SelfTest(words) => run_self_test(alloc, words, outside),
+        CommandWords::Report(_) => run_report(alloc, outside),
     }
 }

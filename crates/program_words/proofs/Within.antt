@@ -7,23 +7,23 @@ use Rattle.std.proofs.lemmas.Option.{cond_some}
 use Rattle.std.proofs.lemmas.List.{length-append, length-map}
 use Rattle.std.proofs.lemmas.List.Sums.{length-filter, sum_by-cons}
 use Rattle.program_words.specs.declared.name.Name.{Name}
-use Rattle.program_words.specs.declared.name.Name.TheVariants.{Config, Host, Platform, Agent, Text, Audit, Changes, Tables, Start, Step, Ticks, Records, Explain, Frames, Ledger, Other}
+use Rattle.program_words.specs.declared.name.Name.TheVariants.{Config, Host, Platform, Agent, Text, Audit, Changes, Tables, Start, Step, Ticks, Records, Explain, Frames, Ledger, Store, From, Count, Other}
 use Rattle.program_words.specs.declared.name.Takes.{Takes}
 use Rattle.program_words.specs.declared.name.Takes.TheVariants.{Number}
 use Rattle.program_words.specs.declared.command.CommandName.{CommandName}
-use Rattle.program_words.specs.declared.command.CommandName.TheVariants.{Replay, Query, Check, Collect}
+use Rattle.program_words.specs.declared.command.CommandName.TheVariants.{Replay, Query, Check, Collect, Generate, SelfTest, Report}
 use Rattle.program_words.specs.declared.command.CommandWords.{CommandWords}
-use Rattle.program_words.specs.declared.command.CommandWords.TheVariants.{Replay as AsReplay, Query as AsQuery, Check as AsCheck, Collect as AsCollect}
+use Rattle.program_words.specs.declared.command.CommandWords.TheVariants.{Replay as AsReplay, Query as AsQuery, Check as AsCheck, Collect as AsCollect, Generate as AsGenerate, SelfTest as AsSelfTest, Report as AsReport}
 use Rattle.osq_value.specs.declared.source.SourceKind.{SourceKind}
 use Rattle.osq_value.specs.declared.source.SourceKind.TheVariants.{Audit as AuditLog, Changes as ChangeList, Tables as TableLines}
 use Rattle.osq_value.specs.Spelling.{value_of as digits_value}
 use Rattle.program_words.specs.Texts.{is_number, is_text, number_in}
 use Rattle.program_words.specs.Names.{is_source, place, same_name, takes}
 use Rattle.program_words.specs.Given.{Given, fits, is_named, none_repeats, options_of, number_of, number_or, number_taken, stands, value_of, value_or}
-use Rattle.program_words.specs.Commands.{are_options, asked_by, check_of, collect_of, command_named, command_with, has_few_sources, has_option, has_refused, has_required, is_right, paths_in, query_of, replay_of, required, sources_named, sources_of, words_of}
+use Rattle.program_words.specs.Commands.{are_options, asked_by, check_of, collect_of, command_named, command_with, has_few_sources, has_option, has_refused, generate_of, has_required, is_right, paths_in, query_of, replay_of, report_of, required, sources_named, sources_of, unsourced, words_of}
 use Rattle.program_words.proofs.Sources.{sources_own}
 use Rattle.program_words.proofs.Conditions.{first, second}
-use Rattle.program_words.specs.Bounds.{ArePathsBounded, ClockBounds, HostBounds, IsBounded, RunBounds}
+use Rattle.program_words.specs.Bounds.{ArePathsBounded, ClockBounds, GenerateBounds, HostBounds, IsBounded, RunBounds}
 
 abbrev Between : ℕ → ℕ → ℕ → Type 0
 Between least most n = (least ≤ n) × (n ≤ most)
@@ -86,6 +86,9 @@ kind_once Records = refl
 kind_once Explain = refl
 kind_once Frames = refl
 kind_once Ledger = refl
+kind_once Store = refl
+kind_once From = refl
+kind_once Count = refl
 kind_once Other = refl
 
 abbrev of_name : Name → Given → ℕ
@@ -188,8 +191,15 @@ run_within command gs rounds within (right, have, few, none) =
       sources_in = record { few = sources_within gs few; own_paths = sources_own command gs right none };
     }
 
+load_within : (gs : List Given) → GenerateBounds (generate_of gs)
+unfolding generate_of takes
+load_within gs =
+    let from = number_or-between 0 From gs 0 (2 ^ 63 - 1) refl (omega arith, omega arith) in
+    let count = number_or-between 1 Count gs 1 1000000 refl (omega arith, omega arith) in
+    record { from_in = omega arith; some_lines = count.0; lines_in = count.1 }
+
 asked_within : (command : CommandName) (gs : List Given) → Parts command gs → IsBounded (asked_by command gs)
-unfolding replay_of query_of check_of collect_of required takes IsBounded
+unfolding replay_of query_of check_of collect_of generate_of required takes IsBounded
 asked_within Replay gs parts =
     (run_within Replay gs 60 (omega arith, omega arith) parts, host_within Replay gs parts.0 (has_host Replay gs refl parts.1))
 asked_within Query gs parts = run_within Query gs 1000000 (omega arith, omega arith) parts
@@ -197,6 +207,9 @@ asked_within Check gs parts = host_within Check gs parts.0 (has_host Check gs re
 asked_within Collect gs parts =
     let ticks = number_or-between 1000000 Ticks gs 1 1000000 refl (omega arith, omega arith) in
     record { one = refl; some_ticks = ticks.0; ticks_in = ticks.1 }
+asked_within Generate gs parts = load_within gs
+asked_within SelfTest gs parts = load_within gs
+asked_within Report gs parts = tt
 
 asked_bounded : (gs : List Given) (refused : Bool) (named : Option CommandName) (command : CommandWords) → cond refused None (option_and_then (command_with gs) named) ≡ Some command → IsBounded command
 asked_bounded gs true named command is = absurd cc
@@ -212,11 +225,18 @@ words_bounded [] command is = absurd cc
 words_bounded (word ∷ words) command is =
     asked_bounded (options_of words) (has_refused (word ∷ words)) (command_named word) command is
 
+unsourced_bounded : (store : Option (List ℕ)) → ArePathsBounded (unsourced store)
+unfolding ArePathsBounded
+unsourced_bounded store =
+    (record { start_in = tt; step_in = omega arith }, record { few = omega arith; own_paths = λ i j d before within. absurd (omega arith) })
+
 pub paths_bounded : (command : CommandWords) → IsBounded command → ArePathsBounded (paths_in command)
 unfolding IsBounded ArePathsBounded
 paths_bounded (AsReplay words) bounded = (bounded.0.clock, bounded.0.sources_in)
 paths_bounded (AsQuery words) bounded = (bounded.clock, bounded.sources_in)
-paths_bounded (AsCheck words) bounded =
-    (record { start_in = tt; step_in = omega arith }, record { few = omega arith; own_paths = λ i j d before within. absurd (omega arith) })
+paths_bounded (AsCheck words) bounded = unsourced_bounded None
 paths_bounded (AsCollect words) bounded =
     (record { start_in = tt; step_in = omega arith }, record { few = omega (arith, bounded.one); own_paths = λ i j d before within. absurd (omega (arith, bounded.one)) })
+paths_bounded (AsGenerate words) bounded = unsourced_bounded None
+paths_bounded (AsSelfTest words) bounded = unsourced_bounded None
+paths_bounded (AsReport words) bounded = unsourced_bounded (Some words.store)

@@ -2,7 +2,8 @@
 use Rattle.std.specs.Prelude.{◌≡◌, ℕ, ◌≤◌, ◌<◌, ◌^◌, ◌≢◌, AllPairs, List, length, Option, IfSome}
 use Rattle.program_words.specs.declared.command.CollectWords.{CollectWords}
 use Rattle.program_words.specs.declared.command.CommandWords.{CommandWords}
-use Rattle.program_words.specs.declared.command.CommandWords.TheVariants.{Replay, Query, Check, Collect}
+use Rattle.program_words.specs.declared.command.CommandWords.TheVariants.{Replay, Query, Check, Collect, Generate, SelfTest, Report}
+use Rattle.program_words.specs.declared.command.GenerateWords.{GenerateWords}
 use Rattle.program_words.specs.declared.command.Paths.{Paths}
 use Rattle.osq_value.specs.declared.source.SourceName.{SourceName}
 
@@ -35,11 +36,20 @@ pub record CollectBounds (words : CollectWords) : Type 0 where
   pub some_ticks : 1 ≤ words.ticks
   pub ticks_in : words.ticks ≤ 1000000
 
+-- so many lines, behind a number
+pub record GenerateBounds (words : GenerateWords) : Type 0 where
+  pub from_in : words.from < 2 ^ 63
+  pub some_lines : 1 ≤ words.count
+  pub lines_in : words.count ≤ 1000000
+
 unfoldable pub IsBounded : CommandWords → Type 0
 IsBounded (Replay words) = RunBounds words.start words.step words.ticks words.records words.sources × HostBounds words.host
 IsBounded (Query words) = RunBounds words.start words.step words.ticks words.records words.sources
 IsBounded (Check words) = HostBounds words.host
 IsBounded (Collect words) = CollectBounds words
+IsBounded (Generate words) = GenerateBounds words
+IsBounded (SelfTest words) = GenerateBounds words
+IsBounded (Report words) = Unit {0}
 
 unfoldable pub ArePathsBounded : Paths → Type 0
 ArePathsBounded paths = ClockBounds paths.start paths.step × SourceBounds paths.sources

@@ -3,15 +3,17 @@ use Rattle.std.specs.Prelude.{ℕ, ◌++◌, ◌&&◌, ◌||◌, not, Bool, byte
 use Rattle.std.specs.List.{list_all, list_any}
 use Rattle.std.specs.Option.{option_map}
 use Rattle.program_words.specs.declared.name.Name.{Name}
-use Rattle.program_words.specs.declared.name.Name.TheVariants.{Config, Host, Platform, Agent, Text, Audit, Changes, Tables, Start, Step, Ticks, Records, Explain, Frames, Ledger}
+use Rattle.program_words.specs.declared.name.Name.TheVariants.{Config, Host, Platform, Agent, Text, Audit, Changes, Tables, Start, Step, Ticks, Records, Explain, Frames, Ledger, Store, From, Count}
 use Rattle.program_words.specs.declared.command.CommandName.{CommandName}
-use Rattle.program_words.specs.declared.command.CommandName.TheVariants.{Replay as ReplayName, Query as QueryName, Check as CheckName, Collect as CollectName}
+use Rattle.program_words.specs.declared.command.CommandName.TheVariants.{Replay as ReplayName, Query as QueryName, Check as CheckName, Collect as CollectName, Generate as GenerateName, SelfTest as SelfTestName, Report as ReportName}
 use Rattle.program_words.specs.declared.command.CommandWords.{CommandWords}
-use Rattle.program_words.specs.declared.command.CommandWords.TheVariants.{Replay, Query, Check, Collect}
+use Rattle.program_words.specs.declared.command.CommandWords.TheVariants.{Replay, Query, Check, Collect, Generate, SelfTest, Report}
 use Rattle.program_words.specs.declared.command.ReplayWords.{ReplayWords}
 use Rattle.program_words.specs.declared.command.QueryWords.{QueryWords}
 use Rattle.program_words.specs.declared.command.CheckWords.{CheckWords}
 use Rattle.program_words.specs.declared.command.CollectWords.{CollectWords}
+use Rattle.program_words.specs.declared.command.GenerateWords.{GenerateWords}
+use Rattle.program_words.specs.declared.command.ReportWords.{ReportWords}
 use Rattle.program_words.specs.declared.command.Paths.{Paths}
 use Rattle.osq_value.specs.declared.source.SourceKind.{SourceKind}
 use Rattle.osq_value.specs.declared.source.SourceKind.TheVariants.{Audit as AuditLog, Changes as ChangeList, Tables as TableLines}
@@ -26,7 +28,10 @@ command_named word =
     else (if bytes_eq word (codes "query") then Some QueryName
     else (if bytes_eq word (codes "check") then Some CheckName
     else (if bytes_eq word (codes "collect") then Some CollectName
-    else None)))
+    else (if bytes_eq word (codes "generate") then Some GenerateName
+    else (if bytes_eq word (codes "selftest") then Some SelfTestName
+    else (if bytes_eq word (codes "report") then Some ReportName
+    else None))))))
 
 -- the options that a command must have
 unfoldable pub required : CommandName → List Name
@@ -34,13 +39,19 @@ required ReplayName = Config ∷ Host ∷ []
 required QueryName = Text ∷ []
 required CheckName = Config ∷ Host ∷ []
 required CollectName = Frames ∷ Ledger ∷ []
+required GenerateName = From ∷ Count ∷ []
+required SelfTestName = From ∷ Count ∷ []
+required ReportName = Store ∷ []
 
 -- those that it may have
 unfoldable pub optional : CommandName → List Name
-optional ReplayName = Platform ∷ Agent ∷ Audit ∷ Changes ∷ Tables ∷ Start ∷ Step ∷ Ticks ∷ Records ∷ []
-optional QueryName = Config ∷ Audit ∷ Changes ∷ Tables ∷ Start ∷ Step ∷ Ticks ∷ Records ∷ Explain ∷ []
+optional ReplayName = Platform ∷ Agent ∷ Audit ∷ Changes ∷ Tables ∷ Store ∷ Start ∷ Step ∷ Ticks ∷ Records ∷ []
+optional QueryName = Config ∷ Audit ∷ Changes ∷ Tables ∷ Store ∷ Start ∷ Step ∷ Ticks ∷ Records ∷ Explain ∷ []
 optional CheckName = Platform ∷ Agent ∷ []
 optional CollectName = Ticks ∷ []
+optional GenerateName = []
+optional SelfTestName = []
+optional ReportName = []
 
 abbrev pub is_one_of : List Name → Name → Bool
 is_one_of names name = list_any (same_name name) names
@@ -89,6 +100,7 @@ replay_of gs = record {
   platform = value_or default_platform Platform gs;
   agent = value_or default_agent Agent gs;
   sources = sources_of gs;
+  store = value_of Store gs;
   start = number_of Start gs;
   step = number_or 60 Step gs;
   ticks = number_or 60 Ticks gs;
@@ -100,6 +112,7 @@ query_of gs = record {
   text = value_or [] Text gs;
   config = value_of Config gs;
   sources = sources_of gs;
+  store = value_of Store gs;
   start = number_of Start gs;
   step = number_or 60 Step gs;
   ticks = number_or 1000000 Ticks gs;
@@ -123,11 +136,20 @@ collect_of gs = record {
   ticks = number_or 1000000 Ticks gs;
 }
 
+unfoldable pub generate_of : List Given → GenerateWords
+generate_of gs = record { from = number_or 0 From gs; count = number_or 1 Count gs }
+
+unfoldable pub report_of : List Given → ReportWords
+report_of gs = record { store = value_or [] Store gs }
+
 abbrev pub asked_by : CommandName → List Given → CommandWords
 asked_by ReplayName gs = Replay (replay_of gs)
 asked_by QueryName gs = Query (query_of gs)
 asked_by CheckName gs = Check (check_of gs)
 asked_by CollectName gs = Collect (collect_of gs)
+asked_by GenerateName gs = Generate (generate_of gs)
+asked_by SelfTestName gs = SelfTest (generate_of gs)
+asked_by ReportName gs = Report (report_of gs)
 
 abbrev pub command_with : List Given → CommandName → Option CommandWords
 command_with gs command = if are_options command gs then Some (asked_by command gs) else None
@@ -148,12 +170,19 @@ words_of [] = None
 words_of (word ∷ words) =
     if has_refused (word ∷ words) then None else option_and_then (command_with (options_of words)) (command_named word)
 
--- the sources that a command names, with the moments of its clock and the file that it adds to
+-- a command that reads no source
+abbrev pub unsourced : Option (List ℕ) → Paths
+unsourced store = record { sources = []; store = store; start = None; step = 60; ledger = None }
+
+-- the sources that a command names, with the moments of its clock, the store that it keeps in, and the file that it adds to
 abbrev pub paths_in : CommandWords → Paths
-paths_in (Replay words) = record { sources = words.sources; start = words.start; step = words.step; ledger = None }
-paths_in (Query words) = record { sources = words.sources; start = words.start; step = words.step; ledger = None }
-paths_in (Check words) = record { sources = []; start = None; step = 60; ledger = None }
-paths_in (Collect words) = record { sources = words.sources; start = None; step = 60; ledger = Some words.ledger }
+paths_in (Replay words) = record { sources = words.sources; store = words.store; start = words.start; step = words.step; ledger = None }
+paths_in (Query words) = record { sources = words.sources; store = words.store; start = words.start; step = words.step; ledger = None }
+paths_in (Check words) = unsourced None
+paths_in (Collect words) = record { sources = words.sources; store = None; start = None; step = 60; ledger = Some words.ledger }
+paths_in (Generate words) = unsourced None
+paths_in (SelfTest words) = unsourced None
+paths_in (Report words) = unsourced (Some words.store)
 
 abbrev pub paths_of : List (List ℕ) → Option Paths
 paths_of words = option_map paths_in (words_of words)

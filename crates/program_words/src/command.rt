@@ -2,7 +2,7 @@
 
 ghost use Rattle.std.specs.Prelude.{◌≡◌, length, true};
 ghost use Rattle.std.specs.List.{list_all};
-ghost use Rattle.program_words.specs.Commands.{are_options, asked_by, command_named, has_few_sources, has_option, has_required, is_right, optional, paths_in, required, sources_in};
+ghost use Rattle.program_words.specs.Commands.{are_options, asked_by, command_named, has_few_sources, has_option, has_required, is_right, optional, paths_in, required, sources_in, unsourced};
 ghost use Rattle.program_words.specs.Left.{given, options_in};
 
 use crate::given::GivenOption;
@@ -18,6 +18,9 @@ pub(crate) enum CommandName {
     Query,
     Check,
     Collect,
+    Generate,
+    SelfTest,
+    Report,
 }
 
 impl CommandName {
@@ -31,6 +34,9 @@ impl CommandName {
             "query" => Some(CommandName::Query),
             "check" => Some(CommandName::Check),
             "collect" => Some(CommandName::Collect),
+            "generate" => Some(CommandName::Generate),
+            "selftest" => Some(CommandName::SelfTest),
+            "report" => Some(CommandName::Report),
             _ => None,
         }
     }
@@ -45,6 +51,8 @@ impl CommandName {
             CommandName::Query => &[Name::Text],
             CommandName::Check => &[Name::Config, Name::Host],
             CommandName::Collect => &[Name::Frames, Name::Ledger],
+            CommandName::Generate | CommandName::SelfTest => &[Name::From, Name::Count],
+            CommandName::Report => &[Name::Store],
         }
     }
 
@@ -60,6 +68,7 @@ impl CommandName {
                 Name::Audit,
                 Name::Changes,
                 Name::Tables,
+                Name::Store,
                 Name::Start,
                 Name::Step,
                 Name::Ticks,
@@ -70,6 +79,7 @@ impl CommandName {
                 Name::Audit,
                 Name::Changes,
                 Name::Tables,
+                Name::Store,
                 Name::Start,
                 Name::Step,
                 Name::Ticks,
@@ -78,6 +88,7 @@ impl CommandName {
             ],
             CommandName::Check => &[Name::Platform, Name::Agent],
             CommandName::Collect => &[Name::Ticks],
+            CommandName::Generate | CommandName::SelfTest | CommandName::Report => &[],
         }
     }
 
@@ -117,7 +128,10 @@ impl CommandName {
     {
         match self {
             CommandName::Replay | CommandName::Query => options.count_sources().unwrap_or(0),
-            CommandName::Check => 0,
+            CommandName::Check
+            | CommandName::Generate
+            | CommandName::SelfTest
+            | CommandName::Report => 0,
             CommandName::Collect => 1,
         }
     }
@@ -148,6 +162,8 @@ pub struct ReplayWords {
     pub agent: Str,
     /// The sources, in the order audit, changes, tables, each in the order of the words.
     pub sources: SourceNameList,
+    /// The path of the store, where the run begins with what one holds.
+    pub store: Option<Str>,
     /// The clock's first reading, where it isn't the machine's clock.
     pub start: Option<u64>,
     /// Seconds between two ticks of that clock.
@@ -167,6 +183,8 @@ pub struct QueryWords {
     pub config: Option<Str>,
     /// The sources, in the order audit, changes, tables, each in the order of the words.
     pub sources: SourceNameList,
+    /// The path of the store, where the run begins with what one holds.
+    pub store: Option<Str>,
     /// The clock's first reading, where it isn't the machine's clock.
     pub start: Option<u64>,
     /// Seconds between two readings of that clock.
@@ -203,6 +221,22 @@ pub struct CollectWords {
     pub ticks: u64,
 }
 
+/// The words of a load that is made.
+#[derive(Drop)]
+pub struct GenerateWords {
+    /// The number behind which the numbers of the lines stand.
+    pub from: u64,
+    /// How many lines are made.
+    pub count: u64,
+}
+
+/// The words of a look into a store.
+#[derive(Drop)]
+pub struct ReportWords {
+    /// The path of the store.
+    pub store: Str,
+}
+
 /// The words of a command.
 #[derive(Drop)]
 pub enum CommandWords {
@@ -214,19 +248,40 @@ pub enum CommandWords {
     Check(CheckWords),
     /// Records frames, and answers them.
     Collect(CollectWords),
+    /// Makes change lines.
+    Generate(GenerateWords),
+    /// Runs a session over such lines in memory.
+    SelfTest(GenerateWords),
+    /// Shows the values of a kept list.
+    Report(ReportWords),
 }
 
-/// What the program opens for a command: its sources, its clock, and the file that a ledger is added to.
+/// What the program opens for a command: its sources, its store, its clock, and the file that a ledger is added to.
 #[derive(Drop)]
 pub struct Paths {
     /// The sources, in the order audit, changes, tables, each in the order of the words; for a collector its one stream of frames.
     pub sources: SourceNameList,
+    /// The path of the store, where one is named; without one what the run keeps stands in memory.
+    pub store: Option<Str>,
     /// The clock's first reading, where it isn't the machine's clock.
     pub start: Option<u64>,
     /// Seconds between two readings of that clock.
     pub step: u64,
     /// The path of the ledger's file, where the command adds to one.
     pub ledger: Option<Str>,
+}
+
+/// What is opened for a command that reads no source.
+fn unsourced(alloc: Global, store: Option<Str>) -> Paths
+    ensures { result ≡ unsourced store }
+{
+    Paths {
+        sources: Sequence::new(alloc),
+        store,
+        start: None,
+        step: 60,
+        ledger: None,
+    }
 }
 
 impl CommandWords {
@@ -237,24 +292,25 @@ impl CommandWords {
         match self {
             CommandWords::Replay(words) => Paths {
                 sources: words.sources,
+                store: words.store,
                 start: words.start,
                 step: words.step,
                 ledger: None,
             },
             CommandWords::Query(words) => Paths {
                 sources: words.sources,
+                store: words.store,
                 start: words.start,
                 step: words.step,
                 ledger: None,
             },
-            CommandWords::Check(_) => Paths {
-                sources: Sequence::new(alloc),
-                start: None,
-                step: 60,
-                ledger: None,
-            },
+            CommandWords::Check(_) | CommandWords::Generate(_) | CommandWords::SelfTest(_) => {
+                unsourced(alloc, None)
+            }
+            CommandWords::Report(words) => unsourced(alloc, Some(words.store)),
             CommandWords::Collect(words) => Paths {
                 sources: words.sources,
+                store: None,
                 start: None,
                 step: 60,
                 ledger: Some(words.ledger),
@@ -269,7 +325,10 @@ impl CommandWords {
         match self {
             CommandWords::Replay(words) => words.sources.len(),
             CommandWords::Query(words) => words.sources.len(),
-            CommandWords::Check(_) => 0,
+            CommandWords::Check(_)
+            | CommandWords::Generate(_)
+            | CommandWords::SelfTest(_)
+            | CommandWords::Report(_) => 0,
             CommandWords::Collect(words) => words.sources.len(),
         }
     }

@@ -10,6 +10,9 @@ mod number;
 mod options;
 mod read;
 
-pub use command::{CheckWords, CollectWords, CommandWords, Paths, QueryWords, ReplayWords};
+pub use command::{
+    CheckWords, CollectWords, CommandWords, GenerateWords, Paths, QueryWords, ReplayWords,
+    ReportWords,
+};
 pub use error::WordsError;
 pub use read::{count_sources, paths_of, read_words};

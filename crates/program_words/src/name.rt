@@ -22,6 +22,9 @@ pub(crate) enum Name {
     Explain,
     Frames,
     Ledger,
+    Store,
+    From,
+    Count,
     /// The name of no option.
     Other,
 }
@@ -63,6 +66,9 @@ impl Name {
             "explain" => Name::Explain,
             "frames" => Name::Frames,
             "ledger" => Name::Ledger,
+            "store" => Name::Store,
+            "from" => Name::From,
+            "count" => Name::Count,
             _ => Name::Other,
         }
     }
@@ -80,11 +86,12 @@ impl Name {
             | Name::Changes
             | Name::Tables
             | Name::Frames
-            | Name::Ledger => Takes::AnyText,
+            | Name::Ledger
+            | Name::Store => Takes::AnyText,
             Name::Host => Takes::ShortText,
-            Name::Start => Takes::Number(0, i64::MAX as u64),
+            Name::Start | Name::From => Takes::Number(0, i64::MAX as u64),
             Name::Step => Takes::Number(0, 604800),
-            Name::Ticks | Name::Records => Takes::Number(1, 1000000),
+            Name::Ticks | Name::Records | Name::Count => Takes::Number(1, 1000000),
             Name::Explain => Takes::Nothing,
             Name::Other => Takes::Unknown,
         }

@@ -3,11 +3,12 @@
 ghost use Rattle.std.specs.Option.{option_map};
 ghost use Rattle.std.specs.Prelude.{◌≡◌, ◌↔◌, IfOk, IfSome, MatchOption, None, Some, Err, map, true};
 ghost use Rattle.program_words.specs.Bounds.{ArePathsBounded, IsBounded};
-ghost use Rattle.program_words.specs.Commands.{asked_by, check_of, collect_of, has_few_sources, has_refused, is_refused, paths_of, query_of, replay_of, sources_in, sources_of, words_of};
+ghost use Rattle.program_words.specs.Commands.{asked_by, check_of, collect_of, generate_of, has_few_sources, has_refused, is_refused, paths_of, query_of, replay_of, report_of, sources_in, sources_of, words_of};
 ghost use Rattle.program_words.specs.Left.{options_in};
 
 use crate::command::{
-    CheckWords, CollectWords, CommandName, CommandWords, Paths, QueryWords, ReplayWords,
+    CheckWords, CollectWords, CommandName, CommandWords, GenerateWords, Paths, QueryWords,
+    ReplayWords, ReportWords,
 };
 use crate::error::WordsError;
 use crate::name::Name;
@@ -85,6 +86,7 @@ fn replay_of(alloc: Global, options: OptionWords<'_, '_>) -> Result<ReplayWords,
         platform: options.text_or(alloc, PLATFORM, Name::Platform)?,
         agent: options.text_or(alloc, AGENT, Name::Agent)?,
         sources: sources_of(alloc, options)?,
+        store: options.text_of(alloc, Name::Store)?,
         start: options.number_of(Name::Start),
         step: options.number_or(STEP, Name::Step),
         ticks: options.number_or(60, Name::Ticks),
@@ -100,6 +102,7 @@ fn query_of(alloc: Global, options: OptionWords<'_, '_>) -> Result<QueryWords, N
         text: options.text_or(alloc, "", Name::Text)?,
         config: options.text_of(alloc, Name::Config)?,
         sources: sources_of(alloc, options)?,
+        store: options.text_of(alloc, Name::Store)?,
         start: options.number_of(Name::Start),
         step: options.number_or(STEP, Name::Step),
         ticks: options.number_or(ROUNDS, Name::Ticks),
@@ -136,6 +139,25 @@ fn collect_of(alloc: Global, options: OptionWords<'_, '_>) -> Result<CollectWord
     })
 }
 
+#[tactic(auto, unfolding(crate::specs::Commands::generate_of))]
+fn generate_of(options: OptionWords<'_, '_>) -> GenerateWords
+    ensures { result ≡ generate_of (options_in options.entry) }
+{
+    GenerateWords {
+        from: options.number_or(0, Name::From),
+        count: options.number_or(1, Name::Count),
+    }
+}
+
+#[tactic(auto, unfolding(crate::specs::Commands::report_of))]
+fn report_of(alloc: Global, options: OptionWords<'_, '_>) -> Result<ReportWords, NoMemory>
+    ensures { IfOk result (λ words. words ≡ report_of (options_in options.entry)) }
+{
+    Ok(ReportWords {
+        store: options.text_or(alloc, "", Name::Store)?,
+    })
+}
+
 fn asked_by(
     alloc: Global,
     command: CommandName,
@@ -148,6 +170,9 @@ fn asked_by(
         CommandName::Query => Ok(CommandWords::Query(query_of(alloc, options)?)),
         CommandName::Check => Ok(CommandWords::Check(check_of(alloc, options)?)),
         CommandName::Collect => Ok(CommandWords::Collect(collect_of(alloc, options)?)),
+        CommandName::Generate => Ok(CommandWords::Generate(generate_of(options))),
+        CommandName::SelfTest => Ok(CommandWords::SelfTest(generate_of(options))),
+        CommandName::Report => Ok(CommandWords::Report(report_of(alloc, options)?)),
     }
 }
 

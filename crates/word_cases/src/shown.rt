@@ -1,7 +1,10 @@
 //! Commands as text.
 
-use osq_value::{NoMemory, SourceKind, SourceNameList};
-use program_words::{CheckWords, CollectWords, CommandWords, Paths, QueryWords, ReplayWords};
+use osq_value::{NoMemory, SourceKind, SourceNameList, Str};
+use program_words::{
+    CheckWords, CollectWords, CommandWords, GenerateWords, Paths, QueryWords, ReplayWords,
+    ReportWords,
+};
 
 /// The most sources that are named.
 const MOST: usize = 8;
@@ -39,6 +42,14 @@ fn push_counts(text: &mut String, ticks: u64, records: u64) -> Result<(), NoMemo
     Ok(())
 }
 
+/// Adds the path of the store, where one is named.
+fn push_store(text: &mut String, store: &Option<Str>) -> Result<(), NoMemory> {
+    if let Some(path) = store {
+        write!(text, " store {}", path.as_str())?;
+    }
+    Ok(())
+}
+
 fn push_host(text: &mut String, host: &str, platform: &str, agent: &str) -> Result<(), NoMemory> {
     write!(text, " host {host} platform {platform} agent {agent}")?;
     Ok(())
@@ -54,6 +65,7 @@ fn push_replay(text: &mut String, words: &ReplayWords) -> Result<(), NoMemory> {
     )?;
     push_clock(text, words.start, words.step)?;
     push_counts(text, words.ticks, words.records)?;
+    push_store(text, &words.store)?;
     push_sources(text, &words.sources)
 }
 
@@ -70,6 +82,7 @@ fn push_query(text: &mut String, words: &QueryWords) -> Result<(), NoMemory> {
     )?;
     push_clock(text, words.start, words.step)?;
     push_counts(text, words.ticks, words.records)?;
+    push_store(text, &words.store)?;
     push_sources(text, &words.sources)
 }
 
@@ -93,6 +106,17 @@ fn push_collect(text: &mut String, words: &CollectWords) -> Result<(), NoMemory>
     push_sources(text, &words.sources)
 }
 
+/// Adds the words of a load, which a command of that name asks for.
+fn push_load(text: &mut String, name: &str, words: &GenerateWords) -> Result<(), NoMemory> {
+    write!(text, "{name} from {} count {}", words.from, words.count)?;
+    Ok(())
+}
+
+fn push_report(text: &mut String, words: &ReportWords) -> Result<(), NoMemory> {
+    write!(text, "report store {}", words.store.as_str())?;
+    Ok(())
+}
+
 /// Adds a command, without an end of the line.
 pub(crate) fn push_command(text: &mut String, command: &CommandWords) -> Result<(), NoMemory> {
     match command {
@@ -100,6 +124,9 @@ pub(crate) fn push_command(text: &mut String, command: &CommandWords) -> Result<
         CommandWords::Query(words) => push_query(text, words),
         CommandWords::Check(words) => push_check(text, words),
         CommandWords::Collect(words) => push_collect(text, words),
+        CommandWords::Generate(words) => push_load(text, "generate", words),
+        CommandWords::SelfTest(words) => push_load(text, "selftest", words),
+        CommandWords::Report(words) => push_report(text, words),
     }
 }
 
@@ -121,6 +148,7 @@ pub(crate) fn push_count(
 pub(crate) fn push_paths(text: &mut String, paths: &Paths) -> Result<(), NoMemory> {
     text.push_str("opens")?;
     push_clock(text, paths.start, paths.step)?;
+    push_store(text, &paths.store)?;
     push_sources(text, &paths.sources)?;
     if let Some(ledger) = &paths.ledger {
         write!(text, " ledger {}", ledger.as_str())?;

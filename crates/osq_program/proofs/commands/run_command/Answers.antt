@@ -13,3 +13,7 @@ do_query-requires-clause-bounded g c κs within = subst IsBounded c.in-Query.is 
 pub run_collect-requires-clause-bounded : goal.run_collect-requires-clause-bounded
 unfolding IsBounded
 run_collect-requires-clause-bounded g c κs within = subst IsBounded c.in-Collect.is c.requires.bounded
+
+pub run_self_test-requires-clause-bounded : goal.run_self_test-requires-clause-bounded
+unfolding IsBounded
+run_self_test-requires-clause-bounded g c κs within = subst IsBounded c.in-SelfTest.is c.requires.bounded

@@ -1,0 +1,142 @@
+//! The keeper over an open connection.
+
+ghost use Rattle.std.specs.Prelude.{◌≡◌};
+ghost use Rattle.osq_outside.specs.Causes.{FaultHasCause};
+ghost use Rattle.sqlite.specs.Held.{state};
+ghost use Rattle.keeper_sqlite.specs.Commits.{CommitsNothing, IsOneCommit};
+
+use crate::database::{make_all, show};
+use crate::stop::{Stop, told};
+use batch_keeper::{Keeper, KeeperError};
+use entry_model::entry::EntryList;
+use entry_model::restored::Restored;
+use kept_tables::{Found, changes_of, counts_of, has_layout, layout, restored_of};
+use sqlite::{Alter, Connection, Transaction};
+use std::alloc::Global;
+
+/// The keeper over an open connection. The first call that needs its tables makes them.
+pub struct ConnectionKeeper<S: Alter> {
+    conn: Connection<S>,
+    faults: u64,
+}
+
+// It is written out, so that the parts of a connection aren't dropped here again.
+impl<S: Alter + Drop> Drop for ConnectionKeeper<S> {
+    fn drop(self) {
+        let ConnectionKeeper { conn: _, faults: _ } = self;
+    }
+}
+
+impl<S: Alter> ConnectionKeeper<S> {
+    /// The keeper over this connection.
+    pub fn adopt(conn: Connection<S>) -> ConnectionKeeper<S>
+        ensures faults { result.faults ≡ 0 }
+        ensures conn { result.conn ≡ conn }
+    {
+        ConnectionKeeper { conn, faults: 0 }
+    }
+
+    /// The connection.
+    pub fn into_connection(self) -> Connection<S>
+        ensures { result ≡ self.conn }
+    {
+        let ConnectionKeeper { conn, faults: _ } = self;
+        conn
+    }
+}
+
+/// Makes the tables where there are none, and refuses those of another layout.
+#[tactic(auto, using(crate::proofs::Commits::same_commits_nothing, crate::proofs::Commits::nothing_then_nothing))]
+fn ready<S: Alter>(alloc: Global, tx: &mut Transaction<'_, S>) -> Result<(), Stop>
+    ensures same_reference { tx.new.conn.ghost_name ≡ tx.old.conn.ghost_name }
+    ensures survives { CommitsNothing (state S.Store tx.old.conn.now) (state S.Store tx.new.conn.now) }
+{
+    let names = show(alloc, tx, layout::NAMES)?;
+    if names.as_slice().is_empty() {
+        tx.execute_batch(layout::TABLES)?;
+        return Ok(());
+    }
+    let found = show(alloc, tx, layout::LAYOUT_OF)?;
+    if has_layout(&found) {
+        Ok(())
+    } else {
+        Err(Stop::Fault)
+    }
+}
+
+fn load_inside<S: Alter>(alloc: Global, tx: &mut Transaction<'_, S>) -> Result<Restored, Stop> {
+    ready(alloc, tx)?;
+    let counts = counts_of(&show(alloc, tx, layout::COUNTS)?)?;
+    let found = Found {
+        counts,
+        live: show(alloc, tx, layout::LIVE)?,
+        taken: show(alloc, tx, layout::TAKEN)?,
+        set: show(alloc, tx, layout::SET)?,
+        runs: show(alloc, tx, layout::RUNS)?,
+    };
+    Ok(restored_of(alloc, &found)?)
+}
+
+/// Makes the changes of a seal.
+#[tactic(auto, using(crate::proofs::Commits::same_commits_nothing, crate::proofs::Commits::nothing_then_nothing))]
+fn seal_inside<S: Alter>(
+    alloc: Global,
+    tx: &mut Transaction<'_, S>,
+    entries: &EntryList,
+) -> Result<(), Stop>
+    ensures same_reference { tx.new.conn.ghost_name ≡ tx.old.conn.ghost_name }
+    ensures survives { CommitsNothing (state S.Store tx.old.conn.now) (state S.Store tx.new.conn.now) }
+{
+    ready(alloc, tx)?;
+    let found = show(alloc, tx, layout::COUNTS)?;
+    let changes = changes_of(alloc, counts_of(&found)?, entries)?;
+    make_all(alloc, tx, &changes)
+}
+
+fn load<S: Alter>(alloc: Global, conn: &mut Connection<S>) -> Result<Restored, Stop> {
+    if !conn.is_autocommit() {
+        return Err(Stop::Fault);
+    }
+    let mut tx = conn.transaction();
+    let restored = load_inside(alloc, &mut tx)?;
+    tx.commit()?;
+    Ok(restored)
+}
+
+fn seal<S: Alter>(alloc: Global, conn: &mut Connection<S>, entries: &EntryList) -> Result<(), Stop>
+    ensures { IsOneCommit (state S.Store conn.old) (state S.Store conn.new) result }
+{
+    if !conn.is_autocommit() {
+        return Err(Stop::Fault);
+    }
+    let mut tx = conn.transaction();
+    seal_inside(alloc, &mut tx, entries)?;
+    tx.commit()?;
+    Ok(())
+}
+
+impl<S: Alter> Keeper for ConnectionKeeper<S> {
+    ghost use Rattle.std.specs.Prelude.{[]};
+
+    ghost tells = { ⊥ };
+
+    ghost kept = { λ _. [] };
+
+    ghost faults = { λ s. s.faults };
+
+    fn load(&mut self, alloc: Global) -> Result<Restored, KeeperError>
+        ensures cause { FaultHasCause KeeperError.Fault self.old.faults self.new.faults result }
+    {
+        let loaded = load(alloc, &mut self.conn);
+        told(&mut self.faults, loaded)
+    }
+
+    /// All that a call writes is one commit: a crash behind it leaves what it could leave before, or all of the entries.
+    fn seal(&mut self, alloc: Global, entries: &EntryList) -> Result<(), KeeperError>
+        ensures whole { IsOneCommit (state S.Store self.old.conn) (state S.Store self.new.conn) result }
+        ensures cause { FaultHasCause KeeperError.Fault self.old.faults self.new.faults result }
+    {
+        let sealed = seal(alloc, &mut self.conn, entries);
+        told(&mut self.faults, sealed)
+    }
+}

@@ -1,0 +1,112 @@
+//! Statements inside a transaction. What they leave is a matter of the tables alone: of the disk it is said that a statement lets a
+//! crash leave nothing new.
+
+ghost use Rattle.std.specs.Prelude.{◌≡◌};
+ghost use Rattle.keeper_sqlite.specs.Commits.{CommitsNothing};
+ghost use Rattle.sqlite.specs.Held.{state};
+
+use crate::stop::Stop;
+use kept_tables::changes::{Change, ChangeList, Parameter};
+use osq_value::{NoMemory, Row, RowList, Sequence, Str, Value};
+use sqlite::types::ValueRef;
+use sqlite::{Alter, Row as Shown, Transaction};
+use std::alloc::Global;
+use std::str;
+
+/// Makes the changes, one after another.
+#[tactic(auto, using(crate::proofs::Commits::same_commits_nothing, crate::proofs::Commits::nothing_then_nothing))]
+pub(crate) fn make_all<S: Alter>(
+    alloc: Global,
+    tx: &mut Transaction<'_, S>,
+    changes: &ChangeList,
+) -> Result<(), Stop>
+    ensures same_reference { tx.new.conn.ghost_name ≡ tx.old.conn.ghost_name }
+    ensures survives { CommitsNothing (state S.Store tx.old.conn.now) (state S.Store tx.new.conn.now) }
+{
+    for change in changes.as_slice() {
+        make(alloc, tx, change)?;
+    }
+    Ok(())
+}
+
+/// Makes one change.
+fn make<S: Alter>(alloc: Global, tx: &mut Transaction<'_, S>, change: &Change) -> Result<(), Stop>
+    ensures same_reference { tx.new.conn.ghost_name ≡ tx.old.conn.ghost_name }
+    ensures survives { CommitsNothing (state S.Store tx.old.conn.now) (state S.Store tx.new.conn.now) }
+{
+    let values = values_of(alloc, change.parameters.as_slice());
+    execute(tx, change.sql, values)
+}
+
+/// Runs a statement with these parameters, if there was memory for them.
+#[tactic(auto, using(crate::proofs::Commits::same_commits_nothing))]
+fn execute<S: Alter>(
+    tx: &mut Transaction<'_, S>,
+    sql: &str,
+    values: Result<Vec<ValueRef<'_>>, NoMemory>,
+) -> Result<(), Stop>
+    ensures same_reference { tx.new.conn.ghost_name ≡ tx.old.conn.ghost_name }
+    ensures survives { CommitsNothing (state S.Store tx.old.conn.now) (state S.Store tx.new.conn.now) }
+{
+    let values = values?;
+    tx.execute(sql, values.as_slice())?;
+    Ok(())
+}
+
+/// What the parameters stand for, as it lies in them.
+fn values_of(alloc: Global, parameters: &[Parameter]) -> Result<Vec<ValueRef<'_>>, NoMemory> {
+    let mut values = Vec::with_capacity(alloc, parameters.len())?;
+    for parameter in parameters {
+        values.push(value_of(parameter))?;
+    }
+    Ok(values)
+}
+
+fn value_of(parameter: &Parameter) -> ValueRef<'_> {
+    match parameter {
+        Parameter::Number(number) => ValueRef::Int(*number),
+        Parameter::Text(text) => ValueRef::Text(text.as_str().as_bytes()),
+        Parameter::List(text) => ValueRef::Text(text.as_slice()),
+    }
+}
+
+/// All rows of an answer.
+pub(crate) fn show<S: Alter>(
+    alloc: Global,
+    tx: &mut Transaction<'_, S>,
+    sql: &str,
+) -> Result<RowList, Stop>
+    ensures same_reference { tx.new.conn.ghost_name ≡ tx.old.conn.ghost_name }
+    ensures survives { CommitsNothing (state S.Store tx.old.conn.now) (state S.Store tx.new.conn.now) }
+{
+    let shown = tx.query_all(sql, &[])?;
+    rows_of(alloc, shown.as_slice())
+}
+
+fn rows_of(alloc: Global, shown: &[Shown]) -> Result<RowList, Stop> {
+    let mut rows = Sequence::with_capacity(alloc, shown.len())?;
+    for row in shown {
+        rows.push(row_of(alloc, row)?)?;
+    }
+    Ok(rows)
+}
+
+fn row_of(alloc: Global, shown: &Shown) -> Result<Row, Stop> {
+    let mut row = Row::with_capacity(alloc, shown.column_count())?;
+    for at in 0..shown.column_count() {
+        row.push(shown_value(alloc, shown.get_ref(at)?)?)?;
+    }
+    Ok(row)
+}
+
+fn shown_value(alloc: Global, shown: ValueRef<'_>) -> Result<Value, Stop> {
+    match shown {
+        ValueRef::Null => Ok(Value::Null),
+        ValueRef::Int(number) => Ok(Value::Int(number)),
+        ValueRef::Text(bytes) => match str::from_utf8(bytes) {
+            Ok(text) => Ok(Value::Text(Str::of(alloc, text)?)),
+            Err(_) => Err(Stop::Fault),
+        },
+        _ => Err(Stop::Fault),
+    }
+}

@@ -1,0 +1,23 @@
+//! Why rows give no values.
+
+use osq_value::NoMemory;
+
+/// Why the rows of the tables give no values.
+#[derive(Clone, Copy)]
+pub enum TableError {
+    /// A row isn't one that a seal writes.
+    Unreadable,
+    /// Memory was wanting.
+    NoMemory,
+}
+
+impl From<NoMemory> for TableError {
+    ghost use Rattle.std.specs.Prelude.{◌≡◌};
+    ghost use Rattle.kept_tables.specs.declared.error.TableError.TheVariants as fault;
+
+    ghost from_gives = { λ _ e. e ≡ fault.NoMemory };
+
+    fn from(_error: NoMemory) -> Self {
+        TableError::NoMemory
+    }
+}

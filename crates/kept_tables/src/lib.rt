@@ -1,0 +1,19 @@
+//! What a database keeps of a list of entries: its tables, what a seal changes in them, and the values that their rows stand for.
+//! Nothing here has a connection.
+#![tactic(auto)]
+
+pub mod changes;
+pub mod counts;
+mod error;
+pub mod layout;
+pub mod lists;
+mod parts;
+pub mod restoring;
+mod sealing;
+mod values;
+
+pub use changes::{Change, ChangeList, Parameter};
+pub use counts::{Counts, counts_of, has_layout};
+pub use error::TableError;
+pub use restoring::{Found, restored_of};
+pub use sealing::changes_of;

@@ -1,0 +1,130 @@
+-- From what the parts of `selftest` ensure to what it does.
+use Rattle.std.proofs.Common.{◌≡◌, ◌≤◌, ◌<◌, ◌+◌, ◌-◌, ◌/◌, ◌^◌, ◌++◌, ℕ, arith, List, [], ◌∷◌, length, codes, min, take, true, Some, refl, sym, ap, ◌∙◌, subst}
+use Rattle.std.specs.Prelude.{IfOk, Result, Ok, Err}
+use Rattle.std.proofs.lemmas.Option.{same_Some}
+use Rattle.osq_value.specs.declared.source.SourceKind.TheVariants.{Changes}
+use Rattle.osq_outside.specs.declared.clock.StepClock.{StepClock}
+use Rattle.osq_outside.specs.declared.files.NamedFile.{NamedFile}
+use Rattle.osq_outside.specs.NamedFile.{text_at}
+use Rattle.generated_changes.specs.Generated.{lines_of}
+use Rattle.kept_report.specs.Counting.{numbers_in, numbers_line}
+use Rattle.program_words.specs.declared.command.GenerateWords.{GenerateWords}
+use Rattle.program_words.specs.declared.command.ReplayWords.{ReplayWords}
+use Rattle.program_words.specs.Bounds.{RunBounds}
+use Rattle.session_model.specs.Given.{Given}
+use Rattle.replay_rounds.specs.declared.running.Ended.{Ended}
+use Rattle.replay_rounds.specs.Fixed.{Fixed}
+use Rattle.replay_rounds.specs.Running.{HasRun, ReadsAll}
+use Rattle.entry_model.specs.declared.entry.Entry.{Entry}
+use Rattle.osq_program.specs.declared.status.Status.{Status}
+use Rattle.osq_program.specs.declared.status.Status.TheVariants.{Ok as Done, SinkFault, OutOfMemory}
+use Rattle.osq_program.specs.Answers.{IsDoneStatus}
+use Rattle.osq_program.specs.Observed.{Observed}
+use Rattle.osq_program.specs.Replaying.{IsReplayGiven}
+use Rattle.osq_program.specs.SelfTesting.{HasRunOver, HasTested, IsSelfGiven, IsSelfTest, config_path, document, readings_from, self_fixed, self_key, self_words}
+use Rattle.osq_program.specs.Setups.{host_in, sources_named}
+
+-- the same run, told by another property of the readings
+pub read_as : (x : Fixed) (p q : List ℕ → Type 0) (ticks : ℕ) (kept : List Entry) (written : List ℕ) (ended : Ended) → ((readings : List ℕ) → p readings → q readings) → HasRun x p ticks kept written ended → HasRun x q ticks kept written ended
+read_as x p q ticks kept written ended more run =
+    record {
+      readings = run.readings;
+      entries = run.entries;
+      read = more run.readings run.read;
+      count = run.count;
+      grows = run.grows;
+      told = run.told;
+      covered = run.covered;
+      answered = run.answered;
+      settled = run.settled;
+      events = run.events;
+      batches = run.batches;
+      acknowledged = run.acknowledged;
+      present = run.present;
+      whole = run.whole;
+      more = run.more;
+    }
+
+-- the configuration is the one file
+pub self_file : (files : List NamedFile) (path text : List ℕ) → files ≡ (record { path = path; text = text }) ∷ [] → path ≡ config_path → text ≡ document → text_at files config_path ≡ Some document
+self_file files path text is path_is text_is =
+    ap (λ (fs : List NamedFile). text_at fs config_path) is ∙ ap (λ (p : List ℕ). text_at ((record { path = p; text = text }) ∷ []) config_path) path_is ∙ ap (λ (t : List ℕ). Some t) text_is
+
+-- what the session was given
+pub self_given : (lines : List ℕ) (count start : ℕ) (words : ReplayWords) (seen : Observed) (given : Given) → words ≡ self_words count start → seen.files_tell → seen.file config_path ≡ Some document → seen.all_bytes ≡ lines ∷ [] → IsReplayGiven words seen given → IsSelfGiven lines count start given
+self_given lines count start words seen given is tells file bytes found =
+    let path : words.config ≡ config_path = ap (λ (w : ReplayWords). w.config) is in
+    record {
+      notes = found.notes;
+      configured = found.configured.holds;
+      document_is = same_Some _ _ (sym (found.configured.found tells) ∙ ap seen.file path ∙ file);
+      host = found.host ∙ ap host_in is;
+      sources = found.sources ∙ ap (λ (w : ReplayWords). sources_named w.sources seen.all_bytes) is ∙ ap (λ (all : List (List ℕ)). sources_named ((record { kind = Changes; name = codes "generated" }) ∷ []) all) bytes;
+      records = found.records ∙ ap (λ (w : ReplayWords). w.records) is;
+    }
+
+pub self_count : (count start : ℕ) (words : ReplayWords) → words ≡ self_words count start → length words.sources ≡ 1
+self_count count start words is = ap (λ (w : ReplayWords). length w.sources) is
+
+pub self_bounded : (count start : ℕ) (words : ReplayWords) → count ≤ 1000000 → start < 2 ^ 63 → words ≡ self_words count start → RunBounds words.start words.step words.ticks words.records words.sources
+self_bounded count start words few early is =
+    subst (λ (w : ReplayWords). RunBounds w.start w.step w.ticks w.records w.sources) (sym is) (record {
+      clock = record { start_in = early; step_in = omega arith };
+      some_ticks = omega arith;
+      ticks_in = omega arith;
+      some_records = omega arith;
+      records_in = omega arith;
+      sources_in = record { few = omega arith; own_paths = λ i j d before within. absurd (omega arith) };
+    })
+
+abbrev pub steps : StepClock → ℕ → StepClock → Type 0
+steps before moment after = (moment ≡ before.next) × (after ≡ record before { next = min (before.next + before.step) (2 ^ 64 - 1) })
+
+-- the readings of its clock
+pub readings_are : (clock : StepClock) (readings : List ℕ) (after : StepClock) → clock.step ≡ 60 → ReadsAll steps clock readings after → readings ≡ readings_from clock.next (length readings)
+readings_are clock [] after step reads = refl
+readings_are clock (reading ∷ rest) after step (between, (first, next), others) =
+    let still : between.step ≡ 60 = ap (λ (c : StepClock). c.step) next ∙ step in
+    let moved : between.next ≡ min (clock.next + 60) (2 ^ 64 - 1) = ap (λ (c : StepClock). c.next) next ∙ ap (λ (s : ℕ). min (clock.next + s) (2 ^ 64 - 1)) step in
+    ap (λ (r : ℕ). r ∷ rest) first ∙ ap (λ (rs : List ℕ). clock.next ∷ rs) (readings_are between rest after still others ∙ ap (λ (n : ℕ). readings_from n (length rest)) moved)
+
+-- from one list to another a session ran over these lines
+pub ran_over : (lines : List ℕ) (count start : ℕ) (before kept after : List Entry) (words : ReplayWords) (clock read : StepClock) (given : Given) (ended : Ended) → IsSelfGiven lines count start given → ended.is_end ≡ true → words ≡ self_words count start → kept ≡ before → clock ≡ record { next = start; step = 60 }
+    → HasRun (self_fixed given kept) (λ readings. ReadsAll steps clock readings read) words.ticks after [] ended → HasRunOver lines count start before after
+ran_over lines count start before kept after words clock read given ended is whole words_is kept_is clock_is run =
+    let p : List ℕ → Type 0 = λ readings. readings ≡ readings_from start (length readings) in
+    let told : HasRun (self_fixed given kept) p words.ticks after [] ended =
+    read_as (self_fixed given kept) (λ readings. ReadsAll steps clock readings read) p words.ticks after [] ended (λ readings reads. readings_are clock readings read (ap (λ (c : StepClock). c.step) clock_is) reads ∙ ap (λ (c : StepClock). readings_from c.next (length readings)) clock_is) run
+    in
+    let ticked : HasRun (self_fixed given kept) p (count / 100 + 2) after [] ended = subst (λ (t : ℕ). HasRun (self_fixed given kept) p t after [] ended) (ap (λ (w : ReplayWords). w.ticks) words_is) told in
+    record {
+      given = given;
+      is = is;
+      ended = ended;
+      whole = whole;
+      run = subst (λ (k : List Entry). HasRun (self_fixed given k) p (count / 100 + 2) after [] ended) kept_is ticked;
+    }
+
+-- the line of the list that the session left
+pub line_tested : {E : Type 0} (w : GenerateWords) (kept : List Entry) (result : Result (List ℕ) E) → HasRunOver (lines_of w.from w.count) w.count 1000 [] kept → IfOk result (λ line. line ≡ numbers_line (numbers_in self_key kept)) → IfOk result (HasTested w)
+line_tested w kept (Ok line) ran is = record { kept = kept; ran = ran; are = is }
+line_tested w kept (Err e) ran is = is
+
+-- of a session over the generated lines, behind a list that was empty
+pub session_tested : {E : Type 0} (w : GenerateWords) (lines : List ℕ) (before kept : List Entry) (status : Status) (result : Result (List ℕ) E) → (IsDoneStatus status → HasRunOver lines w.count 1000 before kept) → status ≡ Done
+    → lines ≡ lines_of w.from w.count → before ≡ [] → IfOk result (λ line. line ≡ numbers_line (numbers_in self_key kept)) → IfOk result (HasTested w)
+session_tested w lines before kept status result ran done lines_are empty is =
+    line_tested w kept result
+    (subst (λ (b : List Entry). HasRunOver (lines_of w.from w.count) w.count 1000 b kept) empty
+    (subst (λ (ls : List ℕ). HasRunOver ls w.count 1000 before kept) lines_are (ran (subst IsDoneStatus (sym done) tt)))) is
+
+pub tested_whole : (w : GenerateWords) (seen : Observed) (line : List ℕ) → HasTested w line → (seen.sink_tells → seen.results_after ≡ seen.results_before ++ line) → (seen.sink_tells → seen.status_after ≡ seen.status_before) → IsSelfTest w seen Done
+tested_whole w seen line has all quiet = record { leaves = (line, has, all); quiet = λ done. quiet; unspent = λ spent. spent; cause = λ refusal. absurd refusal }
+
+pub tested_partly : (w : GenerateWords) (seen : Observed) (line : List ℕ) → HasTested w line → (seen.sink_tells → (count : ℕ) × (seen.results_after ≡ seen.results_before ++ take count line)) → seen.results_failed → (r : Status) → r ≡ SinkFault → IsSelfTest w seen r
+tested_partly w seen line has front failed r is =
+    subst (IsSelfTest w seen) (sym is) (record { leaves = (line, has, front); quiet = λ done. absurd done; unspent = λ spent. spent; cause = λ refusal. failed })
+
+pub untested : (w : GenerateWords) (seen : Observed) → (seen.sink_tells → seen.results_after ≡ seen.results_before) → (r : Status) → r ≡ OutOfMemory → IsSelfTest w seen r
+untested w seen same r is =
+    subst (IsSelfTest w seen) (sym is) (record { leaves = same; quiet = λ done. absurd done; unspent = λ spent. spent; cause = λ refusal. tt })
