@@ -1,1 +1,2 @@
-mod Owners
+pub mod Owners
+pub mod Sent
