@@ -1,1 +1,7 @@
+pub mod Columns
+pub mod Counting
 pub mod Lists
+pub mod Loads
+pub mod Reads
+pub mod Rows
+pub mod Shows

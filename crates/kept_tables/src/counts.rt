@@ -1,5 +1,12 @@
 //! The counts of a kept list, which lie in one row.
 
+ghost use Rattle.std.specs.Prelude.{◌≡◌, map};
+ghost use Rattle.std.specs.Option.{ok_or};
+ghost use Rattle.change_records.specs.Rows.{all_there};
+ghost use Rattle.kept_tables.specs.declared.error.TableError.TheVariants as fault;
+ghost use Rattle.kept_tables.specs.Columns.{number_at};
+ghost use Rattle.kept_tables.specs.Counting.{columns, counts_in, counts_shown, is_layout};
+
 use crate::error::TableError;
 use crate::layout::LAYOUT;
 use crate::values::number_at;
@@ -27,26 +34,48 @@ pub struct Counts {
 }
 
 /// The tables have this layout, where these rows show its number.
-pub fn has_layout(found: &RowList) -> bool {
+pub fn has_layout(found: &RowList) -> bool
+    ensures { result ≡ is_layout found.now }
+{
     match found.get(0) {
-        Some(row) => matches!(number_at(row, 0), Ok(LAYOUT)),
+        Some(row) => number_at(row, 0) == Some(LAYOUT),
         None => false,
     }
 }
 
 /// The counts that these rows show.
-pub fn counts_of(found: &RowList) -> Result<Counts, TableError> {
-    match found.get(0) {
-        Some(row) => counts_in(row),
-        None => Err(TableError::Unreadable),
-    }
+pub fn counts_of(found: &RowList) -> Result<Counts, TableError>
+    ensures { result ≡ ok_or (counts_shown found.now) fault.Unreadable }
+{
+    shown_by(found).ok_or(TableError::Unreadable)
 }
 
-fn counts_in(row: &Row) -> Result<Counts, TableError> {
-    let mut numbers = [0; 10];
-    for at in 0..10 {
-        numbers[at] = number_at(row, at)?;
-    }
+fn shown_by(found: &RowList) -> Option<Counts>
+    ensures { result ≡ counts_shown found.now }
+{
+    counts_in(found.get(0)?)
+}
+
+fn numbers_in(row: &Row) -> Option<[u64; 10]>
+    ensures { result ≡ all_there (map (number_at row.now) columns) }
+{
+    Some([
+        number_at(row, 0)?,
+        number_at(row, 1)?,
+        number_at(row, 2)?,
+        number_at(row, 3)?,
+        number_at(row, 4)?,
+        number_at(row, 5)?,
+        number_at(row, 6)?,
+        number_at(row, 7)?,
+        number_at(row, 8)?,
+        number_at(row, 9)?,
+    ])
+}
+
+fn counts_in(row: &Row) -> Option<Counts>
+    ensures { result ≡ counts_in row.now }
+{
     let [
         position,
         sessions,
@@ -58,8 +87,8 @@ fn counts_in(row: &Row) -> Result<Counts, TableError> {
         batches,
         acked,
         parts,
-    ] = numbers;
-    Ok(Counts {
+    ] = numbers_in(row)?;
+    Some(Counts {
         position,
         sessions,
         moment,

@@ -7,9 +7,12 @@ pub mod counts;
 mod error;
 pub mod layout;
 pub mod lists;
+pub mod live;
 mod parts;
 pub mod restoring;
 mod sealing;
+pub mod shown;
+mod tables;
 mod values;
 
 pub use changes::{Change, ChangeList, Parameter};

@@ -1,8 +1,9 @@
 //! Lists as texts of JSON, written item by item and read back.
 
-ghost use Rattle.std.specs.Prelude.{◌≡◌, ℕ, List, [], ◌∷◌, ◌++◌, map, Some, IfOk, IfSome, OnOk, length, ◌==◌};
+ghost use Rattle.std.specs.Prelude.{◌≡◌, ℕ, List, [], ◌∷◌, ◌++◌, map, Some, IfOk, IfSome, OnOk, length, ◌==◌, nat_le};
 ghost use Rattle.std.specs.List.{AllByRecursion};
 ghost use Rattle.result_batches.specs.Json.{array};
+ghost use Rattle.kept_tables.specs.declared.lists.TheConstants.{FULL};
 ghost use Rattle.kept_tables.specs.Lists.{opened};
 
 use batch_frames::spelled::Spelled;
@@ -45,7 +46,9 @@ impl ListText {
     }
 
     /// The next list should begin.
-    pub fn is_full(&self) -> bool {
+    pub fn is_full(&self) -> bool
+        ensures { result ≡ nat_le FULL (length self.now) }
+    {
         self.text.len() >= FULL
     }
 

@@ -1,12 +1,20 @@
 //! The values that the rows of the tables stand for.
 
+ghost use Rattle.std.specs.Prelude.{◌≡◌, ℕ, List, Ok, Some, option_and_then};
+ghost use Rattle.pack_rules.specs.declared.schedule.QueryKey.{QueryKey as Key};
+ghost use Rattle.kept_tables.specs.Columns.{number_at, text_at};
+ghost use Rattle.kept_tables.specs.Reads.{Gives};
+ghost use Rattle.kept_tables.specs.Rows.{mode_in, ShowsKey};
+ghost use Rattle.kept_tables.specs.Shows.{Shows};
+
 use crate::counts::Counts;
 use crate::error::TableError;
-use crate::values::{byte_at, list_at, number_at, text_at};
-use entry_model::restored::{
-    Live, LiveList, Restored, Run, RunList, SetTable, SetTableList, Taken, TakenList,
-};
-use osq_value::{Copied, Row, RowList, Sequence, TableId};
+use crate::live::{LivePart, live_of};
+use crate::shown::{Shown, all_of};
+use crate::tables::tables_of;
+use crate::values::{number_at, text_at};
+use entry_model::restored::{Restored, Run, RunList, SetTableList, Taken, TakenList};
+use osq_value::{Copied, Row, RowList, Sequence, Str};
 use pack_rules::schedule::{Mode, QueryKey};
 use std::alloc::Global;
 
@@ -26,18 +34,23 @@ pub struct Found {
 }
 
 /// The values of the list that the tables stand for.
-pub fn restored_of(alloc: Global, found: &Found) -> Result<Restored, TableError> {
+pub fn restored_of(alloc: Global, found: &Found) -> Result<Restored, TableError>
+    ensures { (values : Restored) → Shows found.now values → Gives values result }
+{
+    let parts: Sequence<LivePart> = all_of(alloc, &found.live)?;
+    let set: SetTableList = all_of(alloc, &found.set)?;
+    let taken: TakenList = all_of(alloc, &found.taken)?;
+    let runs: RunList = all_of(alloc, &found.runs)?;
+    let floors = found.counts.floors;
+    let live = live_of(alloc, &floors, parts)?;
+    let tables = tables_of(alloc, &set)?;
     let counts = &found.counts;
-    let live = live_of(alloc, counts.floors, &found.live)?;
-    let taken = taken_of(alloc, &found.taken)?;
-    let tables = tables_of(alloc, &found.set)?;
-    let runs = runs_of(alloc, &found.runs)?;
     Ok(Restored {
         position: counts.position,
         sessions: counts.sessions,
         moment: counts.moment,
         last: counts.last,
-        floors: counts.floors,
+        floors,
         live,
         taken,
         tables,
@@ -47,117 +60,81 @@ pub fn restored_of(alloc: Global, found: &Found) -> Result<Restored, TableError>
     })
 }
 
-fn live_of(alloc: Global, floors: [u64; 3], found: &RowList) -> Result<LiveList, TableError> {
-    let mut live = Vec::new(alloc);
-    for row in found.as_slice() {
-        add_part(alloc, &mut live, floors, row)?;
-    }
-    // The parts of one entry's tables lie behind one another, while their numbers may alternate.
-    match live.sort_by_key(|event: &Live| event.number) {
-        Ok(()) => Ok(Sequence::from_vec(live)),
-        Err(_) => Err(TableError::NoMemory),
+/// A row has the offset of a source.
+impl Shown for Taken {
+    ghost use Rattle.kept_tables.specs.Rows.{taken_row};
+
+    ghost shown = { taken_row };
+
+    ghost is_held = { λ taken. Unit {0} };
+
+    fn of_row(alloc: Global, row: &Row) -> Result<Self, TableError> {
+        let source = text_in(alloc, row, 0)?;
+        let offset = number_in(row, 1)?;
+        Ok(Taken { source, offset })
     }
 }
 
-/// Adds the events of a part that are not gone.
-fn add_part(
-    alloc: Global,
-    live: &mut Vec<Live>,
-    floors: [u64; 3],
-    row: &Row,
-) -> Result<(), TableError> {
-    let table = TableId(byte_at(row, 0)?);
-    let moment = number_at(row, 1)?;
-    let Some(floor) = floors.get(usize::from(table.0)) else {
-        return Err(TableError::Unreadable);
-    };
-    let numbers: Sequence<u64> = list_at(alloc, row, 2)?;
-    let rows: RowList = list_at(alloc, row, 3)?;
-    if numbers.len() != rows.len() {
-        return Err(TableError::Unreadable);
-    }
-    for (number, row) in numbers.into_vec().into_iter().zip(rows.into_vec()) {
-        if number > *floor {
-            add_live(
-                alloc,
-                live,
-                Live {
-                    number,
-                    table,
-                    moment,
-                    row,
-                },
-            )?;
-        }
-    }
-    Ok(())
-}
+/// A row has the last batch of a query.
+impl Shown for Run {
+    ghost use Rattle.kept_tables.specs.Rows.{run_row};
 
-/// Adds an event, whose values are shared from now on.
-fn add_live(alloc: Global, live: &mut Vec<Live>, event: Live) -> Result<(), TableError> {
-    let row = event.row.shared(alloc)?;
-    match live.push(Live { row, ..event }) {
-        Ok(()) => Ok(()),
-        Err(_) => Err(TableError::NoMemory),
+    ghost shown = { run_row };
+
+    ghost is_held = { λ run. Unit {0} };
+
+    fn of_row(alloc: Global, row: &Row) -> Result<Self, TableError> {
+        let key = key_of(alloc, row)?;
+        let number = number_in(row, 3)?;
+        let hi = number_in(row, 4)?;
+        let moment = number_in(row, 5)?;
+        let count = number_in(row, 6)?;
+        Ok(Run {
+            key,
+            number,
+            hi,
+            moment,
+            count,
+        })
     }
 }
 
-fn taken_of(alloc: Global, found: &RowList) -> Result<TakenList, TableError> {
-    let mut taken = Sequence::new(alloc);
-    for row in found.as_slice() {
-        let source = text_at(row, 0)?.copy(alloc)?;
-        let offset = number_at(row, 1)?;
-        taken.push(Taken { source, offset })?;
+fn number_in(row: &Row, at: usize) -> Result<u64, TableError>
+    ensures { (number : ℕ) → number_at row.now at ≡ Some number → result ≡ Ok number }
+{
+    match number_at(row, at) {
+        Some(number) => Ok(number),
+        None => Err(TableError::Unreadable),
     }
-    Ok(taken)
 }
 
-fn tables_of(alloc: Global, found: &RowList) -> Result<SetTableList, TableError> {
-    let mut tables = Sequence::new(alloc);
-    for row in found.as_slice() {
-        let table = TableId(byte_at(row, 0)?);
-        add_rows(&mut tables, table, list_at(alloc, row, 1)?)?;
+fn text_in(alloc: Global, row: &Row, at: usize) -> Result<Str, TableError>
+    ensures { (text : List ℕ) → text_at row.now at ≡ Some text → Gives text result }
+{
+    match text_at(row, at) {
+        Some(text) => Ok(text.copy(alloc)?),
+        None => Err(TableError::Unreadable),
     }
-    Ok(tables)
 }
 
-/// Adds rows to the last table, or to the next one.
-fn add_rows(tables: &mut SetTableList, table: TableId, rows: RowList) -> Result<(), TableError> {
-    if let Some(last) = tables.as_mut_slice().last_mut() {
-        if last.table.0 == table.0 {
-            last.rows.append(rows)?;
-            return Ok(());
-        }
+/// What a query is known by, which stands in the first three columns.
+fn key_of(alloc: Global, row: &Row) -> Result<QueryKey, TableError>
+    ensures { (key : QueryKey) → ShowsKey row.now key → Gives key result }
+{
+    let name = text_in(alloc, row, 0)?;
+    let text = text_in(alloc, row, 1)?;
+    match mode_of(row) {
+        Some(mode) => Ok(QueryKey::read(name, text, mode)),
+        None => Err(TableError::Unreadable),
     }
-    tables.push(SetTable { table, rows })?;
-    Ok(())
 }
 
-fn runs_of(alloc: Global, found: &RowList) -> Result<RunList, TableError> {
-    let mut runs = Sequence::new(alloc);
-    for row in found.as_slice() {
-        runs.push(run_of(alloc, row)?)?;
+fn mode_of(row: &Row) -> Option<Mode>
+    ensures { result ≡ option_and_then mode_in (number_at row.now 2) }
+{
+    match number_at(row, 2)? {
+        0 => Some(Mode::Evented),
+        1 => Some(Mode::Snapshot),
+        _ => None,
     }
-    Ok(runs)
-}
-
-fn run_of(alloc: Global, row: &Row) -> Result<Run, TableError> {
-    Ok(Run {
-        key: key_of(alloc, row)?,
-        number: number_at(row, 3)?,
-        hi: number_at(row, 4)?,
-        moment: number_at(row, 5)?,
-        count: number_at(row, 6)?,
-    })
-}
-
-fn key_of(alloc: Global, row: &Row) -> Result<QueryKey, TableError> {
-    let name = text_at(row, 0)?.copy(alloc)?;
-    let text = text_at(row, 1)?.copy(alloc)?;
-    let mode = match number_at(row, 2)? {
-        0 => Mode::Evented,
-        1 => Mode::Snapshot,
-        _ => return Err(TableError::Unreadable),
-    };
-    Ok(QueryKey::read(name, text, mode))
 }
