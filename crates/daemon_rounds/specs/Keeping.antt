@@ -58,9 +58,10 @@ abbrev pub IsWhole : List Entry → List Entry → Kept → Type 0
 IsWhole kept_before kept_after old =
     (kept_after ≡ kept_before) ⊎ ((settled : Kept) × Settles old settled × (kept_after ≡ kept_before ++ settled.tail))
 
--- at a fault of the sink the whole tail of a settled state is kept, and a front part of its lines was written
-pub record IsPartlyTold (keeper_tells sink_tells : Type 0) (host : List ℕ) (form : Form) (kept_before kept_after : List Entry) (written_before written_after : List ℕ) (old : Kept) : Type 0 where
+-- at a fault of the sink the whole tail of a settled state is kept and gone from the state, and a front part of its lines was written
+pub record IsPartlyTold (keeper_tells sink_tells : Type 0) (host : List ℕ) (form : Form) (kept_before kept_after : List Entry) (written_before written_after : List ℕ) (old new : Kept) : Type 0 where
   pub settled : Kept
   pub settles : Settles old settled
+  pub taken : new ≡ record settled { tail = [] }
   pub kept : keeper_tells → kept_after ≡ kept_before ++ settled.tail
   pub told : sink_tells → (lines : List ℕ) × (count : ℕ) × AreLinesOf host form settled.tail lines × (written_after ≡ written_before ++ take count lines)

@@ -64,7 +64,7 @@ pub fn finish_tick<K: Keeper, O: Sink>(
     ensures done { IfOk result (λ _. Finishes K.tells O.tells host.now form (K.kept keeper.old) (K.kept keeper.new) (O.written results.old) (O.written results.new) state.old state.new) }
     ensures spent { result ≡ Err FinishError.NumbersSpent → SpendsBatches state.old }
     ensures whole { K.tells → result ≡ Err FinishError.KeeperFault → IsWhole (K.kept keeper.old) (K.kept keeper.new) state.old }
-    ensures partly { result ≡ Err FinishError.SinkFault → IsPartlyTold K.tells O.tells host.now form (K.kept keeper.old) (K.kept keeper.new) (O.written results.old) (O.written results.new) state.old }
+    ensures partly { result ≡ Err FinishError.SinkFault → IsPartlyTold K.tells O.tells host.now form (K.kept keeper.old) (K.kept keeper.new) (O.written results.old) (O.written results.new) state.old state.new }
     ensures unkept { K.tells → (result ≡ Err FinishError.NumbersSpent) ⊎ (result ≡ Err FinishError.NoMemory) → K.kept keeper.new ≡ K.kept keeper.old }
     ensures unwritten { OnErr result (result ≢ Err FinishError.SinkFault → results.new ≡ results.old) }
     ensures keeper_cause { result ≡ Err FinishError.KeeperFault → Rose (K.faults keeper.old) (K.faults keeper.new) }

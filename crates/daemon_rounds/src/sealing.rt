@@ -46,6 +46,7 @@ pub fn seal<K: Keeper, O: Sink>(
     ensures told { O.tells → OnOk result ((lines : List ℕ) × AreLinesOf host.now form state.old.tail lines × (O.written results.new ≡ O.written results.old ++ lines)) }
     ensures whole { K.tells → result ≡ Err SealError.KeeperFault → (K.kept keeper.new ≡ K.kept keeper.old) ⊎ (K.kept keeper.new ≡ K.kept keeper.old ++ state.old.tail) }
     ensures sealed { K.tells → result ≡ Err SealError.SinkFault → K.kept keeper.new ≡ K.kept keeper.old ++ state.old.tail }
+    ensures drained { result ≡ Err SealError.SinkFault → state.new ≡ record state.old { tail = [] } }
     ensures partly { O.tells → result ≡ Err SealError.SinkFault → (lines : List ℕ) × (count : ℕ) × AreLinesOf host.now form state.old.tail lines × (O.written results.new ≡ O.written results.old ++ take count lines) }
     ensures unkept { K.tells → result ≡ Err SealError.NoMemory → K.kept keeper.new ≡ K.kept keeper.old }
     ensures unwritten { OnErr result (result ≢ Err SealError.SinkFault → results.new ≡ results.old) }

@@ -1,5 +1,5 @@
 -- How a session that ran all its ticks left its sources.
-use Rattle.std.proofs.Common.{◌≡◌, ℕ, suc, ◌≤◌, Bool, true, false, ◌&&◌, List, [], ◌∷◌, ◌++◌, length, inl, inr, refl, sym, ap, ◌∙◌, arith, length-append}
+use Rattle.std.proofs.Common.{◌≡◌, ℕ, suc, ◌≤◌, Bool, true, false, ◌&&◌, List, [], ◌∷◌, ◌++◌, length, inl, inr, map, refl, sym, ap, ◌∙◌, arith, length-append}
 use Rattle.std.specs.Prelude.{◌⊎◌, All, Contains}
 use Rattle.std.proofs.lemmas.List.Elements.{All-cons, All-nil}
 use Rattle.osq_value.specs.declared.reading.Category.{Category}
@@ -62,6 +62,16 @@ one_full tells left paths start now given kept (source ∷ sources) (feed ∷ fe
 fed_by_bytes : {S : Type 0} (tells : Type 0) (left : S → List ℕ) (paths : List Category) (start now : List Entry) (source : Source) (feed : Feeding) (object : S) → IsFed tells left paths start now source feed object → IsFed tells (λ (bytes : List ℕ). bytes) paths start now source feed (left object)
 fed_by_bytes tells left paths start now source feed object is =
     record { name = is.name; kind = is.kind; paths_are = is.paths_are; place = is.place; pieces = is.pieces; fed = is.fed; over = is.over }
+
+-- the same of each source
+pub fed_by_all : {S : Type 0} (tells : Type 0) (left : S → List ℕ) (paths : List Category) (start now : List Entry) (sources : List Source) (feeds : List Feeding) (objects : List S) → AreFed tells left paths start now sources feeds objects → AreFed tells (λ (bytes : List ℕ). bytes) paths start now sources feeds (map left objects)
+fed_by_all tells left paths start now [] [] [] fed = fed
+fed_by_all tells left paths start now [] [] (object ∷ objects) fed = absurd fed
+fed_by_all tells left paths start now [] (feed ∷ feeds) objects fed = absurd fed
+fed_by_all tells left paths start now (source ∷ sources) [] objects fed = absurd fed
+fed_by_all tells left paths start now (source ∷ sources) (feed ∷ feeds) [] fed = absurd fed
+fed_by_all tells left paths start now (source ∷ sources) (feed ∷ feeds) (object ∷ objects) fed =
+    (fed_by_bytes tells left paths start now source feed object fed.0, fed_by_all tells left paths start now sources feeds objects fed.1)
 
 -- where one isn't at its end, and each such one gave a full step in its turn, there is one that did
 pub one_full_step : {S : Type 0} (tells : Type 0) (left : S → List ℕ) (paths : List Category) (start now : List Entry) (given : Given) (kept : List Entry) (sources : List Source) (feeds : List Feeding) (objects : List S) (entries : List Entry) → AreFed tells left paths start now sources feeds objects → AreFullSteps given kept sources feeds entries → all_over feeds ≡ false → HasFullStep (IsUnended tells paths start now) given kept sources entries

@@ -3,6 +3,7 @@ pub mod Answered
 pub mod Begins
 pub mod Begun
 pub mod Causes
+pub mod Counted
 pub mod Done
 pub mod Dues
 pub mod Endings

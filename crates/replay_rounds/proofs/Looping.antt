@@ -1,5 +1,5 @@
 -- The turns of the loop over ticks.
-use Rattle.std.proofs.Common.{◌≡◌, ℕ, ◌+◌, List, [], ◌∷◌, ◌++◌, length, refl, sym, ap, ◌∙◌, subst, arith, append_assoc, length-append, inl, inr}
+use Rattle.std.proofs.Common.{◌≡◌, ℕ, ◌+◌, Bool, List, [], ◌∷◌, ◌++◌, length, refl, sym, ap, ◌∙◌, subst, arith, append_assoc, length-append, inl, inr, map}
 use Rattle.std.specs.Prelude.{bytes_eq, take}
 use Rattle.std.proofs.lemmas.List.{append-nil}
 use Rattle.osq_config.specs.declared.config.Config.{Config}
@@ -25,13 +25,17 @@ use Rattle.daemon_rounds.proofs.Laters.{AreLater, later_then, round_later, start
 use Rattle.daemon_rounds.proofs.Opened.{opened_goes_on}
 use Rattle.daemon_rounds.specs.declared.turning.Which.TheVariants as which
 use Rattle.replay_rounds.specs.Fixed.{Fixed, fixed_of}
+use Rattle.replay_rounds.specs.Noting.{AreCounted, configurations}
 use Rattle.replay_rounds.specs.OneTick.{HasOneTick, IsOneTick}
 use Rattle.replay_rounds.specs.Running.{IsKept, IsWritten, ReadsAll}
 use Rattle.replay_rounds.specs.Refusals.{numbers_of}
+use Rattle.replay_rounds.specs.Sources.{AreFed}
 use Rattle.replay_rounds.specs.Standing.{Standing}
 use Rattle.replay_rounds.specs.Stopping.{AreNumbersOf, AreSealed, HasNumbers}
-use Rattle.replay_rounds.specs.Ticked.{IsPartlyTold, IsTick, IsWholeTick, TakesTick, TickDone}
+use Rattle.replay_rounds.specs.Ticked.{IsPartlyTold, IsSealedTick, IsTick, IsWholeTick, TakesTick, TickDone}
 use Rattle.replay_rounds.specs.declared.refused.Numbers.{Numbers}
+use Rattle.replay_rounds.proofs.Counted.{configurations-append, count_of, counted_before, counted_behind, more_by, more_is, not_at_once, own_counted, tick_counted}
+use Rattle.replay_rounds.proofs.Endings.{fed_by_all}
 use Rattle.replay_rounds.proofs.OpenedSession.{OpensSession, opened_session}
 use Rattle.replay_rounds.proofs.Ran.{HasRest, IsAdded, IsRunning, added_on, all_is_kept, all_kept, all_written, first_added, first_ran, from_opened, grows, no_tick, none_kept, none_written, numbers_are, partly_written, ran_on, reads_more, still_kept, tail_own, tick_alone, told_on}
 use Rattle.replay_rounds.proofs.Ticked.{takes_tick}
@@ -68,7 +72,7 @@ module _ {S C : Type 0} (keeper_tells sink_tells tells : Type 0) (left : S → L
     first_one : (own : List Entry) → IsOneTick own → HasOneTick (opening ++ own)
     first_one own one = record { opening = opening; tick = own; are = refl; silent = o.silent; one = one }
 
-    first_takes : (last : ℕ) (settled : Kept) → TickDone tells left faults setup config documents opened_at opened_at feeds nexts objects rests old settled → last ≡ last_in opened_at opened_at → TakesTick left x opening kept nexts rests last opened_at old settled
+    pub first_takes : (last : ℕ) (settled : Kept) → TickDone tells left faults setup config documents opened_at opened_at feeds nexts objects rests old settled → last ≡ last_in opened_at opened_at → TakesTick left x opening kept nexts rests last opened_at old settled
     first_takes last settled done last_is =
         takes opening kept feeds nexts objects rests opened_at last opened_at old settled o.standing going done last_is
 
@@ -79,11 +83,11 @@ module _ {S C : Type 0} (keeper_tells sink_tells tells : Type 0) (left : S → L
     own_tail : (last : ℕ) (settled : Kept) (t : TakesTick left x opening kept nexts rests last opened_at old settled) → settled.tail ≡ opening ++ t.own
     own_tail last settled t = t.tail ∙ ap (λ (es : List Entry). es ++ t.own) o.tail
 
-    first_told : (last : ℕ) (settled : Kept) (t : TakesTick left x opening kept nexts rests last opened_at old settled) (lines : List ℕ) → AreLinesOf setup.host.identifier old.schedule.form settled.tail lines → AreLinesOf setup.host.identifier form.Event (opening ++ t.own) lines
+    pub first_told : (last : ℕ) (settled : Kept) (t : TakesTick left x opening kept nexts rests last opened_at old settled) (lines : List ℕ) → AreLinesOf setup.host.identifier old.schedule.form settled.tail lines → AreLinesOf setup.host.identifier form.Event (opening ++ t.own) lines
     first_told last settled t lines told =
         from_opened setup.host.identifier old.schedule.form o.number opening t.own o.rest lines refl (subst (λ (es : List Entry). AreLinesOf setup.host.identifier old.schedule.form es lines) (own_tail last settled t) told)
 
-    pub looped_first : (last : ℕ) (new : Kept) → IsTick keeper_tells sink_tells tells left faults setup config documents opened_at last opened_at kept next before written feeds nexts objects rests old new → AreLater faults sources objects → IsLooping now 1 next written nexts rests last new
+    unfoldable pub looped_first : (last : ℕ) (new : Kept) → IsTick keeper_tells sink_tells tells left faults setup config documents opened_at last opened_at kept next before written feeds nexts objects rests old new → AreLater faults sources objects → IsLooping now 1 next written nexts rests last new
     unfolding first_ran first_added
     looped_first last new tick later =
         let t = first_takes last tick.settled tick.done tick.last_is in
@@ -92,6 +96,30 @@ module _ {S C : Type 0} (keeper_tells sink_tells tells : Type 0) (left : S → L
           count = refl;
           later = later_then faults sources objects rests later (tick_later tells left faults setup config documents opened_at opened_at feeds nexts objects rests old tick.settled tick.done);
         }
+
+    -- the session is configured once, when it opens
+    none_first : (settled : Kept) → TickDone tells left faults setup config documents opened_at opened_at feeds nexts objects rests old settled → configurations settled.tail ≡ 1
+    none_first settled done =
+        let all = tick_counted tells left faults setup config documents opened_at opened_at feeds nexts objects rests old settled done in
+        let none : count_of (asks_again config opened_at opened_at) ≡ 0 = ap count_of (not_at_once config opened_at) in
+        let once : configurations old.tail ≡ 1 = ap (λ (es : List Entry). configurations es) o.tail ∙ o.once in
+        omega (arith, all, none, once)
+
+    pub counted_first : (last : ℕ) (new : Kept) (tick : IsTick keeper_tells sink_tells tells left faults setup config documents opened_at last opened_at kept next before written feeds nexts objects rests old new) (later : AreLater faults sources objects) → configurations (looped_first last new tick later).running.added.entries ≡ 1
+    unfolding looped_first first_ran first_added
+    counted_first last new tick later =
+        ap (λ (es : List Entry). configurations es) (sym (own_tail last tick.settled (first_takes last tick.settled tick.done tick.last_is))) ∙ none_first tick.settled tick.done
+
+    -- where the tick isn't done
+    pub counted_in_first : IsWholeTick tells left faults setup config documents opened_at opened_at kept next feeds nexts objects rests old → keeper_tells → AreCounted start next 1
+    counted_in_first (inl same) told =
+        let is : configurations next ≡ configurations start = ap (λ (es : List Entry). configurations es) (same ∙ kept_is told) in
+        inr (ap (λ n. n + 1) is)
+    counted_in_first (inr (settled, done, grown)) told =
+        let parts : configurations next ≡ configurations kept + configurations settled.tail = ap (λ (es : List Entry). configurations es) grown ∙ configurations-append kept settled.tail in
+        let was : configurations kept ≡ configurations start = ap (λ (es : List Entry). configurations es) (kept_is told) in
+        let once = none_first settled done in
+        inl (omega (arith, parts, was, once))
 
     -- what is kept where it isn't done
     pub kept_first : IsWholeTick tells left faults setup config documents opened_at opened_at kept next feeds nexts objects rests old → keeper_tells → IsKept x (λ readings. ReadsAll reads clock readings now) next
@@ -104,6 +132,13 @@ module _ {S C : Type 0} (keeper_tells sink_tells tells : Type 0) (left : S → L
     partly_first p =
         let t = first_takes (last_in opened_at opened_at) p.settled p.done refl in
         partly_written x next [] (opening ++ t.own) written [] p.lines p.count (first_one t.own t.one) (λ tells. p.kept tells ∙ ap (λ (list : List Entry). list ++ p.settled.tail) (kept_is tells) ∙ ap (λ (es : List Entry). start ++ es) (own_tail (last_in opened_at opened_at) p.settled t)) refl (first_told (last_in opened_at opened_at) p.settled t p.lines p.told) (p.written ∙ ap (λ (text : List ℕ). text ++ take p.count p.lines) (sym (append-nil before)))
+
+    -- where its lines could not be written, the state has the numbers of the list behind it
+    pub numbers_first : (new : Kept) → IsSealedTick keeper_tells tells left faults setup config documents opened_at opened_at kept next feeds nexts objects rests old new → AreNumbersOf x next (numbers_of new)
+    numbers_first new tick =
+        let last = last_in opened_at opened_at in
+        let r = first_adds last tick.settled new (first_takes last tick.settled tick.done refl) tick.taken tick.kept in
+        numbers_are left x r.entries next nexts rests last new r.standing r.empty
 
     more_first : IsWholeTick tells left faults setup config documents opened_at opened_at kept next feeds nexts objects rests old → keeper_tells → (more : List Entry) × (next ≡ start ++ more)
     more_first (inl same) told = ([], same ∙ kept_is told ∙ sym (append-nil start))
@@ -137,19 +172,31 @@ module _ {S C : Type 0} (keeper_tells sink_tells tells : Type 0) (left : S → L
   still_written now rounds kept written feeds objects last s l told =
       all_written x kept l.running.added.entries written (λ tells. ([], no_tick, all_kept left x l.running.added.entries kept feeds objects last s l.running.added.standing l.running.added.empty tells ∙ ap (λ (es : List Entry). start ++ es) (sym (append-nil l.running.added.entries)))) (l.running.told told)
 
+  -- how often the session was configured
+  pub counted_now : (now : C) (rounds : ℕ) (kept : List Entry) (written : List ℕ) (feeds : List Feeding) (objects : List S) (last : ℕ) (s : Kept) (l : IsLooping now rounds kept written feeds objects last s) → keeper_tells → configurations kept ≡ configurations start + configurations l.running.added.entries
+  counted_now now rounds kept written feeds objects last s l told =
+      ap (λ (es : List Entry). configurations es) (all_kept left x l.running.added.entries kept feeds objects last s l.running.added.standing l.running.added.empty told) ∙ configurations-append start l.running.added.entries
+
+  -- its feeds, told by the bytes that their sources have left
+  pub fed_now : (now : C) (rounds : ℕ) (kept : List Entry) (written : List ℕ) (feeds : List Feeding) (objects : List S) (last : ℕ) (s : Kept) (l : IsLooping now rounds kept written feeds objects last s) → keeper_tells
+      → AreFed tells (λ (bytes : List ℕ). bytes) config.categories start kept x.given.sources feeds (map left objects)
+  fed_now now rounds kept written feeds objects last s l told =
+      fed_by_all tells left config.categories start kept x.given.sources feeds objects
+      (subst (λ (list : List Entry). AreFed tells left config.categories start list x.given.sources feeds objects) (sym (all_kept left x l.running.added.entries kept feeds objects last s l.running.added.standing l.running.added.empty told)) (l.running.added.standing.fed told))
+
   -- a further tick
   module _ (between now : C) (rounds : ℕ) (kept next : List Entry) (between_written : List ℕ) (feeds nexts : List Feeding) (objects rests : List S) (configured_at moment : ℕ) (old : Kept) (l : IsLooping between rounds kept between_written feeds objects configured_at old) (going : AreGoing old.counts.taken feeds) (read : IsRead reads between now old.counts.moment moment) where
     abbrev r : IsAdded left x reads clock between kept feeds objects configured_at old
     r = l.running.added
 
-    next_takes : (last : ℕ) (settled : Kept) → TickDone tells left faults setup config documents configured_at moment feeds nexts objects rests old settled → last ≡ last_in configured_at moment → TakesTick left x r.entries kept nexts rests last moment old settled
+    pub next_takes : (last : ℕ) (settled : Kept) → TickDone tells left faults setup config documents configured_at moment feeds nexts objects rests old settled → last ≡ last_in configured_at moment → TakesTick left x r.entries kept nexts rests last moment old settled
     next_takes last settled done last_is =
         takes r.entries kept feeds nexts objects rests configured_at last moment old settled r.standing going done last_is
 
-    counted : {A : Type 0} (first more : A) (rest : List A) → length (first ∷ (rest ++ more ∷ [])) ≡ length (first ∷ rest) + 1
+    pub counted : {A : Type 0} (first more : A) (rest : List A) → length (first ∷ (rest ++ more ∷ [])) ≡ length (first ∷ rest) + 1
     counted first more rest = let size = length-append rest (more ∷ []) in omega (arith, size)
 
-    pub looped_on : (written : List ℕ) (last : ℕ) (new : Kept) → IsTick keeper_tells sink_tells tells left faults setup config documents configured_at last moment kept next between_written written feeds nexts objects rests old new → IsLooping now (rounds + 1) next written nexts rests last new
+    unfoldable pub looped_on : (written : List ℕ) (last : ℕ) (new : Kept) → IsTick keeper_tells sink_tells tells left faults setup config documents configured_at last moment kept next between_written written feeds nexts objects rests old new → IsLooping now (rounds + 1) next written nexts rests last new
     unfolding ran_on added_on
     looped_on written last new tick =
         let t = next_takes last tick.settled tick.done tick.last_is in
@@ -168,6 +215,34 @@ module _ {S C : Type 0} (keeper_tells sink_tells tells : Type 0) (left : S → L
 
     list_is : keeper_tells → kept ≡ start ++ r.entries
     list_is = all_kept left x r.entries kept feeds objects configured_at old r.standing r.empty
+
+    abbrev again : Bool
+    again = asks_again config configured_at moment
+
+    -- the session is configured again where that is due
+    own_on : (settled : Kept) → TickDone tells left faults setup config documents configured_at moment feeds nexts objects rests old settled → configurations settled.tail ≡ count_of again
+    own_on settled done =
+        let all = tick_counted tells left faults setup config documents configured_at moment feeds nexts objects rests old settled done in
+        let empty : configurations old.tail ≡ 0 = ap (λ (es : List Entry). configurations es) r.empty in
+        omega (arith, all, empty)
+
+    pub counted_on : (written : List ℕ) (last : ℕ) (new : Kept) (tick : IsTick keeper_tells sink_tells tells left faults setup config documents configured_at last moment kept next between_written written feeds nexts objects rests old new) → configurations (looped_on written last new tick).running.added.entries ≡ more_by again (configurations r.entries)
+    unfolding looped_on ran_on added_on
+    counted_on written last new tick =
+        let t = next_takes last tick.settled tick.done tick.last_is in
+        let parts = configurations-append r.entries t.own in
+        let own = own_counted old tick.settled t.own (count_of again) t.tail (tick_counted tells left faults setup config documents configured_at moment feeds nexts objects rests old tick.settled tick.done) in
+        let more = more_is again (configurations r.entries) in
+        omega (arith, parts, own, more)
+
+    was_counted : keeper_tells → configurations kept ≡ configurations start + configurations r.entries
+    was_counted told = ap (λ (es : List Entry). configurations es) (list_is told) ∙ configurations-append start r.entries
+
+    -- where the tick isn't done
+    pub counted_in : IsWholeTick tells left faults setup config documents configured_at moment kept next feeds nexts objects rests old → keeper_tells → AreCounted start next (more_by again (configurations r.entries))
+    counted_in (inl same) told = counted_before start kept next (configurations r.entries) (was_counted told) again same
+    counted_in (inr (settled, done, grown)) told =
+        counted_behind start kept next (configurations r.entries) (was_counted told) again settled.tail (own_on settled done) grown
 
     -- the list where a tick isn't done begins with what was told
     more_kept : IsWholeTick tells left faults setup config documents configured_at moment kept next feeds nexts objects rests old → keeper_tells → HasRest x next r.entries
@@ -188,6 +263,13 @@ module _ {S C : Type 0} (keeper_tells sink_tells tells : Type 0) (left : S → L
         let t = next_takes last p.settled p.done refl in
         let (lines, was, front, all) = told_on left x reads clock between now kept next feeds nexts objects rests configured_at last moment read.reading old p.settled p.settled r t between_written p.lines (l.running.told told) p.told in
         partly_written x next r.entries t.own written lines p.lines p.count (tick_alone t.own t.one) (λ tells. p.kept tells ∙ ap (λ (list : List Entry). list ++ p.settled.tail) (list_is tells) ∙ append_assoc start r.entries p.settled.tail ∙ ap (λ (es : List Entry). start ++ (r.entries ++ es)) (tail_own left x reads clock between now kept next feeds nexts objects rests configured_at last moment read.reading old p.settled p.settled r t)) front all (p.written ∙ ap (λ (text : List ℕ). text ++ take p.count p.lines) was)
+
+    -- where its lines could not be written, the state has the numbers of the list behind it
+    pub numbers_on : (new : Kept) → IsSealedTick keeper_tells tells left faults setup config documents configured_at moment kept next feeds nexts objects rests old new → AreNumbersOf x next (numbers_of new)
+    numbers_on new tick =
+        let last = last_in configured_at moment in
+        let a = added_on left x reads clock between now kept next feeds nexts objects rests configured_at last moment read.reading old tick.settled new r (next_takes last tick.settled tick.done refl) tick.taken tick.kept read.reads_it read.is in
+        numbers_are left x a.entries next nexts rests last new a.standing a.empty
 
     -- the numbers before it
     pub numbers_before : AreNumbersOf x kept (numbers_of old)

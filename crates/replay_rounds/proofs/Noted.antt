@@ -4,14 +4,17 @@ use Rattle.std.specs.Prelude.{Result, IfOk, IfErr}
 use Rattle.std.proofs.lemmas.List.{append-nil}
 use Rattle.osq_outside.specs.Causes.{FaultHasCause, Rose}
 use Rattle.source_feeds.specs.Feeding.{Feeding}
+use Rattle.entry_model.specs.declared.entry.Entry.{Entry}
 use Rattle.sql_meaning.specs.Meaning.{View}
 use Rattle.osq_config.specs.declared.config.Config.{Config}
 use Rattle.pack_rules.specs.declared.host.Host.{Host}
 use Rattle.query_answers.specs.Discovery.{is_found}
 use Rattle.schedule_notes.specs.Notes.{AreNotes}
-use Rattle.replay_rounds.specs.Noting.{AreNotesOf, HasNoted, HasSkipped, HasToldSome, IsNoted, IsNotedAgain, skipped_lines}
+use Rattle.replay_rounds.specs.Fixed.{Fixed}
+use Rattle.replay_rounds.specs.Noting.{AreCounted, AreNotesOf, HasNoted, HasSkipped, HasToldSome, IsNoted, IsNotedAgain, skipped_lines}
 use Rattle.replay_rounds.specs.declared.noting.NoteError.{NoteError}
 use Rattle.replay_rounds.specs.declared.noting.NoteError.TheVariants as note
+use Rattle.replay_rounds.proofs.Counted.{more_by}
 
 -- notes of a configuration whose discovery saw a view
 pub notes_of : {E : Type 0} (config : Config) (host : Host) (view : View) (found : List Bool) (given left_out : List ℕ) (result : Result (List ℕ) E) → found ≡ map (is_found view) config.packs → given ≡ left_out → IfOk result (AreNotes config host found given) → IfOk result (AreNotesOf config host left_out)
@@ -31,13 +34,19 @@ module _ (config : Config) (host : Host) (left_out before : List ℕ) where
   pub noted_again : (again : Bool) (after : List ℕ) → again ≡ true → IsNoted config host left_out before after → IsNotedAgain again config host left_out before after
   noted_again again after is noted = subst (λ (b : Bool). IsNotedAgain b config host left_out before after) (sym is) noted
 
-  pub noted_first : (after : List ℕ) → IsNoted config host left_out before after → HasNoted config host left_out before after
-  noted_first after (lines, are, is) = (0, lines, ([], lines, refl, are, refl), is)
+  pub noted_none : HasNoted config host left_out 0 before before
+  noted_none = ([], refl, sym (append-nil before))
 
-  pub noted_on : (again : Bool) (between after : List ℕ) → HasNoted config host left_out before between → IsNotedAgain again config host left_out between after → HasNoted config host left_out before after
-  noted_on true between after (later, earlier, all, was) (lines, are, is) =
-      (suc later, earlier ++ lines, (earlier, lines, all, are, refl), is ∙ ap (λ (text : List ℕ). text ++ lines) was ∙ append_assoc before earlier lines)
-  noted_on false between after has same = subst (HasNoted config host left_out before) (sym same) has
+  pub noted_first : (after : List ℕ) → IsNoted config host left_out before after → HasNoted config host left_out 1 before after
+  noted_first after (lines, are, is) = (lines, ([], lines, refl, are, refl), is)
+
+  pub noted_on : (again : Bool) (count : ℕ) (between after : List ℕ) → HasNoted config host left_out count before between → IsNotedAgain again config host left_out between after → HasNoted config host left_out (more_by again count) before after
+  noted_on true count between after (earlier, all, was) (lines, are, is) =
+      (earlier ++ lines, (earlier, lines, all, are, refl), is ∙ ap (λ (text : List ℕ). text ++ lines) was ∙ append_assoc before earlier lines)
+  noted_on false count between after has same = subst (HasNoted config host left_out count before) (sym same) has
+
+  pub noted_so : (count same : ℕ) (after : List ℕ) → same ≡ count → HasNoted config host left_out count before after → HasNoted config host left_out same before after
+  noted_so count same after is has = subst (λ (n : ℕ). HasNoted config host left_out n before after) (sym is) has
 
 -- nothing was written
 pub none_skipped : (before after : List ℕ) → after ≡ before → HasSkipped before after
@@ -66,9 +75,11 @@ skipped_behind before between after first second third (inl same) (inr rose) ear
 skipped_behind before between after first second third (inr rose) skipped earlier later = inr (omega (arith, rose, later))
 
 -- the notes of some configurations or of none, and behind them lines of skipped lines
-pub told_some : (config : Config) (host : Host) (left_out before between after : List ℕ) (first second third : ℕ) → (between ≡ before) ⊎ HasNoted config host left_out before between → HasSkipped between after ⊎ Rose second third → first ≤ second → HasToldSome config host left_out before after ⊎ Rose first third
-told_some config host left_out before between after first second third noted (inl skipped) earlier = inl (between, noted, skipped)
-told_some config host left_out before between after first second third noted (inr rose) earlier = inr (omega (arith, rose, earlier))
+pub told_some : (x : Fixed) (now : List Entry) (left_out before between after : List ℕ) (first second third count : ℕ) → (x.keeper_tells → AreCounted x.start now count) → HasNoted x.given.config x.given.host left_out count before between → HasSkipped between after ⊎ Rose second third → first ≤ second
+    → HasToldSome x now left_out before after ⊎ Rose first third
+told_some x now left_out before between after first second third count counted noted (inl skipped) earlier =
+    inl (record { count = count; counted = counted; between = between; noted = noted; skipped = skipped })
+told_some x now left_out before between after first second third count counted noted (inr rose) earlier = inr (omega (arith, rose, earlier))
 
 -- what follows from two facts of an error
 pub of_refusal : {T E : Type 0} (A B C : E → Type 0) (result : Result T E) → IfErr result A → IfErr result B → ((error : E) → A error → B error → C error) → IfErr result C

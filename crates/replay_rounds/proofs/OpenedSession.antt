@@ -36,9 +36,11 @@ use Rattle.daemon_rounds.specs.declared.turning.Which.TheVariants as which
 use Rattle.daemon_rounds.proofs.Opened.{none_due_yet, none_owed_yet}
 use Rattle.daemon_rounds.proofs.Started.{all_going}
 use Rattle.replay_rounds.specs.Fixed.{Fixed}
+use Rattle.replay_rounds.specs.Noting.{configurations}
 use Rattle.replay_rounds.specs.Sources.{AreFed, sources_of}
 use Rattle.replay_rounds.specs.Standing.{IsReady, Standing}
 use Rattle.replay_rounds.proofs.Begun.{started_fed}
+use Rattle.replay_rounds.proofs.Counted.{configurations-append, round_none}
 use Rattle.replay_rounds.proofs.Feeds.{fed_on}
 use Rattle.replay_rounds.proofs.Nothing.{configured_nothing, nothing_behind, opened_nothing}
 use Rattle.replay_rounds.proofs.Stepped.{fed_after, tables_given}
@@ -55,6 +57,7 @@ pub record OpensSession {S C : Type 0} (left : S → List ℕ) (x : Fixed) (read
   pub standing : Standing left x (Opened number ∷ rest) kept feeds objects moment s
   pub tail : s.tail ≡ Opened number ∷ rest
   pub silent : All NoBatch (Opened number ∷ rest)
+  pub once : configurations (Opened number ∷ rest) ≡ 1
   pub ready : AreGoing s.counts.taken feeds → IsReady feeds moment s
 
 module _ {S : Type 0} (left : S → List ℕ) (faults : S → ℕ) (x : Fixed) (setup : Setup) (restored : Restored) (kept : List Entry) (started feeds : List Feeding) (objects between rests : List S) (moment : ℕ) (state : Kept) (same : x.keeper_tells → restored ≡ summary x.start) (distinct : IsDistinct bytes_eq (source_names setup.sources)) (sources_are : x.given.sources ≡ sources_of left setup.sources objects)
@@ -167,6 +170,13 @@ module _ {S : Type 0} (left : S → List ℕ) (faults : S → ℕ) (x : Fixed) (
     tellable = subst AreTellable (sym opens.opened.tail) opens.opened.tellable;
   }
 
+  -- it is configured once
+  once : configurations entries ≡ 1
+  once =
+      let parts : configurations entries ≡ configurations tables + 1 = configurations-append (opened ∷ tables) (configured ∷ []) in
+      let none = round_none restored.moment opens.tables.turns in
+      omega (arith, parts, none)
+
   opens_session : {C : Type 0} (reads : C → ℕ → C → Type 0) (clock now : C) → IsRead reads clock now restored.moment moment → (x.keeper_tells → kept ≡ x.start) → OpensSession left x reads clock now kept feeds rests moment state
   opens_session reads clock now read kept_is = record {
     reading = read.reading;
@@ -178,6 +188,7 @@ module _ {S : Type 0} (left : S → List ℕ) (faults : S → ℕ) (x : Fixed) (
     standing = stands kept_is;
     tail = opens.opened.tail;
     silent = silent;
+    once = once;
     ready = ready;
   }
 

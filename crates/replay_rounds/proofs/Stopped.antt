@@ -6,7 +6,7 @@ use Rattle.entry_model.specs.Summary.{summary}
 use Rattle.session_state.specs.Kept.{Kept}
 use Rattle.replay_rounds.specs.Fixed.{Fixed}
 use Rattle.replay_rounds.specs.Noting.{IsBetween}
-use Rattle.replay_rounds.specs.Refusals.{numbers_in, tick_numbers, unloaded_by, unloaded_numbers}
+use Rattle.replay_rounds.specs.Refusals.{numbers_in, numbers_of, tick_numbers, unloaded_by, unloaded_numbers}
 use Rattle.replay_rounds.specs.Stopping.{AreNumbersFor, AreNumbersOf, AreSealed, HasNumbers, Stops}
 use Rattle.replay_rounds.specs.declared.loading.LoadError.{LoadError}
 use Rattle.replay_rounds.specs.declared.loading.LoadError.TheVariants as loading
@@ -58,7 +58,7 @@ module _ (x : Fixed) (has_read : List ℕ → Type 0) (kept : List Entry) where
   numbers_for (run.SourceFault place) numbers kept_well loaded are = are
   numbers_for (run.SourceShrank place had found) numbers kept_well loaded are = are
   numbers_for run.NumbersSpent numbers kept_well loaded are = are
-  numbers_for run.SinkFault numbers kept_well loaded are = tt
+  numbers_for run.SinkFault numbers kept_well loaded are = are
   numbers_for run.NoMemory numbers kept_well loaded are = are
 
   -- between two ticks
@@ -69,25 +69,26 @@ module _ (x : Fixed) (has_read : List ℕ → Type 0) (kept : List Entry) where
   numbers_between late sink (run.SourceFault place) numbers is are = are
   numbers_between late sink (run.SourceShrank place had found) numbers is are = are
   numbers_between late sink run.NumbersSpent numbers is are = are
-  numbers_between late sink run.SinkFault numbers is are = tt
+  numbers_between late sink run.SinkFault numbers is are = are
   numbers_between late sink run.NoMemory numbers is are = are
 
   -- in a tick
-  pub numbers_in_tick : (e : RunError) (sealed : Numbers) (new : Kept) → e ≢ run.KeeperRefused → (e ≡ run.KeeperFault → AreSealed x has_read kept sealed)
+  pub numbers_in_tick : (e : RunError) (sealed : Numbers) (new : Kept) → e ≢ run.KeeperRefused → (e ≡ run.KeeperFault → AreSealed x has_read kept sealed) → (e ≡ run.SinkFault → AreNumbersOf x kept (numbers_of new))
       → (e ≢ run.KeeperFault → e ≢ run.SinkFault → AreNumbersOf x kept sealed) → AreNumbersFor e x has_read kept (tick_numbers e sealed new)
-  numbers_in_tick run.KeeperFault sealed new loaded before none = before refl
-  numbers_in_tick run.KeeperRefused sealed new loaded before none = absurd (loaded refl)
-  numbers_in_tick (run.MomentTooLarge moment) sealed new loaded before none = none (λ h. cc) (λ h. cc)
-  numbers_in_tick (run.SourceFault place) sealed new loaded before none = none (λ h. cc) (λ h. cc)
-  numbers_in_tick (run.SourceShrank place had found) sealed new loaded before none = none (λ h. cc) (λ h. cc)
-  numbers_in_tick run.NumbersSpent sealed new loaded before none = none (λ h. cc) (λ h. cc)
-  numbers_in_tick run.SinkFault sealed new loaded before none = tt
-  numbers_in_tick run.NoMemory sealed new loaded before none = none (λ h. cc) (λ h. cc)
+  numbers_in_tick run.KeeperFault sealed new loaded before behind none = before refl
+  numbers_in_tick run.KeeperRefused sealed new loaded before behind none = absurd (loaded refl)
+  numbers_in_tick (run.MomentTooLarge moment) sealed new loaded before behind none = none (λ h. cc) (λ h. cc)
+  numbers_in_tick (run.SourceFault place) sealed new loaded before behind none = none (λ h. cc) (λ h. cc)
+  numbers_in_tick (run.SourceShrank place had found) sealed new loaded before behind none = none (λ h. cc) (λ h. cc)
+  numbers_in_tick run.NumbersSpent sealed new loaded before behind none = none (λ h. cc) (λ h. cc)
+  numbers_in_tick run.SinkFault sealed new loaded before behind none = behind refl
+  numbers_in_tick run.NoMemory sealed new loaded before behind none = none (λ h. cc) (λ h. cc)
 
   -- the same of a refusal that is answered so
   pub tick_stops : (untold : Type 0) (refused answered : Refused) (sealed : Numbers) (new : Kept) → answered ≡ refused → refused.numbers ≡ Some (tick_numbers refused.error sealed new) → refused.error ≢ run.KeeperRefused
       → (refused.error ≡ run.KeeperFault → AreSealed x has_read kept sealed)
+      → (refused.error ≡ run.SinkFault → AreNumbersOf x kept (numbers_of new))
       → (refused.error ≢ run.KeeperFault → refused.error ≢ run.SinkFault → AreNumbersOf x kept sealed) → Stops x has_read kept untold answered.error answered.numbers
-  tick_stops untold refused answered sealed new same numbers loaded before none =
+  tick_stops untold refused answered sealed new same numbers loaded before behind none =
       subst (λ (r : Refused). Stops x has_read kept untold r.error r.numbers) (sym same)
-      (stops_with untold refused.error refused.numbers (tick_numbers refused.error sealed new) numbers (numbers_in_tick refused.error sealed new loaded before none))
+      (stops_with untold refused.error refused.numbers (tick_numbers refused.error sealed new) numbers (numbers_in_tick refused.error sealed new loaded before behind none))

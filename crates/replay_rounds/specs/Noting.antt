@@ -1,13 +1,17 @@
 -- What a session tells on the status stream.
-use Rattle.std.specs.Prelude.{◌≡◌, ◌⊎◌, ℕ, zero, suc, ◌==◌, Bool, true, false, if◌then◌else◌, List, [], ◌++◌, map, flat_map, codes}
+use Rattle.std.specs.Prelude.{◌≡◌, ◌⊎◌, ℕ, zero, suc, ◌+◌, ◌==◌, Bool, true, false, if◌then◌else◌, List, [], ◌++◌, length, map, filter_map, flat_map, codes}
 use Rattle.std.specs.Fmt.{decimal}
 use Rattle.control_escapes.specs.Escapes.{escaped_controls}
 use Rattle.sql_meaning.specs.Meaning.{View}
 use Rattle.osq_config.specs.declared.config.Config.{Config}
 use Rattle.pack_rules.specs.declared.host.Host.{Host}
 use Rattle.query_answers.specs.Discovery.{is_found}
+use Rattle.entry_model.specs.declared.entry.Entry.{Entry}
 use Rattle.schedule_notes.specs.Notes.{AreNotes}
+use Rattle.session_model.specs.Configuring.{configured_in}
 use Rattle.source_feeds.specs.Feeding.{Feeding}
+use Rattle.replay_rounds.specs.Fixed.{Fixed}
+use Rattle.replay_rounds.specs.Sources.{AreFed}
 use Rattle.replay_rounds.specs.declared.refused.RunError.{RunError}
 use Rattle.replay_rounds.specs.declared.refused.RunError.TheVariants as run
 
@@ -34,10 +38,13 @@ AreAllNotes config host left_out zero lines = lines ≡ []
 AreAllNotes config host left_out (suc count) lines =
     (earlier last : List ℕ) × AreAllNotes config host left_out count earlier × AreNotesOf config host left_out last × (lines ≡ earlier ++ last)
 
--- a session told of its configuration, and again of each later one
-abbrev pub HasNoted : Config → Host → List ℕ → List ℕ → List ℕ → Type 0
-HasNoted config host left_out before after =
-    (later : ℕ) × (lines : List ℕ) × AreAllNotes config host left_out (suc later) lines × (after ≡ before ++ lines)
+-- a session told of so many configurations
+abbrev pub HasNoted : Config → Host → List ℕ → ℕ → List ℕ → List ℕ → Type 0
+HasNoted config host left_out count before after = (lines : List ℕ) × AreAllNotes config host left_out count lines × (after ≡ before ++ lines)
+
+-- how often these entries configure a session
+abbrev pub configurations : List Entry → ℕ
+configurations entries = length (filter_map configured_in entries)
 
 abbrev pub skipped_end : ℕ → List ℕ
 skipped_end count = codes " skipped " ++ decimal count ++ codes " lines\n"
@@ -53,19 +60,34 @@ skipped_line feed = if feed.skipped == 0 then [] else skipped_of feed.name feed.
 abbrev pub skipped_lines : List Feeding → List ℕ
 skipped_lines feeds = flat_map skipped_line feeds
 
--- it told of its configurations, and at its end of the lines that were skipped
-abbrev pub HasTold : Config → Host → List ℕ → List ℕ → List ℕ → Type 0
-HasTold config host left_out before after =
-    (between : List ℕ) × (feeds : List Feeding) × HasNoted config host left_out before between × (after ≡ between ++ skipped_lines feeds)
+-- It told of each configuration by which the kept list has grown, where the keeper tells it; and at its end of the lines that each source's feed
+-- skipped. What they are is told of the feeds: each read the bytes up to where the list now has its source, and counts the lines that it skipped.
+pub record HasTold (x : Fixed) (now : List Entry) (left_out before after : List ℕ) : Type 0 where
+  pub count : ℕ
+  pub counted : x.keeper_tells → configurations now ≡ configurations x.start + count
+  pub between : List ℕ
+  pub noted : HasNoted x.given.config x.given.host left_out count before between
+  pub feeds : List Feeding
+  pub rests : List (List ℕ)
+  pub fed : x.keeper_tells → AreFed x.source_tells (λ (bytes : List ℕ). bytes) x.given.config.categories x.start now x.given.sources feeds rests
+  pub skipped : after ≡ between ++ skipped_lines feeds
 
 -- lines that tell of skipped lines were written
 abbrev pub HasSkipped : List ℕ → List ℕ → Type 0
 HasSkipped before after = (feeds : List Feeding) × (after ≡ before ++ skipped_lines feeds)
 
--- It told of none of its configurations yet, or of some; and behind that of lines that were skipped.
-abbrev pub HasToldSome : Config → Host → List ℕ → List ℕ → List ℕ → Type 0
-HasToldSome config host left_out before after =
-    (between : List ℕ) × ((between ≡ before) ⊎ HasNoted config host left_out before between) × HasSkipped between after
+-- a list has grown by so many configurations, or by all of them but the last
+abbrev pub AreCounted : (kept now : List Entry) → ℕ → Type 0
+AreCounted kept now count = (configurations now ≡ configurations kept + count) ⊎ (configurations now + 1 ≡ configurations kept + count)
+
+-- The same of a session that ended early: of its last configuration it told before the tick was sealed. Of the lines that were skipped it told by
+-- some feeds.
+pub record HasToldSome (x : Fixed) (now : List Entry) (left_out before after : List ℕ) : Type 0 where
+  pub count : ℕ
+  pub counted : x.keeper_tells → AreCounted x.start now count
+  pub between : List ℕ
+  pub noted : HasNoted x.given.config x.given.host left_out count before between
+  pub skipped : HasSkipped between after
 
 -- Why a step between ticks is refused: by the moment that the clock gave, by a fault of the status stream, or for want of memory.
 abbrev pub IsBetween : (late : ℕ → Type 0) (sink : Type 0) → RunError → Type 0

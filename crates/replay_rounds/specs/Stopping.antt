@@ -34,7 +34,7 @@ pub record AreSealed (x : Fixed) (has_read : List ℕ → Type 0) (kept : List E
   pub kept_is : x.keeper_tells → (more : List Entry) × (kept ≡ sealed ++ more)
   pub are : AreNumbersOf x sealed numbers
 
--- the numbers of a session that ended for this reason; no clause says which they are where a sink failed
+-- the numbers of a session that ended for this reason
 abbrev pub AreNumbersFor : RunError → Fixed → (List ℕ → Type 0) → List Entry → Numbers → Type 0
 AreNumbersFor run.KeeperFault x has_read kept numbers = AreSealed x has_read kept numbers
 AreNumbersFor run.KeeperRefused x has_read kept numbers = AreLoaded x has_read kept numbers
@@ -42,7 +42,7 @@ AreNumbersFor (run.MomentTooLarge moment) x has_read kept numbers = AreNumbersOf
 AreNumbersFor (run.SourceFault place) x has_read kept numbers = AreNumbersOf x kept numbers
 AreNumbersFor (run.SourceShrank place had found) x has_read kept numbers = AreNumbersOf x kept numbers
 AreNumbersFor run.NumbersSpent x has_read kept numbers = AreNumbersOf x kept numbers
-AreNumbersFor run.SinkFault x has_read kept numbers = Unit {0}
+AreNumbersFor run.SinkFault x has_read kept numbers = AreNumbersOf x kept numbers
 AreNumbersFor run.NoMemory x has_read kept numbers = AreNumbersOf x kept numbers
 
 -- the list wasn't loaded

@@ -39,6 +39,13 @@ IsWholeTick tells left faults setup config documents configured_at moment kept_b
     (kept_after ≡ kept_before)
     ⊎ ((settled : Kept) × TickDone tells left faults setup config documents configured_at moment feeds nexts objects rests old settled × (kept_after ≡ kept_before ++ settled.tail))
 
+-- All of its entries are kept, and the state goes on behind them.
+pub record IsSealedTick {S : Type 0} (keeper_tells tells : Type 0) (left : S → List ℕ) (faults : S → ℕ) (setup : Setup) (config : Config) (documents : List (List ℕ)) (configured_at moment : ℕ) (kept_before kept_after : List Entry) (feeds nexts : List Feeding) (objects rests : List S) (old new : Kept) : Type 0 where
+  pub settled : Kept
+  pub done : TickDone tells left faults setup config documents configured_at moment feeds nexts objects rests old settled
+  pub taken : new ≡ record settled { tail = [] }
+  pub kept : keeper_tells → kept_after ≡ kept_before ++ settled.tail
+
 -- all of its entries are kept, and a front part of their lines was written
 pub record IsPartlyTold {S : Type 0} (keeper_tells tells : Type 0) (left : S → List ℕ) (faults : S → ℕ) (setup : Setup) (config : Config) (documents : List (List ℕ)) (configured_at moment : ℕ) (kept_before kept_after : List Entry) (written_before written_after : List ℕ) (feeds nexts : List Feeding) (objects rests : List S) (old : Kept) : Type 0 where
   pub settled : Kept

@@ -8,7 +8,7 @@ ghost use Rattle.daemon_rounds.specs.Keeping.{GoesOn};
 ghost use Rattle.daemon_rounds.specs.Rounding.{FailsAt};
 ghost use Rattle.replay_rounds.specs.Refusals.{tick_numbers};
 ghost use Rattle.replay_rounds.specs.Standing.{IsReady};
-ghost use Rattle.replay_rounds.specs.Ticked.{IsPartlyTold, IsTick, IsWholeTick, SpendsTick};
+ghost use Rattle.replay_rounds.specs.Ticked.{IsPartlyTold, IsSealedTick, IsTick, IsWholeTick, SpendsTick};
 ghost use Rattle.replay_rounds.specs.declared.refused.Refused.{Refused};
 ghost use Rattle.replay_rounds.specs.declared.refused.RunError.{RunError};
 
@@ -51,6 +51,7 @@ pub fn take_tick<S: Source, K: Keeper, O: Sink>(
     ensures ready { IfOk result (λ last. IsReady feeds.new last state.new) }
     ensures goes_on { IfOk result (λ last. GoesOn K.tells (K.kept keeper.new) state.new) }
     ensures kept { K.tells → OnErr result (IsWholeTick S.tells S.left S.faults setup.now configured.now.config configured.now.documents configured_at moment (K.kept keeper.old) (K.kept keeper.new) feeds.old feeds.new sources.old sources.new state.old) }
+    ensures sealed { (refused : Refused) → result ≡ Err refused → refused.error ≡ RunError.SinkFault → IsSealedTick K.tells S.tells S.left S.faults setup.now configured.now.config configured.now.documents configured_at moment (K.kept keeper.old) (K.kept keeper.new) feeds.old feeds.new sources.old sources.new state.old state.new }
     ensures partly { O.tells → (refused : Refused) → result ≡ Err refused → refused.error ≡ RunError.SinkFault → IsPartlyTold K.tells S.tells S.left S.faults setup.now configured.now.config configured.now.documents configured_at moment (K.kept keeper.old) (K.kept keeper.new) (O.written results.old) (O.written results.new) feeds.old feeds.new sources.old sources.new state.old }
     ensures numbers { IfErr result (λ refused. refused.numbers ≡ Some (tick_numbers refused.error sealed state.new)) }
     ensures unwritten { IfErr result (λ refused. refused.error ≢ RunError.SinkFault → results.new ≡ results.old) }

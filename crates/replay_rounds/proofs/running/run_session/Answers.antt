@@ -1,23 +1,25 @@
-use Rattle.std.proofs.Common.{◌≡◌, List, [], ◌∷◌, Err, refl, sym, ap, ◌∙◌, subst, arith, inl, inr}
+use Rattle.std.proofs.Common.{◌≡◌, List, map, [], ◌∷◌, Err, refl, sym, ap, ◌∙◌, subst, arith, inl, inr}
 use Rattle.std.proofs.lemmas.List.{append-nil}
 use Rattle.source_feeds.specs.Feeding.{Feeding}
 use Rattle.entry_model.specs.declared.entry.Entry.{Entry}
 use Rattle.entry_model.specs.declared.restored.Restored.{Restored}
 use Rattle.entry_model.specs.Fits.{Fits}
 use Rattle.daemon_rounds.specs.Rounding.{AreGoing}
+use Rattle.daemon_rounds.specs.Ticking.{asks_again}
 use Rattle.daemon_rounds.proofs.Laters.{fails_since}
 use Rattle.replay_rounds.specs.Fixed.{fixed_of}
-use Rattle.replay_rounds.specs.Noting.{IsBetween}
+use Rattle.replay_rounds.specs.Noting.{IsBetween, configurations}
 use Rattle.replay_rounds.specs.Refusals.{numbers_in, numbers_of}
 use Rattle.replay_rounds.specs.Running.{IsWritten, ReadsAll}
 use Rattle.replay_rounds.specs.Stopping.{AreNumbersOf, AreSealed, HasNumbers, Stops}
 use Rattle.replay_rounds.specs.declared.refused.Numbers.{Numbers}
 use Rattle.replay_rounds.specs.declared.refused.Refused.{Refused}
 use Rattle.replay_rounds.proofs.Causes.{by_sink, same_refusal, spent_not_keeper, spent_not_sink}
+use Rattle.replay_rounds.proofs.Counted.{more_by, none_counted}
 use Rattle.replay_rounds.proofs.Done.{has_run}
 use Rattle.replay_rounds.proofs.Grown.{grown_then, of_error, of_value}
-use Rattle.replay_rounds.proofs.Looping.{goes_on_here, kept_first, kept_on, looped_first, looped_on, numbers_same, opens_here, partly_first, partly_on, sealed_first, sealed_on, still_written, unwritten_first, written_on}
-use Rattle.replay_rounds.proofs.Noted.{none_skipped, noted_first, noted_on, of_any, of_refusal, skipped_behind, skipped_unless, told_some}
+use Rattle.replay_rounds.proofs.Looping.{counted_first, counted_in, counted_in_first, counted_now, counted_on, fed_now, goes_on_here, kept_first, kept_on, looped_first, looped_on, numbers_first, numbers_on, numbers_same, opens_here, partly_first, partly_on, sealed_first, sealed_on, still_written, unwritten_first, written_on}
+use Rattle.replay_rounds.proofs.Noted.{none_skipped, noted_first, noted_none, noted_on, noted_so, of_any, of_refusal, skipped_behind, skipped_unless, told_some}
 use Rattle.replay_rounds.proofs.Ran.{all_is_kept, no_tick, none_kept, none_written, numbers_are, reads_more, still_kept}
 use Rattle.replay_rounds.proofs.Spent.{spent_first, spent_nowhere, spent_on}
 use Rattle.replay_rounds.proofs.Stopped.{loaded_numbers, numbers_between, numbers_for, stops_with, tick_stops, unloaded_refused, unloaded_stops}
@@ -154,7 +156,7 @@ loop-init g c =
       results_later = results_first;
       status_later = c.open_noted.ensures.later;
       noted = c.open_noted.ensures.grown;
-      told = λ tells. noted_first _ _ _ _ _ (c.in-Ok-open_noted.ensures.noted tells);
+      told = λ tells. noted_so _ _ _ _ 1 _ _ (counted_first g.K.Keeper.tells g.O.Sink.tells g.S.Source.tells g.S.Source.left g.S.Source.faults c.args.setup.now c.args.configured.now.config c.args.configured.now.documents c.args.sources.now (g.K.Keeper.kept c.args.keeper.now) (g.O.Sink.written c.args.results.now) g.C.Clock.reads c.args.clock.now c.open_noted.new.clock (g.K.Keeper.kept c.load_values.new.keeper) (g.K.Keeper.kept c.take_tick.new.keeper) (g.O.Sink.written c.take_tick.new.results) c.as_mut_slice-feeds.result.now c.take_tick.new.feeds c.open_noted.new.sources c.take_tick.new.sources c.in-Ok-open_noted.session.configured_at c.in-Ok-open_noted.session.state c.args.configured.now.notes c.requires.configuration opens.0 going kept_is c.in-Ok-take_tick.last c.take_tick.new.state c.in-Ok-take_tick.ensures.done opens.1) (noted_first _ _ _ _ _ (c.in-Ok-open_noted.ensures.noted tells));
     }
 
 pub returns-in-Err-next_moment-clause-kept : goal.returns-in-Err-next_moment-clause-kept
@@ -321,7 +323,7 @@ loop-preserved g c =
       results_later = omega (arith, r, r2);
       status_later = omega (arith, s, noted);
       noted = λ tells. grown_then _ _ _ (c.loop.invariant.noted tells) (c.next_moment.ensures.grown tells);
-      told = λ tells. noted_on _ _ _ _ _ _ _ (c.loop.invariant.told tells) (c.in-Ok-next_moment.ensures.noted tells);
+      told = λ tells. noted_so _ _ _ _ _ _ _ (counted_on g.K.Keeper.tells g.O.Sink.tells g.S.Source.tells g.S.Source.left g.S.Source.faults c.args.setup.now c.args.configured.now.config c.args.configured.now.documents c.args.sources.now (g.K.Keeper.kept c.args.keeper.now) (g.O.Sink.written c.args.results.now) g.C.Clock.reads c.args.clock.now c.loop.clock c.next_moment.new.clock c.loop.counter (g.K.Keeper.kept c.loop.keeper) (g.K.Keeper.kept c.take_tick-in-loop.new.keeper) (g.O.Sink.written c.loop.results) c.loop.feeds c.take_tick-in-loop.new.feeds c.loop.sources c.take_tick-in-loop.new.sources c.loop.last c.in-Ok-next_moment.moment c.loop.state c.loop.invariant.looping c.loop.invariant.ready.going c.in-Ok-next_moment.ensures.read (g.O.Sink.written c.take_tick-in-loop.new.results) c.in-Ok-take_tick-2.last c.take_tick-in-loop.new.state c.in-Ok-take_tick-2.ensures.done) (noted_on _ _ _ _ _ _ _ _ (c.loop.invariant.told tells) (c.in-Ok-next_moment.ensures.noted tells));
     }
 
 pub returns-clause-done : goal.returns-clause-done
@@ -378,7 +380,16 @@ returns-clause-sink_cause g c refused is error =
 pub returns-clause-told : goal.returns-clause-told
 returns-clause-told g c tells =
     let skipped = c.end_session.ensures.skipped tells in
-    of_value _ _ _ c.end_session.result skipped skipped (λ ended is same. (g.O.Sink.written c.loop.status, c.loop.feeds, c.loop.invariant.told tells, is))
+    of_value _ _ _ c.end_session.result skipped skipped (λ ended is same. record {
+      count = configurations c.loop.invariant.looping.running.added.entries;
+      counted = counted_now g.K.Keeper.tells g.O.Sink.tells g.S.Source.tells g.S.Source.left g.S.Source.faults c.args.setup.now c.args.configured.now.config c.args.configured.now.documents c.args.sources.now (g.K.Keeper.kept c.args.keeper.now) (g.O.Sink.written c.args.results.now) g.C.Clock.reads c.args.clock.now c.loop.clock c.loop.counter (g.K.Keeper.kept c.loop.keeper) (g.O.Sink.written c.loop.results) c.loop.feeds c.loop.sources c.loop.last c.loop.state c.loop.invariant.looping;
+      between = g.O.Sink.written c.loop.status;
+      noted = c.loop.invariant.told tells;
+      feeds = c.loop.feeds;
+      rests = map g.S.Source.left c.loop.sources;
+      fed = fed_now g.K.Keeper.tells g.O.Sink.tells g.S.Source.tells g.S.Source.left g.S.Source.faults c.args.setup.now c.args.configured.now.config c.args.configured.now.documents c.args.sources.now (g.K.Keeper.kept c.args.keeper.now) (g.O.Sink.written c.args.results.now) g.C.Clock.reads c.args.clock.now c.loop.clock c.loop.counter (g.K.Keeper.kept c.loop.keeper) (g.O.Sink.written c.loop.results) c.loop.feeds c.loop.sources c.loop.last c.loop.state c.loop.invariant.looping;
+      skipped = is;
+    })
 
 pub returns-clause-notes : goal.returns-clause-notes
 returns-clause-notes g c tells =
@@ -396,7 +407,14 @@ returns-in-Err-clause-stops g c =
     (λ tells numbers is. subst (λ (list : List Entry). HasNumbers list numbers) (sym (c.in-Err.ensures.same tells)) (c.load_values.ensures.numbers tells numbers (c.in-Err.is ∙ ap Err is)))
 
 pub returns-in-Err-clause-stops_telling : goal.returns-in-Err-clause-stops_telling
-returns-in-Err-clause-stops_telling g c tells = inl (_, inl refl, none_skipped _ _ refl)
+returns-in-Err-clause-stops_telling g c tells =
+    inl (record {
+      count = 0;
+      counted = λ told. none_counted (g.K.Keeper.kept c.args.keeper.now) (g.K.Keeper.kept c.load_values.new.keeper) (c.in-Err.ensures.same told);
+      between = g.O.Sink.written c.args.status.now;
+      noted = noted_none c.args.configured.now.config c.args.setup.now.host c.args.configured.now.notes (g.O.Sink.written c.args.status.now);
+      skipped = none_skipped _ _ refl;
+    })
 
 pub returns-in-Err-open_noted-clause-stops : goal.returns-in-Err-open_noted-clause-stops
 returns-in-Err-open_noted-clause-stops g c =
@@ -408,7 +426,7 @@ returns-in-Err-open_noted-clause-stops g c =
 
 pub returns-in-Err-open_noted-clause-stops_telling : goal.returns-in-Err-open_noted-clause-stops_telling
 returns-in-Err-open_noted-clause-stops_telling g c tells =
-    told_some c.args.configured.now.config c.args.setup.now.host c.args.configured.now.notes (g.O.Sink.written c.args.status.now) (g.O.Sink.written c.args.status.now) (g.O.Sink.written c.open_noted.new.status) (g.O.Sink.faults c.args.status.now) (g.O.Sink.faults c.args.status.now) (g.O.Sink.faults c.open_noted.new.status) (inl refl) (c.in-Err-open_noted.ensures.untold tells) (omega arith)
+    told_some (fixed_of g.K.Keeper.tells g.O.Sink.tells g.S.Source.tells g.S.Source.left c.args.setup.now c.args.configured.now.config c.args.configured.now.documents c.args.sources.now (g.K.Keeper.kept c.args.keeper.now) (g.O.Sink.written c.args.results.now)) (g.K.Keeper.kept c.load_values.new.keeper) c.args.configured.now.notes (g.O.Sink.written c.args.status.now) (g.O.Sink.written c.args.status.now) (g.O.Sink.written c.open_noted.new.status) (g.O.Sink.faults c.args.status.now) (g.O.Sink.faults c.args.status.now) (g.O.Sink.faults c.open_noted.new.status) 0 (λ told. none_counted (g.K.Keeper.kept c.args.keeper.now) (g.K.Keeper.kept c.load_values.new.keeper) (c.in-Ok.ensures.same told)) (noted_none c.args.configured.now.config c.args.setup.now.host c.args.configured.now.notes (g.O.Sink.written c.args.status.now)) (c.in-Err-open_noted.ensures.untold tells) (omega arith)
 
 pub returns-in-Err-take_tick-clause-stops : goal.returns-in-Err-take_tick-clause-stops
 returns-in-Err-take_tick-clause-stops g c =
@@ -422,13 +440,17 @@ returns-in-Err-take_tick-clause-stops g c =
     (c.take_tick.ensures.opened refused c.in-Err-take_tick.is).0
     (λ is. sealed_first g.K.Keeper.tells g.O.Sink.tells g.S.Source.tells g.S.Source.left g.S.Source.faults c.args.setup.now c.args.configured.now.config c.args.configured.now.documents c.args.sources.now (g.K.Keeper.kept c.args.keeper.now) (g.O.Sink.written c.args.results.now) g.C.Clock.reads c.args.clock.now c.open_noted.new.clock (g.K.Keeper.kept c.load_values.new.keeper) (g.K.Keeper.kept c.take_tick.new.keeper) (g.O.Sink.written c.take_tick.new.results) c.as_mut_slice-feeds.result.now c.take_tick.new.feeds c.open_noted.new.sources c.take_tick.new.sources c.in-Ok-open_noted.session.configured_at c.in-Ok-open_noted.session.state c.args.configured.now.notes c.requires.configuration opens.0 going kept_is c.numbers_in-sealed.result
     (subst (λ (numbers : Numbers). AreNumbersOf (fixed_of g.K.Keeper.tells g.O.Sink.tells g.S.Source.tells g.S.Source.left c.args.setup.now c.args.configured.now.config c.args.configured.now.documents c.args.sources.now (g.K.Keeper.kept c.args.keeper.now) (g.O.Sink.written c.args.results.now)) (g.K.Keeper.kept c.args.keeper.now) numbers) (sym same) (loaded_numbers (fixed_of g.K.Keeper.tells g.O.Sink.tells g.S.Source.tells g.S.Source.left c.args.setup.now c.args.configured.now.config c.args.configured.now.documents c.args.sources.now (g.K.Keeper.kept c.args.keeper.now) (g.O.Sink.written c.args.results.now)) (λ readings. ReadsAll g.C.Clock.reads c.args.clock.now readings c.open_noted.new.clock) (g.K.Keeper.kept c.args.keeper.now) c.in-Ok.restored c.in-Ok.ensures.value (λ tells. refl))) c.in-Err-take_tick.ensures.kept)
+    (λ is. numbers_first g.K.Keeper.tells g.O.Sink.tells g.S.Source.tells g.S.Source.left g.S.Source.faults c.args.setup.now c.args.configured.now.config c.args.configured.now.documents c.args.sources.now (g.K.Keeper.kept c.args.keeper.now) (g.O.Sink.written c.args.results.now) g.C.Clock.reads c.args.clock.now c.open_noted.new.clock (g.K.Keeper.kept c.load_values.new.keeper) (g.K.Keeper.kept c.take_tick.new.keeper) (g.O.Sink.written c.take_tick.new.results) c.as_mut_slice-feeds.result.now c.take_tick.new.feeds c.open_noted.new.sources c.take_tick.new.sources c.in-Ok-open_noted.session.configured_at c.in-Ok-open_noted.session.state c.args.configured.now.notes c.requires.configuration opens.0 going kept_is c.take_tick.new.state (c.take_tick.ensures.sealed refused c.in-Err-take_tick.is is))
     (λ not_keeper not_sink. subst (λ (numbers : Numbers). AreNumbersOf (fixed_of g.K.Keeper.tells g.O.Sink.tells g.S.Source.tells g.S.Source.left c.args.setup.now c.args.configured.now.config c.args.configured.now.documents c.args.sources.now (g.K.Keeper.kept c.args.keeper.now) (g.O.Sink.written c.args.results.now)) (g.K.Keeper.kept c.take_tick.new.keeper) numbers) (sym same)
     (loaded (λ tells. c.take_tick.ensures.unkept tells refused c.in-Err-take_tick.is not_keeper not_sink ∙ kept_is tells)))
 
 pub returns-in-Err-take_tick-clause-stops_telling : goal.returns-in-Err-take_tick-clause-stops_telling
 returns-in-Err-take_tick-clause-stops_telling g c tells =
-    told_some c.args.configured.now.config c.args.setup.now.host c.args.configured.now.notes (g.O.Sink.written c.args.status.now) (g.O.Sink.written c.open_noted.new.status) (g.O.Sink.written c.told.new.status) (g.O.Sink.faults c.args.status.now) (g.O.Sink.faults c.open_noted.new.status) (g.O.Sink.faults c.told.new.status)
-    (inr (noted_first _ _ _ _ _ (c.in-Ok-open_noted.ensures.noted tells))) (c.told.ensures.skipped tells) c.open_noted.ensures.later
+    let kept_is = c.in-Ok.ensures.same in
+    let opens = opens_here g.K.Keeper.tells g.O.Sink.tells g.S.Source.tells g.S.Source.left g.S.Source.faults c.args.setup.now c.args.configured.now.config c.args.configured.now.documents c.args.sources.now (g.K.Keeper.kept c.args.keeper.now) (g.O.Sink.written c.args.results.now) g.C.Clock.reads c.args.clock.now c.open_noted.new.clock c.in-Ok.restored (g.K.Keeper.kept c.load_values.new.keeper) c.in-Ok-open_noted.session.feeds.items c.as_mut_slice-feeds.result.now c.open_noted.new.sources c.in-Ok-open_noted.session.configured_at c.in-Ok-open_noted.session.state c.in-Ok.ensures.value kept_is c.requires.distinct c.in-Ok-open_noted.ensures.opened c.as_mut_slice-feeds.ensures.value in
+    let going = subst (λ (feeds : List Feeding). AreGoing c.in-Ok-open_noted.session.state.counts.taken feeds) (sym c.as_mut_slice-feeds.ensures.value) c.in-Ok-open_noted.ensures.going in
+    told_some (fixed_of g.K.Keeper.tells g.O.Sink.tells g.S.Source.tells g.S.Source.left c.args.setup.now c.args.configured.now.config c.args.configured.now.documents c.args.sources.now (g.K.Keeper.kept c.args.keeper.now) (g.O.Sink.written c.args.results.now)) (g.K.Keeper.kept c.take_tick.new.keeper) c.args.configured.now.notes (g.O.Sink.written c.args.status.now) (g.O.Sink.written c.open_noted.new.status) (g.O.Sink.written c.told.new.status) (g.O.Sink.faults c.args.status.now) (g.O.Sink.faults c.open_noted.new.status) (g.O.Sink.faults c.told.new.status)
+    1 (λ told. counted_in_first g.K.Keeper.tells g.O.Sink.tells g.S.Source.tells g.S.Source.left g.S.Source.faults c.args.setup.now c.args.configured.now.config c.args.configured.now.documents c.args.sources.now (g.K.Keeper.kept c.args.keeper.now) (g.O.Sink.written c.args.results.now) g.C.Clock.reads c.args.clock.now c.open_noted.new.clock (g.K.Keeper.kept c.load_values.new.keeper) (g.K.Keeper.kept c.take_tick.new.keeper) (g.O.Sink.written c.take_tick.new.results) c.as_mut_slice-feeds.result.now c.take_tick.new.feeds c.open_noted.new.sources c.take_tick.new.sources c.in-Ok-open_noted.session.configured_at c.in-Ok-open_noted.session.state c.args.configured.now.notes c.requires.configuration opens.0 going kept_is (c.in-Err-take_tick.ensures.kept told) told) (noted_first _ _ _ _ _ (c.in-Ok-open_noted.ensures.noted tells)) (c.told.ensures.skipped tells) c.open_noted.ensures.later
 
 pub returns-in-Err-next_moment-clause-stops : goal.returns-in-Err-next_moment-clause-stops
 returns-in-Err-next_moment-clause-stops g c =
@@ -441,8 +463,8 @@ returns-in-Err-next_moment-clause-stops g c =
 
 pub returns-in-Err-next_moment-clause-stops_telling : goal.returns-in-Err-next_moment-clause-stops_telling
 returns-in-Err-next_moment-clause-stops_telling g c tells =
-    told_some c.args.configured.now.config c.args.setup.now.host c.args.configured.now.notes (g.O.Sink.written c.args.status.now) (g.O.Sink.written c.loop.status) (g.O.Sink.written c.told-in-Err-next_moment.new.status) (g.O.Sink.faults c.args.status.now) (g.O.Sink.faults c.loop.status) (g.O.Sink.faults c.told-in-Err-next_moment.new.status)
-    (inr (c.loop.invariant.told tells)) (skipped_behind (g.O.Sink.written c.loop.status) (g.O.Sink.written c.next_moment.new.status) (g.O.Sink.written c.told-in-Err-next_moment.new.status) (g.O.Sink.faults c.loop.status) (g.O.Sink.faults c.next_moment.new.status) (g.O.Sink.faults c.told-in-Err-next_moment.new.status) (c.in-Err-next_moment.ensures.untold tells) (c.told-in-Err-next_moment.ensures.skipped tells) c.next_moment.ensures.later c.told-in-Err-next_moment.ensures.later) c.loop.invariant.status_later
+    told_some (fixed_of g.K.Keeper.tells g.O.Sink.tells g.S.Source.tells g.S.Source.left c.args.setup.now c.args.configured.now.config c.args.configured.now.documents c.args.sources.now (g.K.Keeper.kept c.args.keeper.now) (g.O.Sink.written c.args.results.now)) (g.K.Keeper.kept c.loop.keeper) c.args.configured.now.notes (g.O.Sink.written c.args.status.now) (g.O.Sink.written c.loop.status) (g.O.Sink.written c.told-in-Err-next_moment.new.status) (g.O.Sink.faults c.args.status.now) (g.O.Sink.faults c.loop.status) (g.O.Sink.faults c.told-in-Err-next_moment.new.status)
+    (configurations c.loop.invariant.looping.running.added.entries) (λ told. inl (counted_now g.K.Keeper.tells g.O.Sink.tells g.S.Source.tells g.S.Source.left g.S.Source.faults c.args.setup.now c.args.configured.now.config c.args.configured.now.documents c.args.sources.now (g.K.Keeper.kept c.args.keeper.now) (g.O.Sink.written c.args.results.now) g.C.Clock.reads c.args.clock.now c.loop.clock c.loop.counter (g.K.Keeper.kept c.loop.keeper) (g.O.Sink.written c.loop.results) c.loop.feeds c.loop.sources c.loop.last c.loop.state c.loop.invariant.looping told)) (c.loop.invariant.told tells) (skipped_behind (g.O.Sink.written c.loop.status) (g.O.Sink.written c.next_moment.new.status) (g.O.Sink.written c.told-in-Err-next_moment.new.status) (g.O.Sink.faults c.loop.status) (g.O.Sink.faults c.next_moment.new.status) (g.O.Sink.faults c.told-in-Err-next_moment.new.status) (c.in-Err-next_moment.ensures.untold tells) (c.told-in-Err-next_moment.ensures.skipped tells) c.next_moment.ensures.later c.told-in-Err-next_moment.ensures.later) c.loop.invariant.status_later
 
 pub returns-in-Err-take_tick-2-clause-stops : goal.returns-in-Err-take_tick-2-clause-stops
 returns-in-Err-take_tick-2-clause-stops g c =
@@ -451,6 +473,7 @@ returns-in-Err-take_tick-2-clause-stops g c =
     tick_stops (fixed_of g.K.Keeper.tells g.O.Sink.tells g.S.Source.tells g.S.Source.left c.args.setup.now c.args.configured.now.config c.args.configured.now.documents c.args.sources.now (g.K.Keeper.kept c.args.keeper.now) (g.O.Sink.written c.args.results.now)) (λ readings. ReadsAll g.C.Clock.reads c.args.clock.now readings c.next_moment.new.clock) (g.K.Keeper.kept c.take_tick-in-loop.new.keeper) (c.told-in-Err-take_tick-2.new.status ≡ c.args.status.now) refused c.told-in-Err-take_tick-2.result c.numbers_of-sealed.result c.take_tick-in-loop.new.state c.told-in-Err-take_tick-2.ensures.same c.in-Err-take_tick-2.ensures.numbers
     (c.take_tick-in-loop.ensures.opened refused c.in-Err-take_tick-2.is).0
     (λ is. subst (λ (numbers : Numbers). AreSealed (fixed_of g.K.Keeper.tells g.O.Sink.tells g.S.Source.tells g.S.Source.left c.args.setup.now c.args.configured.now.config c.args.configured.now.documents c.args.sources.now (g.K.Keeper.kept c.args.keeper.now) (g.O.Sink.written c.args.results.now)) (λ readings. ReadsAll g.C.Clock.reads c.args.clock.now readings c.next_moment.new.clock) (g.K.Keeper.kept c.take_tick-in-loop.new.keeper) numbers) (sym same) (sealed_on g.K.Keeper.tells g.O.Sink.tells g.S.Source.tells g.S.Source.left g.S.Source.faults c.args.setup.now c.args.configured.now.config c.args.configured.now.documents c.args.sources.now (g.K.Keeper.kept c.args.keeper.now) (g.O.Sink.written c.args.results.now) g.C.Clock.reads c.args.clock.now c.loop.clock c.next_moment.new.clock c.loop.counter (g.K.Keeper.kept c.loop.keeper) (g.K.Keeper.kept c.take_tick-in-loop.new.keeper) (g.O.Sink.written c.loop.results) c.loop.feeds c.take_tick-in-loop.new.feeds c.loop.sources c.take_tick-in-loop.new.sources c.loop.last c.in-Ok-next_moment.moment c.loop.state c.loop.invariant.looping c.loop.invariant.ready.going c.in-Ok-next_moment.ensures.read c.in-Err-take_tick-2.ensures.kept))
+    (λ is. numbers_on g.K.Keeper.tells g.O.Sink.tells g.S.Source.tells g.S.Source.left g.S.Source.faults c.args.setup.now c.args.configured.now.config c.args.configured.now.documents c.args.sources.now (g.K.Keeper.kept c.args.keeper.now) (g.O.Sink.written c.args.results.now) g.C.Clock.reads c.args.clock.now c.loop.clock c.next_moment.new.clock c.loop.counter (g.K.Keeper.kept c.loop.keeper) (g.K.Keeper.kept c.take_tick-in-loop.new.keeper) (g.O.Sink.written c.loop.results) c.loop.feeds c.take_tick-in-loop.new.feeds c.loop.sources c.take_tick-in-loop.new.sources c.loop.last c.in-Ok-next_moment.moment c.loop.state c.loop.invariant.looping c.loop.invariant.ready.going c.in-Ok-next_moment.ensures.read c.take_tick-in-loop.new.state (c.take_tick-in-loop.ensures.sealed refused c.in-Err-take_tick-2.is is))
     (λ not_keeper not_sink. subst (λ (numbers : Numbers). AreNumbersOf (fixed_of g.K.Keeper.tells g.O.Sink.tells g.S.Source.tells g.S.Source.left c.args.setup.now c.args.configured.now.config c.args.configured.now.documents c.args.sources.now (g.K.Keeper.kept c.args.keeper.now) (g.O.Sink.written c.args.results.now)) (g.K.Keeper.kept c.take_tick-in-loop.new.keeper) numbers) (sym same)
     (numbers_same g.K.Keeper.tells g.O.Sink.tells g.S.Source.tells g.S.Source.left g.S.Source.faults c.args.setup.now c.args.configured.now.config c.args.configured.now.documents c.args.sources.now (g.K.Keeper.kept c.args.keeper.now) (g.O.Sink.written c.args.results.now) g.C.Clock.reads c.args.clock.now c.loop.clock c.next_moment.new.clock c.loop.counter (g.K.Keeper.kept c.loop.keeper) (g.K.Keeper.kept c.take_tick-in-loop.new.keeper) (g.O.Sink.written c.loop.results) c.loop.feeds c.take_tick-in-loop.new.feeds c.loop.sources c.take_tick-in-loop.new.sources c.loop.last c.in-Ok-next_moment.moment c.loop.state c.loop.invariant.looping c.loop.invariant.ready.going c.in-Ok-next_moment.ensures.read (λ tells. c.take_tick-in-loop.ensures.unkept tells refused c.in-Err-take_tick-2.is not_keeper not_sink)))
 
@@ -458,8 +481,8 @@ pub returns-in-Err-take_tick-2-clause-stops_telling : goal.returns-in-Err-take_t
 returns-in-Err-take_tick-2-clause-stops_telling g c tells =
     let before = c.loop.invariant.status_later in
     let noted = c.next_moment.ensures.later in
-    told_some c.args.configured.now.config c.args.setup.now.host c.args.configured.now.notes (g.O.Sink.written c.args.status.now) (g.O.Sink.written c.next_moment.new.status) (g.O.Sink.written c.told-in-Err-take_tick-2.new.status) (g.O.Sink.faults c.args.status.now) (g.O.Sink.faults c.next_moment.new.status) (g.O.Sink.faults c.told-in-Err-take_tick-2.new.status)
-    (inr (noted_on _ _ _ _ _ _ _ (c.loop.invariant.told tells) (c.in-Ok-next_moment.ensures.noted tells))) (c.told-in-Err-take_tick-2.ensures.skipped tells) (omega (arith, before, noted))
+    told_some (fixed_of g.K.Keeper.tells g.O.Sink.tells g.S.Source.tells g.S.Source.left c.args.setup.now c.args.configured.now.config c.args.configured.now.documents c.args.sources.now (g.K.Keeper.kept c.args.keeper.now) (g.O.Sink.written c.args.results.now)) (g.K.Keeper.kept c.take_tick-in-loop.new.keeper) c.args.configured.now.notes (g.O.Sink.written c.args.status.now) (g.O.Sink.written c.next_moment.new.status) (g.O.Sink.written c.told-in-Err-take_tick-2.new.status) (g.O.Sink.faults c.args.status.now) (g.O.Sink.faults c.next_moment.new.status) (g.O.Sink.faults c.told-in-Err-take_tick-2.new.status)
+    (more_by (asks_again c.args.configured.now.config c.loop.last c.in-Ok-next_moment.moment) (configurations c.loop.invariant.looping.running.added.entries)) (λ told. counted_in g.K.Keeper.tells g.O.Sink.tells g.S.Source.tells g.S.Source.left g.S.Source.faults c.args.setup.now c.args.configured.now.config c.args.configured.now.documents c.args.sources.now (g.K.Keeper.kept c.args.keeper.now) (g.O.Sink.written c.args.results.now) g.C.Clock.reads c.args.clock.now c.loop.clock c.next_moment.new.clock c.loop.counter (g.K.Keeper.kept c.loop.keeper) (g.K.Keeper.kept c.take_tick-in-loop.new.keeper) (g.O.Sink.written c.loop.results) c.loop.feeds c.take_tick-in-loop.new.feeds c.loop.sources c.take_tick-in-loop.new.sources c.loop.last c.in-Ok-next_moment.moment c.loop.state c.loop.invariant.looping c.loop.invariant.ready.going c.in-Ok-next_moment.ensures.read (c.in-Err-take_tick-2.ensures.kept told) told) (noted_on _ _ _ _ _ _ _ _ (c.loop.invariant.told tells) (c.in-Ok-next_moment.ensures.noted tells)) (c.told-in-Err-take_tick-2.ensures.skipped tells) (omega (arith, before, noted))
 
 pub returns-clause-stops : goal.returns-clause-stops
 returns-clause-stops g c =
@@ -473,8 +496,8 @@ pub returns-clause-stops_telling : goal.returns-clause-stops_telling
 returns-clause-stops_telling g c tells =
     let untold = c.end_session.ensures.untold tells in
     of_refusal _ _ _ c.end_session.result untold untold
-    (λ refused is same. told_some c.args.configured.now.config c.args.setup.now.host c.args.configured.now.notes (g.O.Sink.written c.args.status.now) (g.O.Sink.written c.loop.status) (g.O.Sink.written c.end_session.new.status) (g.O.Sink.faults c.args.status.now) (g.O.Sink.faults c.loop.status) (g.O.Sink.faults c.end_session.new.status)
-    (inr (c.loop.invariant.told tells)) (skipped_unless (g.O.Sink.written c.loop.status) (g.O.Sink.written c.end_session.new.status) (g.O.Sink.faults c.loop.status) (g.O.Sink.faults c.end_session.new.status) is) c.loop.invariant.status_later)
+    (λ refused is same. told_some (fixed_of g.K.Keeper.tells g.O.Sink.tells g.S.Source.tells g.S.Source.left c.args.setup.now c.args.configured.now.config c.args.configured.now.documents c.args.sources.now (g.K.Keeper.kept c.args.keeper.now) (g.O.Sink.written c.args.results.now)) (g.K.Keeper.kept c.loop.keeper) c.args.configured.now.notes (g.O.Sink.written c.args.status.now) (g.O.Sink.written c.loop.status) (g.O.Sink.written c.end_session.new.status) (g.O.Sink.faults c.args.status.now) (g.O.Sink.faults c.loop.status) (g.O.Sink.faults c.end_session.new.status)
+    (configurations c.loop.invariant.looping.running.added.entries) (λ told. inl (counted_now g.K.Keeper.tells g.O.Sink.tells g.S.Source.tells g.S.Source.left g.S.Source.faults c.args.setup.now c.args.configured.now.config c.args.configured.now.documents c.args.sources.now (g.K.Keeper.kept c.args.keeper.now) (g.O.Sink.written c.args.results.now) g.C.Clock.reads c.args.clock.now c.loop.clock c.loop.counter (g.K.Keeper.kept c.loop.keeper) (g.O.Sink.written c.loop.results) c.loop.feeds c.loop.sources c.loop.last c.loop.state c.loop.invariant.looping told)) (c.loop.invariant.told tells) (skipped_unless (g.O.Sink.written c.loop.status) (g.O.Sink.written c.end_session.new.status) (g.O.Sink.faults c.loop.status) (g.O.Sink.faults c.end_session.new.status) is) c.loop.invariant.status_later)
 
 pub returns-clause-fit : goal.returns-clause-fit
 returns-clause-fit g c tells = of_any _ c.end_session.result (subst Fits (c.in-Ok.ensures.value tells) c.in-Ok.ensures.fits)

@@ -13,6 +13,11 @@ use Rattle.replay_rounds.specs.declared.refused.RunError.{RunError}
 use Rattle.replay_rounds.proofs.Causes.{finished_numbers, unfilled_numbers, unfilled_fault, unfilled_spent, unfilled_keeper, unfilled_sink, unfilled_refused, unfilled_late, unfilled_shrank, unfinished_spent, unfinished_keeper, unfinished_sink, unfinished_fault, unfinished_refused, unfinished_late, unfinished_shrank}
 use Rattle.replay_rounds.proofs.ticking.take_tick.Goals as goal
 
+pub returns-in-Err-clause-sealed : goal.returns-in-Err-clause-sealed
+returns-in-Err-clause-sealed g c refused is error =
+    let same : c.unfilled.result ≡ refused = (cc) in
+    absurd (unfilled_sink c.in-Err.error (sym c.unfilled.ensures.error ∙ ap (λ (r : Refused). r.error) same ∙ error))
+
 pub returns-in-Err-clause-partly : goal.returns-in-Err-clause-partly
 returns-in-Err-clause-partly g c told refused is error =
     let same : c.unfilled.result ≡ refused = (cc) in
@@ -93,6 +98,18 @@ returns-in-Err-finish_tick-clause-kept g c told =
     by_cause finish.SinkFault e =
         let partly = c.finish_tick.ensures.partly (c.in-Err-finish_tick.is ∙ ap Err e) in
         inr (partly.settled, record { filled = c.fill_tick.new.state; fills = c.in-Ok.ensures.fills; settles = partly.settles }, partly.kept told)
+
+pub returns-in-Err-finish_tick-clause-sealed : goal.returns-in-Err-finish_tick-clause-sealed
+returns-in-Err-finish_tick-clause-sealed g c refused is error =
+    let same : c.unfinished.result ≡ refused = (cc) in
+    let why = unfinished_sink c.in-Err-finish_tick.error (sym c.unfinished.ensures.error ∙ ap (λ (r : Refused). r.error) same ∙ error) in
+    let partly = c.finish_tick.ensures.partly (c.in-Err-finish_tick.is ∙ ap Err why) in
+    record {
+      settled = partly.settled;
+      done = record { filled = c.fill_tick.new.state; fills = c.in-Ok.ensures.fills; settles = partly.settles };
+      taken = partly.taken;
+      kept = partly.kept;
+    }
 
 pub returns-in-Err-finish_tick-clause-partly : goal.returns-in-Err-finish_tick-clause-partly
 returns-in-Err-finish_tick-clause-partly g c told refused is error =
