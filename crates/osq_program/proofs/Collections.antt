@@ -1,6 +1,7 @@
 -- How a collector's run is answered.
 use Rattle.std.proofs.Common.{◌++◌, take, drop, length, get_or, slice_set, arith, ◌≡◌, ◌⊎◌, inl, inr, ℕ, Bool, true, false, List, [], ◌∷◌, Some, Result, Ok, Err, map, refl, sym, ap, subst, slice_get, ◌∙◌}
 use Rattle.std.proofs.Math.Seq.{take-append_seam}
+use Rattle.osq_value.specs.declared.source.SourceName.{SourceName}
 use Rattle.collector_core.specs.Ledgers.{digests_of}
 use Rattle.collector_ledger.specs.declared.opened.OpenedLedger.{OpenedLedger}
 use Rattle.collector_ledger.specs.Files.{IsOpened}
@@ -9,11 +10,13 @@ use Rattle.program_words.specs.declared.command.CollectWords.{CollectWords}
 use Rattle.collect_rounds.specs.declared.error.CollectError.{CollectError}
 use Rattle.collect_rounds.specs.declared.error.CollectError.TheVariants as stop
 use Rattle.osq_program.specs.declared.status.Status.{Status}
-use Rattle.osq_program.specs.declared.status.Status.TheVariants.{Ok as Done, TicksSpent, OutOfMemory}
-use Rattle.osq_program.specs.Collecting.{HasRun, IsCollect, IsStoppedBy, after, before, stream}
+use Rattle.osq_program.specs.declared.status.Status.TheVariants.{Ok as Done, FilesFault, SinkFault, TicksSpent, OutOfMemory}
+use Rattle.osq_program.specs.Collecting.{HasRun, IsCollect, IsStoppedBy, IsUnwritten, after, before, stream}
 use Rattle.osq_program.specs.Ending.{IsNamedAt}
 use Rattle.osq_program.specs.Observed.{Observed}
 use Rattle.osq_program.specs.Reasons.{HasFailed}
+use Rattle.osq_program.specs.Report.{HasFields, IsRefusedAs, IsUnread}
+use Rattle.osq_program.specs.Telling.{MayCollectTell}
 
 -- the stream is what the first source gives
 pub first_stream : {S : Type 0} → (left : S → List ℕ) (sources : List S) (source : S) → slice_get sources 0 ≡ Some source → stream (map left sources) ≡ left source
@@ -69,3 +72,24 @@ module _ (words : CollectWords) (seen : Observed) (kept : seen.keeper_tells → 
   stopped_so stop.SinkFault status is run source sinks =
       subst (λ (s : Status). IsCollect words seen s) (sym is) (record { leaves = run; quiet = λ done. absurd done; cause = λ refusal. sinks refl; kept = kept })
   stopped_so stop.NoMemory status is run source sinks = wanting stop.NoMemory status is run
+
+  -- the ledger's file can't be read
+  pub unread_so : (status : Status) → IsUnread status → seen.files_failed → IsUnwritten seen → IsCollect words seen status
+  unread_so status (inl is) failed same =
+      subst (λ (s : Status). IsCollect words seen s) (sym is) (record { leaves = same; quiet = λ done. absurd done; cause = λ refusal. failed; kept = kept })
+  unread_so status (inr is) failed same =
+      subst (λ (s : Status). IsCollect words seen s) (sym is) (record { leaves = inl same; quiet = λ done. absurd done; cause = λ refusal. tt; kept = kept })
+
+-- the answer to a collector that stopped so is one to it
+pub stopped_as : (sources : List SourceName) (error : CollectError) (stopped status : Status) → IsStoppedBy sources error stopped → IsRefusedAs stopped status → IsStoppedBy sources error status
+stopped_as sources error stopped status by (inl is) = subst (IsStoppedBy sources error) (sym is) by
+stopped_as sources stop.SourceFault stopped status by (inr (fields, is)) = inl is
+stopped_as sources stop.SinkFault stopped status by (inr (fields, is)) = absurd (subst HasFields by fields)
+stopped_as sources stop.NoMemory stopped status by (inr (fields, is)) = absurd (subst HasFields by fields)
+
+-- none of these answers tells of a file
+pub collect_may : (words : CollectWords) (error : CollectError) (status : Status) → IsStoppedBy words.sources error status → MayCollectTell words status []
+collect_may words stop.SourceFault status (inl is) = subst (λ (s : Status). MayCollectTell words s []) (sym is) refl
+collect_may words stop.SourceFault status (inr (name, named, is)) = subst (λ (s : Status). MayCollectTell words s []) (sym is) refl
+collect_may words stop.SinkFault status is = subst (λ (s : Status). MayCollectTell words s []) (sym is) refl
+collect_may words stop.NoMemory status is = subst (λ (s : Status). MayCollectTell words s []) (sym is) refl

@@ -1,5 +1,5 @@
 -- From what the parts of a check ensure to what `check` does.
-use Rattle.std.proofs.Common.{◌≡◌, ◌⊎◌, ◌<◌, ℕ, ◌+◌, length, get_or, List, [], ◌∷◌, ◌++◌, take, sym, ap, ◌∙◌, subst, append-nil, append_assoc}
+use Rattle.std.proofs.Common.{◌≡◌, ◌⊎◌, ◌<◌, refl, ℕ, ◌+◌, length, get_or, List, [], ◌∷◌, ◌++◌, take, sym, ap, ◌∙◌, subst, append-nil, append_assoc}
 use Rattle.std.proofs.lemmas.List.{take_more}
 use Rattle.osq_config.specs.declared.error.ConfigError.{ConfigError}
 use Rattle.pack_rules.specs.declared.schedule.Scheduled.{Scheduled}
@@ -10,6 +10,7 @@ use Rattle.config_files.specs.Naming.{key_of_error, kind_of_error}
 use Rattle.osq_program.specs.Checking.{HasLines, IsCheck, IsRefusedFor, CheckLeaves, Refuses, causes_of, query_line, schedule_lines}
 use Rattle.program_words.specs.declared.command.CheckWords.{CheckWords}
 use Rattle.osq_program.specs.Observed.{Observed}
+use Rattle.osq_program.specs.Telling.{MayCheckTell}
 use Rattle.osq_program.proofs.Replays.{not_spent}
 
 lines_end : (queries : List Scheduled) (scheduled : Scheduled) → schedule_lines (queries ++ scheduled ∷ []) ≡ schedule_lines queries ++ query_line scheduled
@@ -75,6 +76,22 @@ check_leaves w seen SinkFault caused same = absurd caused
 check_leaves w seen TicksSpent caused same = same
 check_leaves w seen (QueryRefused place kind) caused same = same
 check_leaves w seen OutOfMemory caused same = same
+
+pub check_may : (w : CheckWords) (seen : Observed) (R : List ℕ → List ℕ → Type 0) (s : Status) → IsCaused (record no_causes { refused = R }) s → MayCheckTell w seen s []
+check_may w seen R Done caused = refl
+check_may w seen R Usage caused = refl
+check_may w seen R FilesFault caused = absurd caused
+check_may w seen R (ConfigRefused kind key) caused = refl
+check_may w seen R KeeperFault caused = refl
+check_may w seen R KeeperRefused caused = refl
+check_may w seen R (MomentTooLarge moment) caused = refl
+check_may w seen R (SourceFault name) caused = refl
+check_may w seen R (SourceShrank name kept found) caused = refl
+check_may w seen R NumbersSpent caused = refl
+check_may w seen R SinkFault caused = absurd caused
+check_may w seen R TicksSpent caused = refl
+check_may w seen R (QueryRefused place kind) caused = refl
+check_may w seen R OutOfMemory caused = refl
 
 -- by the configuration
 pub refused_config : (w : CheckWords) (seen : Observed) (s r : Status) → r ≡ s → IsCaused (record no_causes { files = seen.files_failed; refused = IsRefusedFor seen.files_tell seen.file w.config }) s

@@ -1,10 +1,11 @@
 -- From what the parts of a query ensure to what `query` does.
-use Rattle.std.proofs.Common.{◌≡◌, inl, inr, ◌≤◌, ℕ, Bool, true, false, List, ◌++◌, map, take, refl, sym, ap, ◌∙◌, subst, Some, None}
+use Rattle.std.proofs.Common.{◌≡◌, inl, inr, ◌≤◌, ℕ, Bool, true, false, List, [], ◌++◌, map, take, refl, sym, ap, ◌∙◌, subst, Some, None}
 use Rattle.osq_value.specs.declared.moment.TheConstants.{LAST_MOMENT}
 use Rattle.osq_value.specs.declared.reading.Category.{Category}
 use Rattle.osq_value.specs.declared.value.Value.{Value}
 use Rattle.entry_model.specs.declared.entry.Entry.{Entry}
 use Rattle.entry_model.specs.declared.restored.Taken.{Taken}
+use Rattle.entry_model.specs.Fits.{Fits}
 use Rattle.entry_model.specs.Legal.{Legal}
 use Rattle.entry_model.specs.Summary.{summary}
 use Rattle.program_words.specs.declared.command.QueryWords.{QueryWords}
@@ -25,12 +26,15 @@ use Rattle.query_rounds.specs.declared.error.AskError.TheVariants as ask
 use Rattle.osq_program.specs.declared.status.Status.{Status}
 use Rattle.osq_program.specs.declared.status.Status.TheVariants.{Ok as Done, Usage, FilesFault, ConfigRefused, KeeperFault, KeeperRefused, MomentTooLarge, SourceFault, SourceShrank, NumbersSpent, SinkFault, TicksSpent, QueryRefused, OutOfMemory}
 use Rattle.osq_program.specs.Answers.{Causes, IsCaused, IsDoneStatus, IsRefusal, no_causes}
-use Rattle.osq_program.specs.Ending.{ended_by}
+use Rattle.osq_program.specs.Ending.{IsAnswerTo, ended_by}
 use Rattle.osq_program.specs.Querying.{HasAnswer, IsQueryGiven, IsPosed, IsQuery, IsRefusedAt, QueryLeaves, Writes, causes_of, lines_in, row_lines}
+use Rattle.osq_program.specs.Report.{IsRefusedAs}
 use Rattle.osq_program.specs.Setups.{sources_named}
+use Rattle.osq_program.specs.Telling.{ArePosed, EndsShort, MayQueryTell}
 use Rattle.osq_program.specs.Observed.{Observed}
 use Rattle.osq_program.specs.Watching.{AreWatched, IsRefusedIn}
 use Rattle.osq_program.proofs.Setups.{sources_are}
+use Rattle.osq_program.proofs.Toldings.{as_plain}
 
 -- each of these causes is one of those
 pub record Within (c d : Causes) : Type 0 where
@@ -60,6 +64,13 @@ caused_by_more c d more SinkFault caused = more.sink caused
 caused_by_more c d more TicksSpent caused = caused
 caused_by_more c d more (QueryRefused place kind) caused = more.query place kind.now caused
 caused_by_more c d more OutOfMemory caused = tt
+
+-- nothing is written where the sources had more, and a front part at a fault
+pub writes_spent : (tells : Type 0) (is_end : Bool) (before after lines : List ℕ) (failed : Type 0) (s : Status) → IsRefusedAs TicksSpent s → is_end ≡ false → (tells → after ≡ before) → Writes tells is_end before after lines failed s
+writes_spent tells is_end before after lines failed s is more same = subst (Writes tells is_end before after lines failed) (sym (as_plain TicksSpent s (λ none. none) is)) (more, same)
+
+pub writes_fault : (tells : Type 0) (is_end : Bool) (before after lines : List ℕ) (failed : Type 0) (s : Status) → IsRefusedAs SinkFault s → is_end ≡ true → failed → (tells → (count : ℕ) × (after ≡ before ++ take count lines)) → Writes tells is_end before after lines failed s
+writes_fault tells is_end before after lines failed s is whole fault part = subst (Writes tells is_end before after lines failed) (sym (as_plain SinkFault s (λ none. none) is)) (whole, fault, part)
 
 -- a refusal leaves the results as they were, where a fault of a sink was one of the status stream
 leaves_same : (words : QueryWords) (seen : Observed) (c : Causes) (s : Status) → IsCaused c s → (c.sink → seen.status_failed) → (seen.sink_tells → seen.results_after ≡ seen.results_before) → QueryLeaves words seen s
@@ -192,11 +203,11 @@ skips_for words tells paths taken names given_bytes all_bytes is_end lines named
 -- the question was answered, and what was then written
 module _ (words : QueryWords) (seen : Observed) (posed : IsPosed words seen) (moment : ℕ) (read : seen.reads moment) (early : moment ≤ LAST_MOMENT) (asked : Asked)
     (meant : asking.AnswersSomeContinuation seen.keeper_tells seen.kept_before words.sources words.text moment asked.rows)
-    (taken : List Taken) (taken_is : seen.keeper_tells → taken ≡ (summary seen.kept_before).taken) (skips : TellsSkipped seen.source_tells posed.watched.paths taken words.sources seen.all_bytes asked.is_end asked.skipped)
+    (taken : List Taken) (taken_is : seen.keeper_tells → taken ≡ (summary seen.kept_before).taken) (fit : seen.keeper_tells → Fits (summary seen.kept_before)) (skips : TellsSkipped seen.source_tells posed.watched.paths taken words.sources seen.all_bytes asked.is_end asked.skipped)
     (answer : seen.keeper_tells → seen.source_tells → Legal seen.kept_before → (given : Given) → IsQueryGiven words seen posed given → asking.IsAnswer given seen.kept_before words.text words.ticks moment asked)
     (lines : List ℕ) (same : lines ≡ lines_in words asked) (kept : seen.keeper_tells → seen.kept_after ≡ seen.kept_before) where
   abbrev has : (is_end : Bool) → asked.is_end ≡ is_end → HasAnswer words seen is_end
-  has is_end end_is = record { posed = posed; moment = moment; read = read; early = early; asked = asked; end_is = end_is; meant = meant; taken = taken; taken_is = taken_is; skips = skips; answer = answer }
+  has is_end end_is = record { posed = posed; moment = moment; read = read; early = early; asked = asked; end_is = end_is; meant = meant; taken = taken; taken_is = taken_is; fit = fit; skips = skips; answer = answer }
 
   leaves_written : (s : Status) → Writes seen.sink_tells asked.is_end seen.results_before seen.results_after lines seen.results_failed s
       → (IsDoneStatus s → seen.sink_tells → seen.status_after ≡ seen.status_before ++ (posed.watched.notes ++ asked.skipped)) → QueryLeaves words seen s
@@ -236,6 +247,73 @@ module _ (words : QueryWords) (seen : Observed) (posed : IsPosed words seen) (mo
   pub answered : (s : Status) → Writes seen.sink_tells asked.is_end seen.results_before seen.results_after lines seen.results_failed s
       → (IsDoneStatus s → seen.sink_tells → seen.status_after ≡ seen.status_before ++ (posed.watched.notes ++ asked.skipped)) → IsQuery words seen s
   answered s writes quiet = record { leaves = leaves_written s writes quiet; cause = caused_written s writes; kept = kept }
+
+  -- what may stand before the line of its status
+  pub answered_may : (s : Status) → EndsShort s → Writes seen.sink_tells asked.is_end seen.results_before seen.results_after lines seen.results_failed s → MayQueryTell words seen s (posed.watched.notes ++ asked.skipped)
+  answered_may Done short writes = absurd short
+  answered_may Usage short writes = absurd short
+  answered_may FilesFault short writes = absurd writes
+  answered_may (ConfigRefused kind key) short writes = absurd writes
+  answered_may KeeperFault short writes = absurd writes
+  answered_may KeeperRefused short writes = absurd writes
+  answered_may (MomentTooLarge moment) short writes = absurd writes
+  answered_may (SourceFault name) short writes = absurd writes
+  answered_may (SourceShrank name kept found) short writes = absurd writes
+  answered_may NumbersSpent short writes = absurd writes
+  answered_may SinkFault short writes = inr (true, (has true writes.0, refl))
+  answered_may TicksSpent short writes = (has false writes.0, refl)
+  answered_may (QueryRefused place kind) short writes = absurd writes
+  answered_may OutOfMemory short writes = inr (inr (asked.is_end, (has asked.is_end refl, refl)))
+
+  -- the lines of skipped lines could not be written
+  pub unskipped_may : MayQueryTell words seen SinkFault (posed.watched.notes ++ asked.skipped)
+  unskipped_may = inr (asked.is_end, (has asked.is_end refl, refl))
+
+-- by the text
+pub text_may : (words : QueryWords) (seen : Observed) (Q : ℕ → List ℕ → Type 0) (s : Status) → IsCaused (record no_causes { query = Q }) s → MayQueryTell words seen s []
+text_may words seen Q Done caused = absurd caused
+text_may words seen Q Usage caused = absurd caused
+text_may words seen Q FilesFault caused = absurd caused
+text_may words seen Q (ConfigRefused kind key) caused = absurd caused
+text_may words seen Q KeeperFault caused = absurd caused
+text_may words seen Q KeeperRefused caused = absurd caused
+text_may words seen Q (MomentTooLarge moment) caused = absurd caused
+text_may words seen Q (SourceFault name) caused = absurd caused
+text_may words seen Q (SourceShrank name kept found) caused = absurd caused
+text_may words seen Q NumbersSpent caused = absurd caused
+text_may words seen Q SinkFault caused = absurd caused
+text_may words seen Q TicksSpent caused = absurd caused
+text_may words seen Q (QueryRefused place kind) caused = refl
+text_may words seen Q OutOfMemory caused = inl refl
+
+-- by the configuration
+pub config_may : (words : QueryWords) (seen : Observed) (R : List ℕ → List ℕ → Type 0) (s : Status) → IsCaused (record no_causes { refused = R }) s → MayQueryTell words seen s []
+config_may words seen R Done caused = absurd caused
+config_may words seen R Usage caused = absurd caused
+config_may words seen R FilesFault caused = absurd caused
+config_may words seen R (ConfigRefused kind key) caused = refl
+config_may words seen R KeeperFault caused = absurd caused
+config_may words seen R KeeperRefused caused = absurd caused
+config_may words seen R (MomentTooLarge moment) caused = absurd caused
+config_may words seen R (SourceFault name) caused = absurd caused
+config_may words seen R (SourceShrank name kept found) caused = absurd caused
+config_may words seen R NumbersSpent caused = absurd caused
+config_may words seen R SinkFault caused = absurd caused
+config_may words seen R TicksSpent caused = absurd caused
+config_may words seen R (QueryRefused place kind) caused = absurd caused
+config_may words seen R OutOfMemory caused = inl refl
+
+-- behind the question
+pub ended_may : (words : QueryWords) (seen : Observed) (sources : List SourceName) (e : AskError) (s : Status) (front : List ℕ) → IsAnswerTo sources (ended_by e) s → ArePosed words seen front → MayQueryTell words seen s front
+ended_may words seen sources ask.KeeperFault s front is posed = subst (λ (s : Status). MayQueryTell words seen s front) (sym is) posed
+ended_may words seen sources ask.KeeperRefused s front is posed = subst (λ (s : Status). MayQueryTell words seen s front) (sym is) posed
+ended_may words seen sources (ask.MomentTooLarge moment) s front is posed = subst (λ (s : Status). MayQueryTell words seen s front) (sym is) posed
+ended_may words seen sources (ask.SourceFault place) s front (inl is) posed = subst (λ (s : Status). MayQueryTell words seen s front) (sym is) (inr (inl posed))
+ended_may words seen sources (ask.SourceFault place) s front (inr (name, named, is)) posed = subst (λ (s : Status). MayQueryTell words seen s front) (sym is) posed
+ended_may words seen sources (ask.SourceShrank place kept found) s front (inl is) posed = subst (λ (s : Status). MayQueryTell words seen s front) (sym is) (inr (inl posed))
+ended_may words seen sources (ask.SourceShrank place kept found) s front (inr (name, named, is)) posed = subst (λ (s : Status). MayQueryTell words seen s front) (sym is) posed
+ended_may words seen sources ask.NumbersSpent s front is posed = subst (λ (s : Status). MayQueryTell words seen s front) (sym is) posed
+ended_may words seen sources ask.NoMemory s front is posed = subst (λ (s : Status). MayQueryTell words seen s front) (sym is) (inr (inl posed))
 
 -- a question ends as a session does, where it is for the same reason
 pub as_keeper : (e : AskError) → ended_by e ≡ running.KeeperFault → e ≡ ask.KeeperFault

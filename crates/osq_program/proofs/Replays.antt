@@ -5,6 +5,7 @@ use Rattle.std.proofs.lemmas.Option.{same_Some, slice_get-map, slice_get_within}
 use Rattle.config_files.specs.Configurations.{IsConfigured}
 use Rattle.osq_config.specs.declared.config.Config.{Config}
 use Rattle.entry_model.specs.declared.restored.Taken.{Taken}
+use Rattle.entry_model.specs.Fits.{Fits}
 use Rattle.entry_model.specs.Next.{offset_at}
 use Rattle.entry_model.specs.Summary.{summary}
 use Rattle.entry_model.specs.Values.{taken_from}
@@ -29,7 +30,7 @@ use Rattle.osq_program.specs.Checking.{IsRefusedFor}
 use Rattle.osq_program.specs.Ending.{IsAnswerTo, IsNamedAt}
 use Rattle.osq_program.specs.Reasons.{HasShrunk}
 use Rattle.osq_program.specs.Replaying.{IsAccepted, IsReplayGiven, IsReplay, IsToldBy, Ran, causes_of, fixed}
-use Rattle.osq_program.specs.Report.{final_line, spent_line}
+use Rattle.osq_program.specs.Report.{final_line, refusal_line}
 use Rattle.osq_program.specs.Setups.{setup_in, sources_named}
 use Rattle.osq_program.specs.Observed.{Observed}
 use Rattle.osq_program.proofs.Setups.{sources_are}
@@ -118,31 +119,30 @@ line_cause words seen accepted (QueryRefused place kind) caused = caused
 line_cause words seen accepted OutOfMemory caused = tt
 
 -- a run that ended before its session was done
-pub stopped : (words : ReplayWords) (seen : Observed) (s r : Status) → r ≡ s → IsCaused (causes_of words seen) s
-    → (seen.keeper_tells → (seen.kept_after ≡ seen.kept_before) ⊎ ((given : Given) × IsReplayGiven words seen given × IsKept (fixed seen given) seen.has_read seen.kept_after))
-    → (seen.sink_tells → (seen.results_after ≡ seen.results_before) ⊎ ((given : Given) × IsReplayGiven words seen given × IsWritten (fixed seen given) seen.kept_after seen.results_after))
-    → IsReplay words seen r
-stopped words seen s r is caused kept written =
-    subst (IsReplay words seen) (sym is) (record {
-      done = λ done. absurd (not_done (causes_of words seen) s caused done);
-      spent = λ spent. absurd (not_spent (causes_of words seen) s caused spent);
-      cause = λ refusal. caused;
-      kept = kept;
-      written = written;
-    })
+pub stopped : (words : ReplayWords) (seen : Observed) (s : Status) → IsCaused (causes_of words seen) s
+    → (seen.keeper_tells → ((seen.kept_after ≡ seen.kept_before) × seen.has_read []) ⊎ ((given : Given) × IsReplayGiven words seen given × IsKept (fixed seen given) seen.has_read seen.kept_after))
+    → (seen.sink_tells → ((seen.results_after ≡ seen.results_before) × seen.has_read []) ⊎ ((given : Given) × IsReplayGiven words seen given × IsWritten (fixed seen given) seen.kept_after seen.results_after))
+    → IsReplay words seen s
+stopped words seen s caused kept written = record {
+  done = λ done. absurd (not_done (causes_of words seen) s caused done);
+  spent = λ spent. absurd (not_spent (causes_of words seen) s caused spent);
+  cause = λ refusal. caused;
+  kept = kept;
+  written = written;
+}
 
 -- before its session began
-unbegun : (words : ReplayWords) (seen : Observed) (s r : Status) → r ≡ s → IsCaused (causes_of words seen) s → (seen.keeper_tells → seen.kept_after ≡ seen.kept_before) → (seen.sink_tells → seen.results_after ≡ seen.results_before)
-    → IsReplay words seen r
-unbegun words seen s r is caused kept same = stopped words seen s r is caused (λ tells. inl (kept tells)) (λ tells. inl (same tells))
+unbegun : (words : ReplayWords) (seen : Observed) (s : Status) → IsCaused (causes_of words seen) s → seen.has_read [] → (seen.keeper_tells → seen.kept_after ≡ seen.kept_before) → (seen.sink_tells → seen.results_after ≡ seen.results_before)
+    → IsReplay words seen s
+unbegun words seen s caused unread kept same = stopped words seen s caused (λ tells. inl (kept tells, unread)) (λ tells. inl (same tells, unread))
 
-pub refused_config : (words : ReplayWords) (seen : Observed) (s r : Status) → r ≡ s → IsCaused (record no_causes { files = seen.files_failed; refused = IsRefusedFor seen.files_tell seen.file words.config }) s
-    → (seen.keeper_tells → seen.kept_after ≡ seen.kept_before) → (seen.sink_tells → seen.results_after ≡ seen.results_before) → IsReplay words seen r
-refused_config words seen s r is caused kept same = unbegun words seen s r is (config_cause words seen s caused) kept same
+pub refused_config : (words : ReplayWords) (seen : Observed) (s : Status) → IsCaused (record no_causes { files = seen.files_failed; refused = IsRefusedFor seen.files_tell seen.file words.config }) s → seen.has_read []
+    → (seen.keeper_tells → seen.kept_after ≡ seen.kept_before) → (seen.sink_tells → seen.results_after ≡ seen.results_before) → IsReplay words seen s
+refused_config words seen s caused unread kept same = unbegun words seen s (config_cause words seen s caused) unread kept same
 
-pub no_memory : (words : ReplayWords) (seen : Observed) (r : Status) → r ≡ OutOfMemory → (seen.keeper_tells → seen.kept_after ≡ seen.kept_before) → (seen.sink_tells → seen.results_after ≡ seen.results_before)
+pub no_memory : (words : ReplayWords) (seen : Observed) (r : Status) → r ≡ OutOfMemory → seen.has_read [] → (seen.keeper_tells → seen.kept_after ≡ seen.kept_before) → (seen.sink_tells → seen.results_after ≡ seen.results_before)
     → IsReplay words seen r
-no_memory words seen r is kept same = unbegun words seen OutOfMemory r is tt kept same
+no_memory words seen r is unread kept same = subst (IsReplay words seen) (sym is) (unbegun words seen OutOfMemory tt unread kept same)
 
 -- what a session is given by its setup
 abbrev pub given_is : {S : Type 0} (left : S → List ℕ) (words : ReplayWords) (seen : Observed) (setup : Setup) (config : Config) (documents : List (List ℕ)) (notes : List ℕ) (objects : List S) → setup ≡ setup_in words
@@ -157,20 +157,20 @@ given_is left words seen setup config documents notes objects is bytes configure
 
 -- a session that did all its ticks, and what was then told of it
 module _ (words : ReplayWords) (seen : Observed) (status : Status) (given : Given) (is : IsReplayGiven words seen given) (ended : Ended)
-    (run : HasRun (fixed seen given) seen.has_read words.ticks seen.kept_after seen.results_after ended) (between : List ℕ) (session : seen.sink_tells → HasTold given.config given.host is.notes seen.status_before between) where
+    (run : HasRun (fixed seen given) seen.has_read words.ticks seen.kept_after seen.results_after ended) (between : List ℕ) (session : seen.sink_tells → HasTold (fixed seen given) seen.kept_after is.notes seen.status_before between) (fit : seen.keeper_tells → Fits (summary seen.kept_before)) where
   abbrev ran_with : (is_end : Bool) → ended.is_end ≡ is_end → Ran words seen is_end
-  ran_with is_end end_is = record { given = given; is = is; ended = ended; end_is = end_is; run = run }
+  ran_with is_end end_is = record { given = given; is = is; ended = ended; end_is = end_is; run = run; fit = fit }
 
   told_by : (text : List ℕ) → seen.sink_tells → seen.status_after ≡ between ++ text → IsToldBy seen given is.notes text
   told_by text tells written = (between, session tells, written)
 
-  told_spent : (failed : Type 0) → (failed → seen.status_failed) → seen.sink_tells → (seen.status_after ≡ between ++ (spent_line ++ final_line 11 ended.numbers 0)) ⊎ failed
-      → IsToldBy seen given is.notes (spent_line ++ final_line 11 ended.numbers 0) ⊎ seen.status_failed
-  told_spent failed more tells (inl written) = inl (told_by (spent_line ++ final_line 11 ended.numbers 0) tells written)
+  told_spent : (failed : Type 0) → (failed → seen.status_failed) → seen.sink_tells → (seen.status_after ≡ between ++ (refusal_line TicksSpent ++ final_line 11 ended.numbers 0)) ⊎ failed
+      → IsToldBy seen given is.notes (refusal_line TicksSpent ++ final_line 11 ended.numbers 0) ⊎ seen.status_failed
+  told_spent failed more tells (inl written) = inl (told_by (refusal_line TicksSpent ++ final_line 11 ended.numbers 0) tells written)
   told_spent failed more tells (inr rose) = inr (more rose)
 
   pub ran : (failed : Type 0) → (failed → seen.status_failed) → (IsDoneStatus status → (ended.is_end ≡ true) × (seen.sink_tells → seen.status_after ≡ between ++ final_line 0 ended.numbers 0))
-      → (IsSpentStatus status → (ended.is_end ≡ false) × (seen.sink_tells → (seen.status_after ≡ between ++ (spent_line ++ final_line 11 ended.numbers 0)) ⊎ failed))
+      → (IsSpentStatus status → (ended.is_end ≡ false) × (seen.sink_tells → (seen.status_after ≡ between ++ (refusal_line TicksSpent ++ final_line 11 ended.numbers 0)) ⊎ failed))
       → (IsRefusal status → IsCaused (record no_causes { sink = failed }) status)
       → (seen.keeper_tells → IsKept (fixed seen given) seen.has_read seen.kept_after) → (seen.sink_tells → IsWritten (fixed seen given) seen.kept_after seen.results_after) → IsReplay words seen status
   ran failed more done spent cause kept written = record {

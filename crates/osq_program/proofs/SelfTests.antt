@@ -21,8 +21,10 @@ use Rattle.osq_program.specs.declared.status.Status.TheVariants.{Ok as Done, Sin
 use Rattle.osq_program.specs.Answers.{IsDoneStatus}
 use Rattle.osq_program.specs.Observed.{Observed}
 use Rattle.osq_program.specs.Replaying.{IsReplayGiven}
+use Rattle.osq_program.specs.Report.{IsRefusedAs}
 use Rattle.osq_program.specs.SelfTesting.{HasRunOver, HasTested, IsSelfGiven, IsSelfTest, config_path, document, readings_from, self_fixed, self_key, self_words}
 use Rattle.osq_program.specs.Setups.{host_in, sources_named}
+use Rattle.osq_program.proofs.Toldings.{as_plain}
 
 -- the same run, told by another property of the readings
 pub read_as : (x : Fixed) (p q : List ℕ → Type 0) (ticks : ℕ) (kept : List Entry) (written : List ℕ) (ended : Ended) → ((readings : List ℕ) → p readings → q readings) → HasRun x p ticks kept written ended → HasRun x q ticks kept written ended
@@ -121,9 +123,9 @@ session_tested w lines before kept status result ran done lines_are empty is =
 pub tested_whole : (w : GenerateWords) (seen : Observed) (line : List ℕ) → HasTested w line → (seen.sink_tells → seen.results_after ≡ seen.results_before ++ line) → (seen.sink_tells → seen.status_after ≡ seen.status_before) → IsSelfTest w seen Done
 tested_whole w seen line has all quiet = record { leaves = (line, has, all); quiet = λ done. quiet; unspent = λ spent. spent; cause = λ refusal. absurd refusal }
 
-pub tested_partly : (w : GenerateWords) (seen : Observed) (line : List ℕ) → HasTested w line → (seen.sink_tells → (count : ℕ) × (seen.results_after ≡ seen.results_before ++ take count line)) → seen.results_failed → (r : Status) → r ≡ SinkFault → IsSelfTest w seen r
+pub tested_partly : (w : GenerateWords) (seen : Observed) (line : List ℕ) → HasTested w line → (seen.sink_tells → (count : ℕ) × (seen.results_after ≡ seen.results_before ++ take count line)) → seen.results_failed → (r : Status) → IsRefusedAs SinkFault r → IsSelfTest w seen r
 tested_partly w seen line has front failed r is =
-    subst (IsSelfTest w seen) (sym is) (record { leaves = (line, has, front); quiet = λ done. absurd done; unspent = λ spent. spent; cause = λ refusal. failed })
+    subst (IsSelfTest w seen) (sym (as_plain SinkFault r (λ none. none) is)) (record { leaves = (line, has, front); quiet = λ done. absurd done; unspent = λ spent. spent; cause = λ refusal. failed })
 
 pub untested : (w : GenerateWords) (seen : Observed) → (seen.sink_tells → seen.results_after ≡ seen.results_before) → (r : Status) → r ≡ OutOfMemory → IsSelfTest w seen r
 untested w seen same r is =

@@ -13,6 +13,7 @@ use Rattle.osq_program.specs.Replaying.{IsReplay}
 use Rattle.osq_program.specs.Reporting.{IsShown}
 use Rattle.osq_program.specs.Observed.{Observed}
 use Rattle.osq_program.specs.SelfTesting.{IsSelfTest}
+use Rattle.osq_program.specs.Telling.{TellsAlone, TellsCheck, TellsCollect, TellsQuery, TellsReplay}
 
 abbrev pub QueriesBy : Bool → QueryWords → Observed → Status → Type 0
 QueriesBy true words seen status = IsExplain (record { text = words.text }) seen status
@@ -29,3 +30,20 @@ MeetsCommand (AsksCollect words) seen status = IsCollect words seen status
 MeetsCommand (AsksGenerate words) seen status = IsGenerate words seen status
 MeetsCommand (AsksSelfTest words) seen status = IsSelfTest words seen status
 MeetsCommand (AsksReport words) seen status = IsShown seen status
+
+abbrev pub TellsQueryBy : Bool → QueryWords → Observed → Status → Type 0
+TellsQueryBy true words seen status = TellsAlone seen status
+TellsQueryBy false words seen status = TellsQuery words seen status
+
+abbrev pub TellsOfQuery : QueryWords → Observed → Status → Type 0
+TellsOfQuery words seen status = TellsQueryBy words.explain words seen status
+
+-- and what it tells where it doesn't end with Ok
+abbrev pub TellsCommand : CommandWords → Observed → Status → Type 0
+TellsCommand (AsksReplay words) seen status = TellsReplay words seen status
+TellsCommand (AsksQuery words) seen status = TellsOfQuery words seen status
+TellsCommand (AsksCheck words) seen status = TellsCheck words seen status
+TellsCommand (AsksCollect words) seen status = TellsCollect words seen status
+TellsCommand (AsksGenerate words) seen status = TellsAlone seen status
+TellsCommand (AsksSelfTest words) seen status = TellsAlone seen status
+TellsCommand (AsksReport words) seen status = TellsAlone seen status

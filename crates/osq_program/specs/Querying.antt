@@ -3,6 +3,7 @@ use Rattle.std.specs.Prelude.{◌≡◌, ◌⊎◌, ◌<◌, ◌≤◌, ℕ, Boo
 use Rattle.osq_value.specs.declared.moment.TheConstants.{LAST_MOMENT}
 use Rattle.osq_value.specs.declared.value.Value.{Value}
 use Rattle.entry_model.specs.declared.restored.Taken.{Taken}
+use Rattle.entry_model.specs.Fits.{Fits}
 use Rattle.entry_model.specs.Legal.{Legal}
 use Rattle.entry_model.specs.Summary.{summary}
 use Rattle.program_words.specs.declared.command.QueryWords.{QueryWords}
@@ -59,6 +60,7 @@ pub record HasAnswer (words : QueryWords) (seen : Observed) (is_end : Bool) : Ty
   pub meant : AnswersSomeContinuation seen.keeper_tells seen.kept_before words.sources words.text moment asked.rows
   pub taken : List Taken
   pub taken_is : seen.keeper_tells → taken ≡ (summary seen.kept_before).taken
+  pub fit : seen.keeper_tells → Fits (summary seen.kept_before)
   pub skips : TellsSkipped seen.source_tells posed.watched.paths taken words.sources seen.all_bytes asked.is_end asked.skipped
   pub answer : seen.keeper_tells → seen.source_tells → Legal seen.kept_before → (given : Given) → IsQueryGiven words seen posed given → IsAnswer given seen.kept_before words.text words.ticks moment asked
 

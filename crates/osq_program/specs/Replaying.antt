@@ -2,6 +2,8 @@
 use Rattle.std.specs.Prelude.{◌≡◌, ◌⊎◌, ◌<◌, ℕ, Bool, true, false, List, [], ◌∷◌, ◌++◌}
 use Rattle.osq_value.specs.declared.moment.TheConstants.{LAST_MOMENT}
 use Rattle.config_files.specs.Configurations.{IsConfigured}
+use Rattle.entry_model.specs.Fits.{Fits}
+use Rattle.entry_model.specs.Summary.{summary}
 use Rattle.program_words.specs.declared.command.ReplayWords.{ReplayWords}
 use Rattle.session_model.specs.Given.{Given}
 use Rattle.replay_rounds.specs.declared.running.Ended.{Ended}
@@ -10,10 +12,11 @@ use Rattle.replay_rounds.specs.Noting.{HasTold}
 use Rattle.replay_rounds.specs.Running.{HasRun, IsKept, IsWritten}
 use Rattle.replay_rounds.specs.Spent.{RanOutOfNumbers}
 use Rattle.osq_program.specs.declared.status.Status.{Status}
+use Rattle.osq_program.specs.declared.status.Status.TheVariants.{TicksSpent}
 use Rattle.osq_program.specs.Answers.{Causes, IsCaused, IsDoneStatus, IsSpentStatus, IsRefusal, no_causes}
 use Rattle.osq_program.specs.Checking.{IsRefusedFor}
 use Rattle.osq_program.specs.Reasons.{HasFailed, HasShrunk, IsUnfit}
-use Rattle.osq_program.specs.Report.{final_line, spent_line}
+use Rattle.osq_program.specs.Report.{final_line, refusal_line}
 use Rattle.osq_program.specs.Setups.{host_in, sources_named}
 use Rattle.osq_program.specs.Observed.{Observed}
 
@@ -42,13 +45,14 @@ fixed seen given =
       written = seen.results_before;
     }
 
--- All its ticks were run: each source is then at its end, or one of them had more.
+-- All its ticks were run, behind values that a session may go on from: each source is then at its end, or one of them had more.
 pub record Ran (words : ReplayWords) (seen : Observed) (is_end : Bool) : Type 0 where
   pub given : Given
   pub is : IsReplayGiven words seen given
   pub ended : Ended
   pub end_is : ended.is_end ≡ is_end
   pub run : HasRun (fixed seen given) seen.has_read words.ticks seen.kept_after seen.results_after ended
+  pub fit : seen.keeper_tells → Fits (summary seen.kept_before)
 
 -- the clock gave this moment, last of all
 abbrev pub IsTooLate : Observed → ℕ → Type 0
@@ -69,17 +73,17 @@ causes_of words seen =
       sink = IsAccepted words seen × (seen.results_failed ⊎ seen.status_failed);
     }
 
--- The status stream has grown by what the session told: of its configuration with the packs that are left out, of each later one, and of
--- skipped lines; and then by these.
+-- The status stream has grown by what the session told: of each of its configurations with the packs that are left out, and of skipped lines; and
+-- then by these.
 abbrev pub IsToldBy : Observed → Given → List ℕ → List ℕ → Type 0
 IsToldBy seen given left_out last =
-    (between : List ℕ) × HasTold given.config given.host left_out seen.status_before between × (seen.status_after ≡ between ++ last)
+    (between : List ℕ) × HasTold (fixed seen given) seen.kept_after left_out seen.status_before between × (seen.status_after ≡ between ++ last)
 
 pub record IsReplay (words : ReplayWords) (seen : Observed) (status : Status) : Type 0 where
   pub done : IsDoneStatus status → (ran : Ran words seen true) × (seen.sink_tells → IsToldBy seen ran.given ran.is.notes (final_line 0 ran.ended.numbers 0))
   pub spent : IsSpentStatus status → (ran : Ran words seen false)
-      × (seen.sink_tells → IsToldBy seen ran.given ran.is.notes (spent_line ++ final_line 11 ran.ended.numbers 0) ⊎ seen.status_failed)
+      × (seen.sink_tells → IsToldBy seen ran.given ran.is.notes (refusal_line TicksSpent ++ final_line 11 ran.ended.numbers 0) ⊎ seen.status_failed)
   pub cause : IsRefusal status → IsCaused (causes_of words seen) status
-  -- however it ends
-  pub kept : seen.keeper_tells → (seen.kept_after ≡ seen.kept_before) ⊎ ((given : Given) × IsReplayGiven words seen given × IsKept (fixed seen given) seen.has_read seen.kept_after)
-  pub written : seen.sink_tells → (seen.results_after ≡ seen.results_before) ⊎ ((given : Given) × IsReplayGiven words seen given × IsWritten (fixed seen given) seen.kept_after seen.results_after)
+  -- however it ends; where no session was begun, nothing is added and the clock isn't read
+  pub kept : seen.keeper_tells → ((seen.kept_after ≡ seen.kept_before) × seen.has_read []) ⊎ ((given : Given) × IsReplayGiven words seen given × IsKept (fixed seen given) seen.has_read seen.kept_after)
+  pub written : seen.sink_tells → ((seen.results_after ≡ seen.results_before) × seen.has_read []) ⊎ ((given : Given) × IsReplayGiven words seen given × IsWritten (fixed seen given) seen.kept_after seen.results_after)

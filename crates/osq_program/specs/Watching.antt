@@ -4,6 +4,7 @@ use Rattle.osq_config.specs.declared.config.Config.{Config}
 use Rattle.osq_value.specs.declared.reading.Category.{Category}
 use Rattle.config_files.specs.Configurations.{IsConfigured}
 use Rattle.osq_program.specs.Checking.{IsRefusedFor}
+use Rattle.osq_program.specs.Unconfigured.{IsFileOf}
 
 -- they are those of the configuration in this file, and a line tells of each of its packs that is left out
 pub record AreOf (files_tell : Type 0) (file : List ℕ → Option (List ℕ)) (path : List ℕ) (paths : List Category) (notes : List ℕ) : Type 0 where
@@ -26,3 +27,8 @@ pub record Watches (files_tell : Type 0) (file : List ℕ → Option (List ℕ))
 abbrev pub IsRefusedIn : (files_tell : Type 0) → (List ℕ → Option (List ℕ)) → Option (List ℕ) → List ℕ → List ℕ → Type 0
 IsRefusedIn files_tell file None kind key = ⊥
 IsRefusedIn files_tell file (Some path) kind key = IsRefusedFor files_tell file path kind key
+
+-- it is a file of the configuration that is named
+abbrev pub IsFileIn : (files_tell : Type 0) → (List ℕ → Option (List ℕ)) → Option (List ℕ) → List ℕ → Type 0
+IsFileIn files_tell file None unread = ⊥
+IsFileIn files_tell file (Some path) unread = IsFileOf files_tell file path unread

@@ -4,6 +4,7 @@ ghost use Rattle.std.specs.Prelude.{◌≡◌, ℕ, ◌∷◌, [], true, map, le
 ghost use Rattle.osq_config.specs.declared.config.Pack.{Pack};
 ghost use Rattle.osq_program.specs.Answers.{IsUsageStatus};
 ghost use Rattle.osq_program.specs.Checking.{IsCheck, IsListing, all_found, checked_host};
+ghost use Rattle.osq_program.specs.Telling.{TellsCheck};
 ghost use Rattle.schedule_notes.specs.Notes.{AreNotes};
 
 use crate::configuration::configured;
@@ -12,7 +13,7 @@ use crate::outside::{Observes, Outside};
 use crate::schedule_lines::lines_of;
 use crate::setup::host_of;
 use crate::status::Status;
-use crate::stop::{refuse, refuse_unconfigured};
+use crate::stop::{refuse, refuse_unconfigured, starve};
 use batch_keeper::Keeper;
 use config_files::Configured;
 use osq_config::{Config, Pack};
@@ -89,16 +90,18 @@ pub(crate) fn run_check<S: Source, O: Sink, F: Files, C: Clock, K: Keeper, L: Li
     ensures clock { outside.new.clock ≡ outside.old.clock }
     ensures keeper { outside.new.keeper ≡ outside.old.keeper }
     ensures does { IsCheck (words.now) (⟦<Outside<S, O, F, C, K, L> as Observes>⟧.observed outside.old outside.new) result }
+    ensures told { TellsCheck words.now (⟦<Outside<S, O, F, C, K, L> as Observes>⟧.observed outside.old outside.new) result }
 {
     let made = match configured(alloc, &mut outside.files, &words.config) {
         Ok(made) => made,
         Err(refused) => return refuse_unconfigured(alloc, &mut outside.status, refused),
     };
     let Ok(checked) = texts_of(alloc, &made, words) else {
-        return refuse(alloc, &mut outside.status, Status::OutOfMemory);
+        return starve(&mut outside.status);
     };
-    if write_all(&mut outside.status, checked.notes.as_slice()).is_err() {
-        return Status::SinkFault;
+    match write_all(&mut outside.status, checked.notes.as_slice()) {
+        Ok(()) => {}
+        Err(_) => return Status::SinkFault,
     }
     match write_all(&mut outside.results, checked.lines.as_slice()) {
         Ok(()) => Status::Ok,

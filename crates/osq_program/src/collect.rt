@@ -8,31 +8,21 @@ ghost use Rattle.daemon_rounds.specs.Rounding.{FailsAt};
 ghost use Rattle.program_words.specs.Bounds.{CollectBounds};
 ghost use Rattle.osq_program.specs.Answers.{IsUsageStatus};
 ghost use Rattle.osq_program.specs.Collecting.{IsCollect, IsStoppedBy, stream};
+ghost use Rattle.osq_program.specs.Telling.{TellsCollect};
 
-use crate::configuration::Unconfigured;
 use crate::ending::answer_to;
 use crate::link::Link;
 use crate::outside::{Observes, Outside};
 use crate::status::Status;
-use crate::stop::{refuse, refuse_unconfigured};
+use crate::stop::{refuse, refuse_unread, starve};
 use batch_keeper::Keeper;
 use collect_rounds::{CollectError, collect};
 use collector_ledger::{OpenedLedger, open_ledger};
 use osq_outside::{Clock, Files, FilesError, Sink, Source};
-use osq_value::{Copied, SourceName, Str};
+use osq_value::SourceName;
 use program_words::CollectWords;
 use replay_rounds::RunError;
 use std::alloc::Global;
-
-/// The answer to a ledger's file that could not be read.
-fn unread(alloc: Global, path: &Str) -> Unconfigured
-    ensures { result.status ≡ Status.FilesFault }
-{
-    Unconfigured {
-        status: Status::FilesFault,
-        unread: path.copy(alloc).ok(),
-    }
-}
 
 /// The answer to a collector that stopped. The stream is named by its path.
 fn stopped(alloc: Global, sources: &[SourceName], error: CollectError) -> Status
@@ -82,15 +72,15 @@ pub(crate) fn run_collect<S: Source, O: Sink, F: Files, C: Clock, K: Keeper, L: 
     ensures keeper { outside.new.keeper ≡ outside.old.keeper }
     ensures sources { vec_len outside.new.sources ≡ vec_len outside.old.sources }
     ensures does { IsCollect words.now (⟦<Outside<S, O, F, C, K, L> as Observes>⟧.observed outside.old outside.new) result }
+    ensures told { TellsCollect words.now (⟦<Outside<S, O, F, C, K, L> as Observes>⟧.observed outside.old outside.new) result }
 {
     let opened = match open_ledger(alloc, &mut outside.files, words.ledger.as_str()) {
         Ok(opened) => opened,
         Err(FilesError::Fault) => {
-            let refused = unread(alloc, &words.ledger);
-            return refuse_unconfigured(alloc, &mut outside.status, refused);
+            return refuse_unread(alloc, &mut outside.status, &words.ledger);
         }
         Err(FilesError::NoMemory) => {
-            return refuse(alloc, &mut outside.status, Status::OutOfMemory);
+            return starve(&mut outside.status);
         }
     };
     match collect_stream(

@@ -10,7 +10,7 @@ ghost use Rattle.program_words.specs.declared.command.ReportWords.{ReportWords};
 ghost use Rattle.program_words.specs.declared.command.CommandWords.TheVariants.{Check as AsksCheck, Collect as AsksCollect, Generate as AsksGenerate, Query as AsksQuery, Report as AsksReport, SelfTest as AsksSelfTest};
 ghost use Rattle.program_words.specs.Commands.{sources_in};
 ghost use Rattle.osq_program.specs.Answers.{IsUsageStatus};
-ghost use Rattle.osq_program.specs.Doing.{MeetsCommand, DoesQuery};
+ghost use Rattle.osq_program.specs.Doing.{MeetsCommand, DoesQuery, TellsCommand, TellsOfQuery};
 
 use crate::check::run_check;
 use crate::collect::run_collect;
@@ -43,6 +43,7 @@ fn do_query<S: Source, O: Sink, F: Files, C: Clock, K: Keeper, L: Link>(
     ensures files { words.now.config ≡ None → outside.new.files ≡ outside.old.files }
     ensures unread { words.now.explain ≡ true → outside.new ≡ record outside.old { results = outside.new.results; status = outside.new.status } }
     ensures does { DoesQuery words.now (⟦<Outside<S, O, F, C, K, L> as Observes>⟧.observed outside.old outside.new) result }
+    ensures told { TellsOfQuery words.now (⟦<Outside<S, O, F, C, K, L> as Observes>⟧.observed outside.old outside.new) result }
 {
     if words.explain {
         return run_explain(alloc, words.text.as_str(), outside);
@@ -71,6 +72,7 @@ pub(crate) fn run_command<S: Source, O: Sink, F: Files, C: Clock, K: Keeper, L: 
     ensures self_test_unread { (load : GenerateWords) → words.now ≡ AsksSelfTest load → outside.new ≡ record outside.old { results = outside.new.results; status = outside.new.status } }
     ensures report_unread { (report : ReportWords) → words.now ≡ AsksReport report → outside.new ≡ record outside.old { results = outside.new.results; status = outside.new.status; keeper = outside.new.keeper } }
     ensures does { MeetsCommand words.now (⟦<Outside<S, O, F, C, K, L> as Observes>⟧.observed outside.old outside.new) result }
+    ensures told { TellsCommand words.now (⟦<Outside<S, O, F, C, K, L> as Observes>⟧.observed outside.old outside.new) result }
 {
     match words {
         CommandWords::Replay(words) => run_replay(alloc, words, outside),

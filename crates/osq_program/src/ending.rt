@@ -4,12 +4,13 @@ ghost use Rattle.std.specs.Prelude.{◌≡◌, ◌≤◌, ◌<◌, ◌⊎◌, �
 ghost use Rattle.osq_outside.specs.Causes.{Rose};
 ghost use Rattle.osq_program.specs.Answers.{no_causes, IsCaused, IsDoneStatus, IsSpentStatus, IsUsageStatus, IsRefusal};
 ghost use Rattle.osq_program.specs.Ending.{IsAnswerTo, IsNamedAt, ended_by};
-ghost use Rattle.osq_program.specs.Report.{final_line, spent_line};
+ghost use Rattle.osq_program.specs.Report.{final_line, refusal_line};
 
-use crate::report::{SPENT, final_line};
+use crate::report::final_line;
 use crate::status::Status;
+use crate::stop::{starve, stop};
 use osq_outside::{Sink, write_all};
-use osq_value::{Bytes, Copied, NoMemory, SourceName, Str};
+use osq_value::{Copied, NoMemory, SourceName, Str};
 use query_rounds::AskError;
 use replay_rounds::{Ended, Numbers, RunError};
 use std::alloc::Global;
@@ -73,9 +74,10 @@ fn finish_whole<O: Sink>(alloc: Global, sink: &mut O, kept: Numbers) -> Status
     ensures spent { ¬ IsSpentStatus result }
     ensures usage { ¬ IsUsageStatus result }
     ensures cause { IsRefusal result → IsCaused (record no_causes { sink = Rose (O.faults sink.old) (O.faults sink.new) }) result }
+    ensures told { IsRefusal result → O.tells → ((result ≡ Status.OutOfMemory) × (O.written sink.new ≡ O.written sink.old ++ refusal_line result)) ⊎ Rose (O.faults sink.old) (O.faults sink.new) }
 {
     let Ok(line) = final_line(alloc, Status::Ok.number(), kept) else {
-        return Status::OutOfMemory;
+        return starve(sink);
     };
     match write_all(sink, line.as_slice()) {
         Ok(()) => Status::Ok,
@@ -83,39 +85,26 @@ fn finish_whole<O: Sink>(alloc: Global, sink: &mut O, kept: Numbers) -> Status
     }
 }
 
-/// What the status stream has of a session that came not to the ends of its sources.
-fn spent_text(alloc: Global, kept: Numbers) -> Result<Bytes, NoMemory>
-    ensures { IfOk result (λ text. text ≡ spent_line ++ final_line 11 kept 0) }
-{
-    let line = final_line(alloc, Status::TicksSpent.number(), kept)?;
-    let mut text = Bytes::new(alloc);
-    text.extend(SPENT.as_bytes())?;
-    text.append(line)?;
-    Ok(text)
-}
-
-/// Writes the lines of such a session. A fault of the sink there changes nothing in the answer.
+/// Writes the lines of a session that came not to the ends of its sources. A fault of the sink there changes nothing in the answer.
 fn finish_spent<O: Sink>(alloc: Global, sink: &mut O, kept: Numbers) -> Status
-    ensures spent { IsSpentStatus result → O.tells → (O.written sink.new ≡ O.written sink.old ++ (spent_line ++ final_line 11 kept 0))
+    ensures spent { IsSpentStatus result → O.tells → (O.written sink.new ≡ O.written sink.old ++ (refusal_line Status.TicksSpent ++ final_line 11 kept 0))
         ⊎ Rose (O.faults sink.old) (O.faults sink.new) }
     ensures done { ¬ IsDoneStatus result }
     ensures usage { ¬ IsUsageStatus result }
     ensures cause { IsRefusal result → IsCaused no_causes result }
+    ensures told { IsRefusal result → O.tells → ((result ≡ Status.OutOfMemory) × (O.written sink.new ≡ O.written sink.old ++ refusal_line result)) ⊎ Rose (O.faults sink.old) (O.faults sink.new) }
 {
-    let Ok(text) = spent_text(alloc, kept) else {
-        return Status::OutOfMemory;
-    };
-    let _written = write_all(sink, text.as_slice());
-    Status::TicksSpent
+    stop(alloc, sink, Status::TicksSpent, Some(kept))
 }
 
 /// Writes the last lines of a session that did all its ticks.
 pub(crate) fn finish<O: Sink>(alloc: Global, sink: &mut O, ended: Ended) -> Status
     ensures done { IsDoneStatus result → (ended.is_end ≡ true) × (O.tells → O.written sink.new ≡ O.written sink.old ++ final_line 0 ended.numbers 0) }
-    ensures spent { IsSpentStatus result → (ended.is_end ≡ false) × (O.tells → (O.written sink.new ≡ O.written sink.old ++ (spent_line ++ final_line 11 ended.numbers 0))
+    ensures spent { IsSpentStatus result → (ended.is_end ≡ false) × (O.tells → (O.written sink.new ≡ O.written sink.old ++ (refusal_line Status.TicksSpent ++ final_line 11 ended.numbers 0))
         ⊎ Rose (O.faults sink.old) (O.faults sink.new)) }
     ensures usage { ¬ IsUsageStatus result }
     ensures cause { IsRefusal result → IsCaused (record no_causes { sink = Rose (O.faults sink.old) (O.faults sink.new) }) result }
+    ensures told { IsRefusal result → O.tells → ((result ≡ Status.OutOfMemory) × (O.written sink.new ≡ O.written sink.old ++ refusal_line result)) ⊎ Rose (O.faults sink.old) (O.faults sink.new) }
 {
     if ended.is_end {
         finish_whole(alloc, sink, ended.numbers)

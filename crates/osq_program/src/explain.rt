@@ -3,6 +3,7 @@
 ghost use Rattle.std.specs.Prelude.{◌≡◌, ℕ, List, [], ◌∷◌, IfOk};
 ghost use Rattle.osq_program.specs.Answers.{IsUsageStatus};
 ghost use Rattle.osq_program.specs.Explaining.{IsExplain};
+ghost use Rattle.osq_program.specs.Telling.{TellsAlone};
 ghost use Rattle.sql_query.specs.Resolved.{query_of};
 ghost use Rattle.sql_planner.specs.Explained.{explained};
 ghost use Rattle.sql_planner.specs.Plans.{planned};
@@ -11,7 +12,7 @@ use crate::link::Link;
 use crate::outside::{Observes, Outside};
 use crate::query::asked;
 use crate::status::Status;
-use crate::stop::refuse;
+use crate::stop::{refuse, starve};
 use batch_keeper::Keeper;
 use osq_outside::{Clock, Files, Sink, Source, write_all};
 use osq_value::{Bytes, NoMemory};
@@ -36,13 +37,14 @@ pub(crate) fn run_explain<S: Source, O: Sink, F: Files, C: Clock, K: Keeper, L: 
     ensures usage { ¬ IsUsageStatus result }
     ensures unread { outside.new ≡ record outside.old { results = outside.new.results; status = outside.new.status } }
     ensures does { IsExplain (record { text = text.now }) (⟦<Outside<S, O, F, C, K, L> as Observes>⟧.observed outside.old outside.new) result }
+    ensures told { TellsAlone (⟦<Outside<S, O, F, C, K, L> as Observes>⟧.observed outside.old outside.new) result }
 {
     let query = match asked(alloc, text) {
         Ok(query) => query,
         Err(status) => return refuse(alloc, &mut outside.status, status),
     };
     let Ok(shown) = shown(alloc, &query) else {
-        return refuse(alloc, &mut outside.status, Status::OutOfMemory);
+        return starve(&mut outside.status);
     };
     match write_all(&mut outside.results, shown.as_slice()) {
         Ok(()) => Status::Ok,

@@ -1,10 +1,12 @@
 //! The command `query`: the answer to one text over the kept list and what its sources have behind it.
 
-ghost use Rattle.std.specs.Prelude.{◌≡◌, List, ◌∷◌, [], ◌++◌, ℕ, vec_len, length, None, Some, IfOk, IfErr, OnOk};
+ghost use Rattle.std.specs.Prelude.{◌≡◌, ◌≤◌, List, ◌∷◌, [], ◌++◌, ℕ, vec_len, length, None, Some, IfOk, IfErr, OnOk};
 ghost use Rattle.osq_outside.specs.Causes.{Rose};
 ghost use Rattle.program_words.specs.Bounds.{RunBounds};
 ghost use Rattle.osq_program.specs.Answers.{no_causes, IsCaused, IsDoneStatus, IsUsageStatus};
 ghost use Rattle.osq_program.specs.Querying.{IsQuery, IsRefusedAt, Writes, labelled_lines, row_lines};
+ghost use Rattle.osq_program.specs.Report.{Tells, refusal_line};
+ghost use Rattle.osq_program.specs.Telling.{EndsShort, TellsQuery};
 ghost use Rattle.sql_query.specs.Answers.{result_names};
 ghost use Rattle.sql_query.specs.Resolved.{query_of};
 ghost use Rattle.sql_texts.specs.TextFaults.{text_fault};
@@ -14,7 +16,7 @@ use crate::ending::{answer_to, ended};
 use crate::link::Link;
 use crate::outside::{Observes, Outside};
 use crate::status::Status;
-use crate::stop::{refuse, refuse_unconfigured};
+use crate::stop::{refuse, refuse_unconfigured, starve};
 use crate::watching::watched_by;
 use batch_keeper::Keeper;
 use osq_outside::{Clock, Files, Sink, Source, write_all};
@@ -83,12 +85,14 @@ fn write_answer<O: Sink>(
     ensures writes { Writes O.tells asked.is_end (O.written results.old) (O.written results.new) (row_lines (result_names (query_of query.now)) asked.rows)
         (Rose (O.faults results.old) (O.faults results.new)) result }
     ensures quiet { IsDoneStatus result → status.new ≡ status.old }
+    ensures told { O.tells → EndsShort result → Tells (Rose (O.faults status.old) (O.faults status.new)) (O.written status.old) (O.written status.new) (refusal_line result) }
+    ensures later { O.faults status.old ≤ O.faults status.new }
 {
     if !asked.is_end {
         return refuse(alloc, status, Status::TicksSpent);
     }
     let Ok(lines) = answer_lines(alloc, query, &asked.rows) else {
-        return refuse(alloc, status, Status::OutOfMemory);
+        return starve(status);
     };
     match write_all(results, lines.as_slice()) {
         Ok(()) => Status::Ok,
@@ -111,6 +115,7 @@ pub(crate) fn run_query<S: Source, O: Sink, F: Files, C: Clock, K: Keeper, L: Li
     ensures sources { vec_len outside.new.sources ≡ vec_len outside.old.sources }
     ensures files { words.now.config ≡ None → outside.new.files ≡ outside.old.files }
     ensures does { IsQuery words.now (⟦<Outside<S, O, F, C, K, L> as Observes>⟧.observed outside.old outside.new) result }
+    ensures told { TellsQuery words.now (⟦<Outside<S, O, F, C, K, L> as Observes>⟧.observed outside.old outside.new) result }
 {
     let text = words.text.as_str();
     let query = match asked(alloc, text) {

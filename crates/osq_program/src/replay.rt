@@ -4,6 +4,7 @@ ghost use Rattle.std.specs.Prelude.{◌≡◌, ℕ, List, [], ◌∷◌, vec_len
 ghost use Rattle.program_words.specs.Bounds.{RunBounds};
 ghost use Rattle.osq_program.specs.Answers.{IsUsageStatus};
 ghost use Rattle.osq_program.specs.Replaying.{IsReplay};
+ghost use Rattle.osq_program.specs.Telling.{TellsReplay};
 
 use crate::configuration::configured;
 use crate::ending::{answer_to, finish};
@@ -11,7 +12,7 @@ use crate::link::Link;
 use crate::outside::{Observes, Outside};
 use crate::setup::setup_of;
 use crate::status::Status;
-use crate::stop::{refuse, refuse_unconfigured, stop};
+use crate::stop::{refuse_unconfigured, starve, stop};
 use batch_keeper::Keeper;
 use osq_outside::{Clock, Files, Sink, Source};
 use program_words::ReplayWords;
@@ -31,13 +32,14 @@ pub(crate) fn run_replay<S: Source, O: Sink, F: Files, C: Clock, K: Keeper, L: L
     ensures ledger { outside.new.ledger ≡ outside.old.ledger }
     ensures sources { vec_len outside.new.sources ≡ vec_len outside.old.sources }
     ensures does { IsReplay words.now (⟦<Outside<S, O, F, C, K, L> as Observes>⟧.observed outside.old outside.new) result }
+    ensures told { TellsReplay words.now (⟦<Outside<S, O, F, C, K, L> as Observes>⟧.observed outside.old outside.new) result }
 {
     let configured = match configured(alloc, &mut outside.files, &words.config) {
         Ok(configured) => configured,
         Err(refused) => return refuse_unconfigured(alloc, &mut outside.status, refused),
     };
     let Ok(setup) = setup_of(alloc, words) else {
-        return refuse(alloc, &mut outside.status, Status::OutOfMemory);
+        return starve(&mut outside.status);
     };
     match run_session(
         alloc,

@@ -4,6 +4,7 @@ ghost use Rattle.std.specs.Prelude.{◌≡◌, IfOk, IfErr};
 ghost use Rattle.osq_outside.specs.Causes.{Rose};
 ghost use Rattle.osq_program.specs.Answers.{IsCaused, IsUsageStatus};
 ghost use Rattle.osq_program.specs.Reporting.{HasReport, IsShown, loading_causes};
+ghost use Rattle.osq_program.specs.Telling.{TellsAlone};
 
 use crate::link::Link;
 use crate::outside::{Observes, Outside};
@@ -41,6 +42,7 @@ pub(crate) fn run_report<S: Source, O: Sink, F: Files, C: Clock, K: Keeper, L: L
     ensures usage { ¬ IsUsageStatus result }
     ensures unread { outside.new ≡ record outside.old { results = outside.new.results; status = outside.new.status; keeper = outside.new.keeper } }
     ensures does { IsShown (⟦<Outside<S, O, F, C, K, L> as Observes>⟧.observed outside.old outside.new) result }
+    ensures told { TellsAlone (⟦<Outside<S, O, F, C, K, L> as Observes>⟧.observed outside.old outside.new) result }
 {
     let text = match told(alloc, &mut outside.keeper) {
         Ok(text) => text,

@@ -5,12 +5,13 @@ ghost use Rattle.kept_report.specs.Counting.{numbers_in, numbers_line};
 ghost use Rattle.program_words.specs.Bounds.{GenerateBounds};
 ghost use Rattle.osq_program.specs.Answers.{IsUsageStatus};
 ghost use Rattle.osq_program.specs.SelfTesting.{HasTested, IsSelfTest, self_key};
+ghost use Rattle.osq_program.specs.Telling.{TellsAlone};
 
 use crate::link::Link;
 use crate::outside::{Observes, Outside};
 use crate::self_session::{Ran, run_over};
 use crate::status::Status;
-use crate::stop::refuse;
+use crate::stop::{refuse, starve};
 use batch_keeper::{Keeper, MemoryKeeper};
 use entry_model::entry::EntryList;
 use generated_changes::lines_of;
@@ -69,9 +70,10 @@ pub(crate) fn run_self_test<S: Source, O: Sink, F: Files, C: Clock, K: Keeper, L
     ensures usage { ¬ IsUsageStatus result }
     ensures unread { outside.new ≡ record outside.old { results = outside.new.results; status = outside.new.status } }
     ensures does { IsSelfTest words.now (⟦<Outside<S, O, F, C, K, L> as Observes>⟧.observed outside.old outside.new) result }
+    ensures told { TellsAlone (⟦<Outside<S, O, F, C, K, L> as Observes>⟧.observed outside.old outside.new) result }
 {
     let Ok(line) = tested(alloc, words) else {
-        return refuse(alloc, &mut outside.status, Status::OutOfMemory);
+        return starve(&mut outside.status);
     };
     match write_all(&mut outside.results, line.as_slice()) {
         Ok(()) => Status::Ok,

@@ -1,71 +1,115 @@
 //! Runs that end before their command is done, and what the status stream then has.
 
-ghost use Rattle.std.specs.Prelude.{◌≡◌, ◌≤◌};
+ghost use Rattle.std.specs.Prelude.{◌≡◌, ◌≤◌, ◌⊎◌};
+ghost use Rattle.osq_outside.specs.Causes.{Rose};
+ghost use Rattle.osq_program.specs.Report.{EndsAs, IsRefusedAs, IsUnread, Tells, TellsStop, refusal_line, unread_text};
+ghost use Rattle.osq_program.specs.Unconfigured.{IsAnswered, unconfigured_text};
 
 use crate::configuration::Unconfigured;
-use crate::report::{final_line, refusal_line, unread_line};
+use crate::report::{WANTING, plain_line, refusal_line, stop_text, unread_text};
 use crate::status::Status;
 use osq_outside::{Sink, write_all};
 use osq_value::Str;
 use replay_rounds::Numbers;
 use std::alloc::Global;
 
-/// Writes the lines that tell a refusal, as far as the sink and memory allow: its own line, and behind a loaded kept list the final line.
-fn tell<O: Sink>(alloc: Global, sink: &mut O, status: &Status, kept: Option<Numbers>)
-    ensures { O.faults sink.old ≤ O.faults sink.new }
+/// Writes these bytes, as far as the sink allows.
+pub(crate) fn write<O: Sink>(sink: &mut O, text: &[u8])
+    ensures told { O.tells → Tells (Rose (O.faults sink.old) (O.faults sink.new)) (O.written sink.old) (O.written sink.new) text.now }
+    ensures later { O.faults sink.old ≤ O.faults sink.new }
 {
-    let Ok(line) = refusal_line(alloc, status) else {
-        return;
-    };
-    if write_all(sink, line.as_slice()).is_err() {
-        return;
-    }
-    if let Some(kept) = kept {
-        if let Ok(line) = final_line(alloc, status.number(), kept) {
-            let _written = write_all(sink, line.as_slice());
-        }
-    }
+    let _written = write_all(sink, text);
 }
 
-/// Tells on the status stream why a command isn't done. `kept` are the numbers of the kept list, where it was loaded.
+/// Tells that memory was wanting, which takes none.
+pub(crate) fn starve<O: Sink>(sink: &mut O) -> Status
+    ensures same { result ≡ Status.OutOfMemory }
+    ensures told { O.tells → Tells (Rose (O.faults sink.old) (O.faults sink.new)) (O.written sink.old) (O.written sink.new) (refusal_line Status.OutOfMemory) }
+    ensures later { O.faults sink.old ≤ O.faults sink.new }
+{
+    write(sink, WANTING.as_bytes());
+    Status::OutOfMemory
+}
+
+/// Tells of a status that has fields.
+fn tell_fields<O: Sink>(alloc: Global, sink: &mut O, status: Status) -> Status
+    ensures same { (result ≡ status) ⊎ (result ≡ Status.OutOfMemory) }
+    ensures told { O.tells → Tells (Rose (O.faults sink.old) (O.faults sink.new)) (O.written sink.old) (O.written sink.new) (refusal_line result) }
+    ensures later { O.faults sink.old ≤ O.faults sink.new }
+{
+    let Ok(line) = refusal_line(alloc, &status) else {
+        return starve(sink);
+    };
+    write(sink, line.as_slice());
+    status
+}
+
+/// Tells on the status stream why a command isn't done. Memory is wanted for what the status carries alone.
+pub(crate) fn refuse<O: Sink>(alloc: Global, sink: &mut O, status: Status) -> Status
+    ensures same { IsRefusedAs status result }
+    ensures told { O.tells → Tells (Rose (O.faults sink.old) (O.faults sink.new)) (O.written sink.old) (O.written sink.new) (refusal_line result) }
+    ensures later { O.faults sink.old ≤ O.faults sink.new }
+{
+    let Some(line) = plain_line(&status) else {
+        return tell_fields(alloc, sink, status);
+    };
+    write(sink, line.as_bytes());
+    status
+}
+
+/// Tells why a session isn't done, and of its kept list, which has these numbers.
+fn stop_loaded<O: Sink>(alloc: Global, sink: &mut O, status: Status, kept: Numbers) -> Status
+    ensures same { (result ≡ status) ⊎ (result ≡ Status.OutOfMemory) }
+    ensures told { O.tells → EndsAs (O.written sink.old) (O.written sink.new) status result kept ⊎ Rose (O.faults sink.old) (O.faults sink.new) }
+    ensures later { O.faults sink.old ≤ O.faults sink.new }
+{
+    let Ok(text) = stop_text(alloc, &status, kept) else {
+        return starve(sink);
+    };
+    write(sink, text.as_slice());
+    status
+}
+
+/// Tells on the status stream why a session isn't done, and behind that the final line, where it has the numbers of its kept list.
 pub(crate) fn stop<O: Sink>(
     alloc: Global,
     sink: &mut O,
     status: Status,
     kept: Option<Numbers>,
 ) -> Status
-    ensures same { result ≡ status }
+    ensures same { (result ≡ status) ⊎ (result ≡ Status.OutOfMemory) }
+    ensures told { O.tells → TellsStop (Rose (O.faults sink.old) (O.faults sink.new)) (O.written sink.old) (O.written sink.new) status result kept }
     ensures later { O.faults sink.old ≤ O.faults sink.new }
 {
-    tell(alloc, sink, &status, kept);
-    status
-}
-
-/// Tells on the status stream why a command isn't done, before the kept list was loaded.
-pub(crate) fn refuse<O: Sink>(alloc: Global, sink: &mut O, status: Status) -> Status
-    ensures { result ≡ status }
-{
-    stop(alloc, sink, status, None)
-}
-
-/// Tells of the file that can't be read, as far as the sink and memory allow.
-fn tell_unread<O: Sink>(alloc: Global, sink: &mut O, file: &Str) {
-    if let Ok(line) = unread_line(alloc, file) {
-        let _written = write_all(sink, line.as_slice());
+    match kept {
+        Some(kept) => stop_loaded(alloc, sink, status, kept),
+        None => refuse(alloc, sink, status),
     }
 }
 
-/// Tells on the status stream why a command has no configuration: of the file that can't be read, where it is that, and then as `refuse` does.
+/// Tells of the file that can't be read.
+pub(crate) fn refuse_unread<O: Sink>(alloc: Global, sink: &mut O, file: &Str) -> Status
+    ensures unread { IsUnread result }
+    ensures told { O.tells → Tells (Rose (O.faults sink.old) (O.faults sink.new)) (O.written sink.old) (O.written sink.new) (unread_text file.now result) }
+{
+    let Ok(text) = unread_text(alloc, file) else {
+        return starve(sink);
+    };
+    write(sink, text.as_slice());
+    Status::FilesFault
+}
+
+/// Tells on the status stream why a command has no configuration, and of the file that can't be read, where it is that.
 pub(crate) fn refuse_unconfigured<O: Sink>(
     alloc: Global,
     sink: &mut O,
     refused: Unconfigured,
 ) -> Status
-    ensures { result ≡ refused.status }
+    ensures same { IsAnswered refused result }
+    ensures told { O.tells → Tells (Rose (O.faults sink.old) (O.faults sink.new)) (O.written sink.old) (O.written sink.new) (unconfigured_text refused result) }
 {
-    let Unconfigured { status, unread } = refused;
-    if let Some(file) = &unread {
-        tell_unread(alloc, sink, file);
+    match refused {
+        Unconfigured::Unread { file } => refuse_unread(alloc, sink, &file),
+        Unconfigured::Refused { status } => refuse(alloc, sink, status),
     }
-    refuse(alloc, sink, status)
 }

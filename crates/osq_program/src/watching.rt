@@ -2,8 +2,8 @@
 
 ghost use Rattle.std.specs.Prelude.{◌≡◌, None, IfOk, IfErr};
 ghost use Rattle.osq_outside.specs.Causes.{Rose};
-ghost use Rattle.osq_program.specs.Answers.{no_causes, IsCaused};
-ghost use Rattle.osq_program.specs.Watching.{AreWatched, IsRefusedIn};
+ghost use Rattle.osq_program.specs.Unconfigured.{IsCausedBy};
+ghost use Rattle.osq_program.specs.Watching.{AreWatched, IsFileIn, IsRefusedIn};
 
 use crate::configuration::{Unconfigured, configured};
 use config_files::Configured;
@@ -28,10 +28,7 @@ pub(crate) fn watched_by<F: Files>(
 ) -> Result<Watched, Unconfigured>
     ensures watched { IfOk result (λ made. AreWatched F.tells (F.file files.old) path.now made.paths made.notes) }
     ensures unread { path.now ≡ None → files.new ≡ files.old }
-    ensures cause { IfErr result (λ refused. IsCaused (record no_causes {
-      files = Rose (F.faults files.old) (F.faults files.new);
-      refused = IsRefusedIn F.tells (F.file files.old) path.now;
-    }) refused.status) }
+    ensures cause { IfErr result (IsCausedBy (Rose (F.faults files.old) (F.faults files.new)) (IsFileIn F.tells (F.file files.old) path.now) (IsRefusedIn F.tells (F.file files.old) path.now)) }
 {
     let Some(path) = path else {
         return Ok(Watched {

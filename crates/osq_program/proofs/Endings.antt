@@ -1,0 +1,112 @@
+-- What `replay` tells where it doesn't end with Ok.
+use Rattle.std.proofs.Common.{◌≡◌, ◌⊎◌, inl, inr, ℕ, List, [], ◌++◌, take, Option, Some, None, refl, sym, ap, ◌∙◌, subst}
+use Rattle.program_words.specs.declared.command.ReplayWords.{ReplayWords}
+use Rattle.osq_value.specs.declared.source.SourceName.{SourceName}
+use Rattle.session_model.specs.Given.{Given}
+use Rattle.replay_rounds.specs.Noting.{HasTold, HasToldSome}
+use Rattle.replay_rounds.specs.Stopping.{AreNumbersFor, Stops}
+use Rattle.replay_rounds.specs.declared.refused.Numbers.{Numbers}
+use Rattle.replay_rounds.specs.declared.refused.RunError.{RunError}
+use Rattle.replay_rounds.specs.declared.refused.RunError.TheVariants as running
+use Rattle.osq_program.specs.declared.status.Status.{Status}
+use Rattle.osq_program.specs.declared.status.Status.TheVariants.{Ok as Done, Usage, FilesFault, ConfigRefused, KeeperFault, KeeperRefused, MomentTooLarge, SourceFault, SourceShrank, NumbersSpent, SinkFault, TicksSpent, QueryRefused, OutOfMemory}
+use Rattle.osq_program.specs.Answers.{IsCaused, IsRefusal, no_causes}
+use Rattle.osq_program.specs.Ending.{IsAnswerTo}
+use Rattle.osq_program.specs.Observed.{Observed}
+use Rattle.osq_program.specs.Replaying.{IsReplayGiven, fixed}
+use Rattle.osq_program.specs.Report.{EndsAs, Tells, TellsStop, final_line, refusal_line}
+use Rattle.osq_program.specs.Answers.{status_number}
+use Rattle.osq_program.specs.Telling.{AreNumbersAt, EndsStarved, EndsWhole, IsEnded, IsUnbegun, MayReplayTell, TellsReplay, TellsSome}
+use Rattle.osq_program.proofs.Toldings.{as_stopped}
+
+pub replay_may : (words : ReplayWords) (seen : Observed) (R : List ℕ → List ℕ → Type 0) (s : Status) → IsCaused (record no_causes { refused = R }) s → MayReplayTell words seen s []
+replay_may words seen R Done caused = absurd caused
+replay_may words seen R Usage caused = absurd caused
+replay_may words seen R FilesFault caused = absurd caused
+replay_may words seen R (ConfigRefused kind key) caused = refl
+replay_may words seen R KeeperFault caused = absurd caused
+replay_may words seen R KeeperRefused caused = absurd caused
+replay_may words seen R (MomentTooLarge moment) caused = absurd caused
+replay_may words seen R (SourceFault name) caused = absurd caused
+replay_may words seen R (SourceShrank name kept found) caused = absurd caused
+replay_may words seen R NumbersSpent caused = absurd caused
+replay_may words seen R SinkFault caused = absurd caused
+replay_may words seen R TicksSpent caused = absurd caused
+replay_may words seen R (QueryRefused place kind) caused = absurd caused
+replay_may words seen R OutOfMemory caused = refl
+
+-- no session was begun
+pub untold_replay : (words : ReplayWords) (seen : Observed) (status : Status) → seen.has_read [] → TellsSome (MayReplayTell words seen) seen status → TellsReplay words seen status
+untold_replay words seen status unread some refusal = inl (record { front = some.front; may = some.before; unread = unread; told = some.behind })
+
+-- a session that did all its ticks, of which the end could not be told
+pub ran_telling : (words : ReplayWords) (seen : Observed) (status : Status) (given : Given) (is : IsReplayGiven words seen given) (between : List ℕ) (failed : Type 0) → (failed → seen.status_failed)
+    → (seen.sink_tells → HasTold (fixed seen given) seen.kept_after is.notes seen.status_before between)
+    → (IsRefusal status → seen.sink_tells → ((status ≡ OutOfMemory) × (seen.status_after ≡ between ++ refusal_line status)) ⊎ failed) → TellsReplay words seen status
+ran_telling words seen status given is between failed more session ends refusal = inr (record {
+  given = given;
+  is = is;
+  told = λ tells. by_end tells (ends refusal tells);
+})
+  where
+    by_end : seen.sink_tells → ((status ≡ OutOfMemory) × (seen.status_after ≡ between ++ refusal_line status)) ⊎ failed
+        → ((between : List ℕ) × HasToldSome (fixed seen given) seen.kept_after is.notes seen.status_before between × (EndsWhole seen given status between ⊎ EndsStarved seen status between)) ⊎ seen.status_failed
+    by_end tells (inl (wanting, after)) =
+        let has = session tells in
+        inl (between, record { count = has.count; counted = λ told. inl (has.counted told); between = has.between; noted = has.noted; skipped = (has.feeds, has.skipped) }, inr (wanting, after))
+    by_end tells (inr fault) = inr (more fault)
+
+-- the numbers of a session that ended for this reason are those of its status
+numbers_at : (seen : Observed) (given : Given) (sources : List SourceName) (e : RunError) (s : Status) (numbers : Numbers) → IsAnswerTo sources e s → AreNumbersFor e (fixed seen given) seen.has_read seen.kept_after numbers → AreNumbersAt s seen given numbers
+numbers_at seen given sources running.KeeperFault s numbers is are = subst (λ (s : Status). AreNumbersAt s seen given numbers) (sym is) are
+numbers_at seen given sources running.KeeperRefused s numbers is are = subst (λ (s : Status). AreNumbersAt s seen given numbers) (sym is) are
+numbers_at seen given sources (running.MomentTooLarge moment) s numbers is are = subst (λ (s : Status). AreNumbersAt s seen given numbers) (sym is) are
+numbers_at seen given sources (running.SourceFault place) s numbers (inl is) are = subst (λ (s : Status). AreNumbersAt s seen given numbers) (sym is) are
+numbers_at seen given sources (running.SourceFault place) s numbers (inr (name, named, is)) are = subst (λ (s : Status). AreNumbersAt s seen given numbers) (sym is) are
+numbers_at seen given sources (running.SourceShrank place had found) s numbers (inl is) are = subst (λ (s : Status). AreNumbersAt s seen given numbers) (sym is) are
+numbers_at seen given sources (running.SourceShrank place had found) s numbers (inr (name, named, is)) are = subst (λ (s : Status). AreNumbersAt s seen given numbers) (sym is) are
+numbers_at seen given sources running.NumbersSpent s numbers is are = subst (λ (s : Status). AreNumbersAt s seen given numbers) (sym is) are
+numbers_at seen given sources running.SinkFault s numbers is are = subst (λ (s : Status). AreNumbersAt s seen given numbers) (sym is) are
+numbers_at seen given sources running.NoMemory s numbers is are = subst (λ (s : Status). AreNumbersAt s seen given numbers) (sym is) are
+
+-- a session that ended early
+module _ (words : ReplayWords) (seen : Observed) (given : Given) (is : IsReplayGiven words seen given) (sources : List SourceName) (e : RunError) (answered status : Status) (between : List ℕ) (failed untold : Type 0) (answer : IsAnswerTo sources e answered) (more : failed → seen.status_failed) where
+  -- its list wasn't loaded
+  unloaded_may : (e : RunError) (answered status : Status) → IsAnswerTo sources e answered → Stops (fixed seen given) seen.has_read seen.kept_after untold e None → (status ≡ answered) ⊎ (status ≡ OutOfMemory) → MayReplayTell words seen status []
+  unloaded_may running.KeeperFault answered status answer stops how =
+      as_stopped (λ (s : Status). MayReplayTell words seen s []) answered status how (subst (λ (s : Status). MayReplayTell words seen s []) (sym answer) ((given, is), refl)) refl
+  unloaded_may running.KeeperRefused answered status answer stops how = absurd stops.0
+  unloaded_may (running.MomentTooLarge moment) answered status answer stops how = absurd stops.0
+  unloaded_may (running.SourceFault place) answered status answer stops how = absurd stops.0
+  unloaded_may (running.SourceShrank place had found) answered status answer stops how = absurd stops.0
+  unloaded_may running.NumbersSpent answered status answer stops how = absurd stops.0
+  unloaded_may running.SinkFault answered status answer stops how = absurd stops.0
+  unloaded_may running.NoMemory answered status answer stops how =
+      as_stopped (λ (s : Status). MayReplayTell words seen s []) answered status how (subst (λ (s : Status). MayReplayTell words seen s []) (sym answer) refl) refl
+
+  -- the line of its status and the final line
+  ends_as : (numbers : Numbers) → AreNumbersFor e (fixed seen given) seen.has_read seen.kept_after numbers → EndsAs between seen.status_after answered status numbers → EndsWhole seen given status between ⊎ EndsStarved seen status between
+  ends_as numbers are (inl (same, after)) =
+      inl (subst (λ (s : Status). EndsWhole seen given s between) (sym same) (numbers, numbers_at seen given sources e answered numbers answer are, after))
+  ends_as numbers are (inr (wanting, after)) = inr (wanting, after)
+
+  pub stopped_telling : (known : Option Numbers) → Stops (fixed seen given) seen.has_read seen.kept_after untold e known → (untold → between ≡ seen.status_before)
+      → (seen.sink_tells → HasToldSome (fixed seen given) seen.kept_after is.notes seen.status_before between ⊎ seen.status_failed) → (seen.sink_tells → TellsStop failed between seen.status_after answered status known)
+      → (status ≡ answered) ⊎ (status ≡ OutOfMemory) → TellsReplay words seen status
+  stopped_telling None stops same some told how refusal = inl (record {
+    front = [];
+    may = unloaded_may e answered status answer stops how;
+    unread = stops.1;
+    told = λ tells. by_tells (same stops.2) ((told tells).1);
+  })
+    where
+      by_tells : between ≡ seen.status_before → Tells failed between seen.status_after (refusal_line status) → Tells seen.status_failed seen.status_before seen.status_after (refusal_line status)
+      by_tells same (inl after) = inl (after ∙ ap (λ (text : List ℕ). text ++ refusal_line status) same)
+      by_tells same (inr (fault, (count, after))) = inr (more fault, (count, subst (λ (text : List ℕ). seen.status_after ≡ text ++ take count (refusal_line status)) same after))
+  stopped_telling (Some numbers) stops same some told how refusal = inr (record { given = given; is = is; told = λ tells. by_told (some tells) (told tells) })
+    where
+      by_told : HasToldSome (fixed seen given) seen.kept_after is.notes seen.status_before between ⊎ seen.status_failed → EndsAs between seen.status_after answered status numbers ⊎ failed
+          → ((between : List ℕ) × HasToldSome (fixed seen given) seen.kept_after is.notes seen.status_before between × (EndsWhole seen given status between ⊎ EndsStarved seen status between)) ⊎ seen.status_failed
+      by_told (inl has) (inl ends) = inl (between, has, ends_as numbers stops ends)
+      by_told (inl has) (inr fault) = inr (more fault)
+      by_told (inr fault) ends = inr fault
