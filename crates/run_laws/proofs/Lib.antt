@@ -1,0 +1,7 @@
+mod Accepted
+mod Asked
+mod Collected
+mod Complete
+mod Replayed
+mod Settled
+mod Sources

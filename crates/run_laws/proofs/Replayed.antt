@@ -1,0 +1,63 @@
+-- A replay that is ready is complete.
+use Rattle.std.proofs.Common.{◌≡◌, ◌⊎◌, inl, inr, ℕ, ◌≤◌, false, List, [], ◌∷◌, ◌++◌, sym, subst, ◌∙◌, arith}
+use Rattle.std.specs.Prelude.{All, bytes_eq}
+use Rattle.std.proofs.lemmas.Bool.{true≢false}
+use Rattle.std.proofs.lemmas.List.Elements.{All-head, All-tail}
+use Rattle.osq_value.specs.declared.moment.TheConstants.{LAST_MOMENT}
+use Rattle.entry_model.specs.Fits.{IsDistinct}
+use Rattle.program_words.specs.declared.command.ReplayWords.{ReplayWords}
+use Rattle.program_words.specs.Bounds.{RunBounds}
+use Rattle.session_model.specs.Given.{Source}
+use Rattle.session_model.specs.Laws.{names_of}
+use Rattle.session_laws.specs.Enough.{AreEnough}
+use Rattle.session_laws.proofs.Ended.{is_end}
+use Rattle.osq_program.specs.declared.status.Status.{Status}
+use Rattle.osq_program.specs.Answers.{IsUsageStatus}
+use Rattle.osq_program.specs.Observed.{Observed}
+use Rattle.osq_program.specs.Replaying.{IsReplay, Ran, causes_of, fixed}
+use Rattle.osq_program.specs.Setups.{sources_named}
+use Rattle.run_laws.specs.Laws.{IsComplete}
+use Rattle.run_laws.specs.Ready.{IsReplayReady, NoneFails}
+use Rattle.run_laws.proofs.Accepted.{not_refused}
+use Rattle.run_laws.proofs.Settled.{NoCause, settled}
+use Rattle.run_laws.proofs.Sources.{distinct_sources, not_shrunk}
+
+pub all_end : {X : Type 0} (P : X → Type 0) (front : List X) (last : X) → All P (front ++ last ∷ []) → P last
+all_end P [] last all = All-head P last [] all
+all_end P (x ∷ front) last all = all_end P front last (All-tail P x (front ++ last ∷ []) all)
+
+pub either : {A B : Type 0} → (A → ⊥) → (B → ⊥) → A ⊎ B → ⊥
+either a b (inl one) = a one
+either a b (inr other) = b other
+
+module _ (words : ReplayWords) (seen : Observed) (bounds : RunBounds words.start words.step words.ticks words.records words.sources) (fails : NoneFails seen) (ready : IsReplayReady words seen) where
+  no_cause : NoCause (causes_of words seen)
+  no_cause = record {
+    query = λ place kind none. none;
+    files = fails.files;
+    refused = λ kind key. not_refused seen.files_tell seen.file ready.files_tell words.config kind key ready.accepted.0.config ready.accepted.0.documents ready.accepted.1.notes ready.accepted.1.configured;
+    keeper = λ cause. fails.keeper cause.1;
+    unfit = λ cause. (cause.1 ready.ready.keeper_tells).0 ready.ready.legal;
+    moment = λ moment cause.
+        let early : moment ≤ LAST_MOMENT = all_end (λ (reading : ℕ). reading ≤ LAST_MOMENT) cause.1.1.0 moment (ready.early (cause.1.1.0 ++ moment ∷ []) cause.1.1.1) in
+        let late = cause.1.0 in
+        omega (arith, early, late);
+    source = λ name cause. fails.sources cause.1.0 cause.1.2;
+    shrank = λ name kept found cause. not_shrunk words.sources seen name kept found ready.ready.keeper_tells ready.ready.source_tells ready.ready.there cause.1;
+    numbers = λ cause. ready.numbers cause.0 cause.1 cause.2;
+    sink = λ cause. either fails.results fails.status cause.1;
+  }
+
+  -- a run that isn't at its sources' ends had too few ticks
+  not_more : Ran words seen false → ⊥
+  not_more ran =
+      let sources : ran.given.sources ≡ sources_named words.sources seen.all_bytes = ran.is.sources in
+      let some : 1 ≤ ran.given.records = subst (λ (n : ℕ). 1 ≤ n) (sym ran.is.records) bounds.some_records in
+      let distinct = subst (λ (ss : List Source). IsDistinct bytes_eq (names_of ss)) (sym sources) (distinct_sources words.sources seen.all_bytes bounds.sources_in.own_paths) in
+      let enough = subst (λ (n : ℕ). All (AreEnough n seen.kept_before words.ticks) ran.given.sources) (sym ran.is.records)
+      (subst (All (AreEnough words.records seen.kept_before words.ticks)) (sym sources) ready.ready.enough) in
+      let end = is_end (fixed seen ran.given) seen.has_read words.ticks seen.kept_after seen.results_after ran.ended ran.run ready.ready.keeper_tells ready.ready.source_tells ready.ready.legal some distinct enough in
+      true≢false (sym end ∙ ran.end_is)
+
+  pub replayed : (status : Status) → IsReplay words seen status → ¬ IsUsageStatus status → IsComplete status
+  replayed status does usage = settled (causes_of words seen) status no_cause does.cause (λ spent. not_more (does.spent spent).0) usage
