@@ -20,7 +20,7 @@ use Rattle.daemon_rounds.specs.Configuring.{Configures, IsScheduleOver, tables_o
 use Rattle.daemon_rounds.proofs.Adding.{all_free, brings_one}
 
 -- the tables of a state are those of each list for which it stands
-tables_same : (entries : List Entry) (state : Kept) (moment : ℕ) → IsState state → HasValues entries state → rows_in (shown_by state state.image.last moment) ≡ tables_of entries moment
+pub tables_same : (entries : List Entry) (state : Kept) (moment : ℕ) → IsState state → HasValues entries state → rows_in (shown_by state state.image.last moment) ≡ tables_of entries moment
 tables_same entries state moment is has =
     let shown : rows_in (shown_by state state.image.last moment) ≡ view_of entries state.image.last moment = (λ i table. shows entries state is has state.image.last moment table i) in
     shown ∙ ap (λ (last : ℕ). view_of entries last moment) has.image.last

@@ -4,6 +4,7 @@ pub mod Answered
 pub mod Appended
 pub mod Bounded
 pub mod Configured
+pub mod Counting
 pub mod Freed
 pub mod Fronts
 pub mod Keeping

@@ -1,12 +1,16 @@
 -- What a session has once it is open.
-use Rattle.std.proofs.Common.{◌≡◌, ℕ, ◌+◌, ◌≤◌, Bool, true, false, List, [], ◌∷◌, ◌++◌, Some, None, refl, sym, ap, ◌∙◌, subst, append_assoc, arith}
+use Rattle.std.proofs.Common.{◌≡◌, ℕ, suc, ◌+◌, ◌≤◌, Bool, true, false, List, [], ◌∷◌, ◌++◌, length, map, Some, None, refl, sym, ap, ◌∙◌, subst, append_assoc, arith, length-append}
 use Rattle.std.specs.Prelude.{if◌then◌else◌}
-use Rattle.std.proofs.lemmas.List.{append-nil}
+use Rattle.std.proofs.lemmas.List.{append-nil, length-map}
 use Rattle.osq_config.specs.declared.config.Config.{Config}
 use Rattle.osq_value.specs.declared.reading.Reading.{Reading}
 use Rattle.osq_value.specs.declared.reading.Reading.TheVariants.{Events, Table}
 use Rattle.pack_rules.specs.declared.host.Host.{Host}
+use Rattle.query_answers.specs.Discovery.{is_found}
 use Rattle.source_feeds.specs.Feeding.{Feeding}
+use Rattle.source_feeds.proofs.Cuts.{cons_same, head_same, tail_same}
+use Rattle.sql_meaning.specs.Meaning.{View}
+use Rattle.event_store.specs.Contents.{rows_in}
 use Rattle.entry_model.specs.declared.entry.Entry.{Entry}
 use Rattle.entry_model.specs.declared.entry.Entry.TheVariants.{Opened, Configured}
 use Rattle.entry_model.specs.declared.restored.Restored.{Restored}
@@ -15,7 +19,8 @@ use Rattle.entry_model.specs.Summary.{summary}
 use Rattle.entry_model.specs.Values.{last_of, tick_in}
 use Rattle.entry_model.specs.Views.{is_evented_table}
 use Rattle.entry_model.proofs.Lasts.{last_of-append}
-use Rattle.session_state.specs.Kept.{Counts, Kept}
+use Rattle.session_state.specs.Computed.{shown_by}
+use Rattle.session_state.specs.Kept.{Counts, IsState, Kept}
 use Rattle.session_state.specs.StateOf.{Begins, IsStateOf}
 use Rattle.session_state.specs.Ticks.{first_due, owed_at}
 use Rattle.daemon_rounds.specs.Adding.{AddsEntries, counts_after}
@@ -24,10 +29,11 @@ use Rattle.daemon_rounds.specs.Keeping.{GoesOn}
 use Rattle.daemon_rounds.specs.Telling.{AreTellable}
 use Rattle.daemon_rounds.specs.Turns.{Turn, turn_entries}
 use Rattle.daemon_rounds.specs.Rounding.{AreGoing, Overflows, Rounds, round_entries}
-use Rattle.daemon_rounds.specs.Configuring.{Configures}
-use Rattle.daemon_rounds.specs.Opening.{IsOpened, Opens, OpensTooMuch, opening_entries}
+use Rattle.daemon_rounds.specs.Configuring.{Configures, tables_of}
+use Rattle.daemon_rounds.specs.Opening.{IsFoundBy, IsOpened, Opens, OpensTooMuch, opening_entries}
 use Rattle.daemon_rounds.specs.declared.turning.Which.TheVariants as which
 use Rattle.daemon_rounds.proofs.Adding.{counts-append}
+use Rattle.daemon_rounds.proofs.Configured.{tables_same}
 use Rattle.daemon_rounds.proofs.Keeping.{readings_tellable, tellable-append}
 use Rattle.daemon_rounds.proofs.Turned.{moment_same}
 
@@ -108,6 +114,28 @@ module _ {S : Type 0} (tells : Type 0) (left : S → List ℕ) (faults : S → �
       pub still_going : AreGoing filled.counts.taken nexts → AreGoing state.counts.taken nexts
       still_going going =
           subst (λ (taken : List Taken). AreGoing taken nexts) (sym (ap (λ (c : Counts). c.taken) configures.brings.counts)) going
+
+-- what stands before the last of some entries
+front_same : (xs ys : List Entry) (x y : Entry) → xs ++ x ∷ [] ≡ ys ++ y ∷ [] → xs ≡ ys
+front_same [] [] x y same = refl
+front_same [] (other ∷ ys) x y same = let size = ap length same ∙ ap suc (length-append ys (y ∷ [])) in absurd (omega (arith, size))
+front_same (first ∷ xs) [] x y same = let size = sym (ap suc (length-append xs (x ∷ []))) ∙ ap length same in absurd (omega (arith, size))
+front_same (first ∷ xs) (other ∷ ys) x y same = cons_same (head_same same) (front_same xs ys x y (tail_same same))
+
+-- the packs that discovery finds directly before the session is configured
+pub found_by : (restored : Restored) (config : Config) (moment : ℕ) (filled state : Kept) (entries : List Entry) (configured : Entry) (found : List Bool) → IsState filled → found ≡ map (is_found (rows_in (shown_by filled filled.image.last moment))) config.packs → IsStateOf restored entries filled → state.tail ≡ entries ++ configured ∷ [] → IsFoundBy restored config moment state found
+found_by restored config moment filled state entries configured found is found_are stands tail = record {
+  size = ap length found_are ∙ length-map config.packs (is_found (rows_in (shown_by filled filled.image.last moment)));
+  of_list = λ before front last legal whole ends.
+      let same : entries ≡ front = front_same entries front configured last (sym tail ∙ ends) in
+      found_are ∙ ap (λ (view : View). map (is_found view) config.packs) (tables_same (before ++ entries) filled moment is (stands.values before legal whole) ∙ ap (λ (es : List Entry). tables_of (before ++ es) moment) same);
+}
+
+-- the packs that are found directly before a session's first configuration
+pub opens_found : {S : Type 0} (tells : Type 0) (left : S → List ℕ) (faults : S → ℕ) (most : ℕ) (restored : Restored) (feeds nexts : List Feeding) (sources rests : List S) (begun filled : Kept) (begins : Begins restored begun) (tables : Rounds tells left faults which.Tables most feeds nexts sources rests begun filled) (config : Config) (documents : List (List ℕ)) (host : Host) (moment : ℕ) (state : Kept) (configures : Configures config documents host moment filled state) (found : List Bool) → IsState filled → found ≡ map (is_found (rows_in (shown_by filled filled.image.last moment))) config.packs → IsFoundBy restored config moment state found
+opens_found tells left faults most restored feeds nexts sources rests begun filled begins tables config documents host moment state configures found is found_are =
+    found_by restored config moment filled state (Opened (restored.sessions + 1) ∷ round_entries begun.counts.moment tables.turns) (Configured documents configures.schedule moment) found is found_are (tables.brings.stands restored (Opened (restored.sessions + 1) ∷ []) begins.stands)
+    (configures.brings.tail ∙ ap (λ (es : List Entry). es ++ Configured documents configures.schedule moment ∷ []) (tables.brings.tail ∙ ap (λ (es : List Entry). es ++ round_entries begun.counts.moment tables.turns) begins.tail))
 
 -- what is open goes on from the keeper's list, where that has these values
 pub opened_goes_on : (tells : Type 0) (kept : List Entry) (restored : Restored) (entries : List Entry) (state : Kept) → IsOpened restored entries state → (tells → restored ≡ summary kept) → GoesOn tells kept state

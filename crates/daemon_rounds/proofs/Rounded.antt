@@ -16,10 +16,11 @@ use Rattle.entry_model.specs.Next.{offset_at}
 use Rattle.session_state.specs.Kept.{Counts, Kept}
 use Rattle.daemon_rounds.specs.Adding.{AddsEntries}
 use Rattle.daemon_rounds.specs.Appending.{entries_of}
-use Rattle.daemon_rounds.specs.Turns.{HasTooMuch, HasTurn, IsGoing, IsTurn, Turn, turn_entries, turn_of}
-use Rattle.daemon_rounds.specs.Rounding.{AreGoing, FailsAt, Front, Overflows, Rounds, names_of, round_entries}
+use Rattle.daemon_rounds.specs.Turns.{HasTooMuch, HasTurn, IsGoing, IsTurn, StillCounts, Turn, turn_entries, turn_of}
+use Rattle.daemon_rounds.specs.Rounding.{AllCount, AreGoing, FailsAt, Front, Overflows, Rounds, names_of, round_entries}
 use Rattle.daemon_rounds.specs.declared.turning.Which.{Which}
 use Rattle.daemon_rounds.proofs.Adding.{brings_same, brings_then}
+use Rattle.daemon_rounds.proofs.Counting.{all_count, one_counts}
 use Rattle.daemon_rounds.proofs.Fronts as fronts
 use Rattle.daemon_rounds.proofs.Turned.{moment_same}
 
@@ -78,9 +79,10 @@ pub record AreUnderWay {S : Type 0} (tells : Type 0) (left : S → List ℕ) (fa
   pub brings : AddsEntries s (round_entries s.counts.moment turns) t
   pub moment : t.counts.moment ≡ s.counts.moment
   pub going : AreGoing t.counts.taken nexts
+  pub counts : AllCount tells left feeds nexts sources
 
-pub none_yet : {S : Type 0} (tells : Type 0) (left : S → List ℕ) (faults : S → ℕ) (which : Which) (most : ℕ) (feeds : List Feeding) (sources : List S) (s : Kept) → AreGoing s.counts.taken feeds → AreUnderWay tells left faults which most feeds feeds sources sources 0 s s
-none_yet tells left faults which most feeds sources s going = record {
+pub none_yet : {S : Type 0} (tells : Type 0) (left : S → List ℕ) (faults : S → ℕ) (which : Which) (most : ℕ) (feeds : List Feeding) (sources : List S) (s : Kept) → AreGoing s.counts.taken feeds → length sources ≡ length feeds → AreUnderWay tells left faults which most feeds feeds sources sources 0 s s
+none_yet tells left faults which most feeds sources s going paired = record {
   turns = [];
   gone = refl;
   front = fronts.none_gone feeds sources;
@@ -88,6 +90,7 @@ none_yet tells left faults which most feeds sources s going = record {
   brings = brings_same s;
   moment = refl;
   going = going;
+  counts = all_count tells left feeds sources paired;
 }
 
 -- each had its turn
@@ -125,6 +128,11 @@ module _ {S : Type 0} (tells : Type 0) (left : S → List ℕ) (faults : S → �
     pub fails_here : Rose (faults source) (faults rest) → FailsAt faults at sources (set rests at rest)
     fails_here rose = fronts.fails_here feeds nexts sources rests u.turns u.front at u.gone feed feed_in feed_is source source_in source_is next rest faults rose
 
+    -- its feed goes on counting, as all do
+    pub counts_here : StillCounts tells (left source) feed next → AllCount tells left feeds (set nexts at next) sources
+    counts_here counts =
+        one_counts tells left feeds nexts sources at feed next source u.counts (fronts.feed_here feeds nexts sources rests u.turns u.front at u.gone feed feed_in feed_is source source_in source_is) (fronts.source_here feeds nexts sources rests u.turns u.front at u.gone feed feed_in feed_is source source_in source_is) counts
+
     -- it gave too much
     pub overflows_here : (v : Kept) → HasTooMuch tells left faults which most feed next source rest t v → Overflows tells left faults which most feeds (set nexts at next) sources (set rests at rest) s v
     overflows_here v much = record {
@@ -149,8 +157,8 @@ module _ {S : Type 0} (tells : Type 0) (left : S → List ℕ) (faults : S → �
       gone_now = let e = length-append u.turns (turn ∷ []) in let n = u.gone in omega (arith, e, n)
 
       -- it had its turn
-      pub one_had : IsGoing v.counts.taken next → next.name ≡ feed.name → ((other : List ℕ) → bytes_eq feed.name other ≡ false → offset_at v.counts.taken other ≡ offset_at t.counts.taken other) → AreUnderWay tells left faults which most feeds (set nexts at next) sources (set rests at rest) (at + 1) s v
-      one_had going named others = record {
+      pub one_had : IsGoing v.counts.taken next → next.name ≡ feed.name → ((other : List ℕ) → bytes_eq feed.name other ≡ false → offset_at v.counts.taken other ≡ offset_at t.counts.taken other) → StillCounts tells (left source) feed next → AreUnderWay tells left faults which most feeds (set nexts at next) sources (set rests at rest) (at + 1) s v
+      one_had going named others counting = record {
         turns = u.turns ++ turn ∷ [];
         gone = gone_now;
         front = gone_by turn refl refl refl refl;
@@ -158,4 +166,5 @@ module _ {S : Type 0} (tells : Type 0) (left : S → List ℕ) (faults : S → �
         brings = subst (λ (entries : List Entry). AddsEntries s entries v) entries_are (brings_then s t v (round_entries s.counts.moment u.turns) (entries_of feed.name t.counts.moment had.readings) u.brings had.brings);
         moment = ap (λ (counts : Counts). counts.moment) had.brings.counts ∙ moment_same t.counts feed.name t.counts.moment had.readings ∙ u.moment;
         going = subst (AreGoing v.counts.taken) (sym nexts_now) (all_still t.counts.taken v.counts.taken feed next going named others before waiting.0 (subst (AreGoing t.counts.taken) nexts_were u.going));
+        counts = counts_here counting;
       }

@@ -1,5 +1,5 @@
 -- What a session runs from now on.
-use Rattle.std.specs.Prelude.{◌≡◌, ℕ, List, [], ◌∷◌, ◌++◌, map}
+use Rattle.std.specs.Prelude.{◌≡◌, ℕ, Bool, List, [], ◌∷◌, ◌++◌, map}
 use Rattle.osq_config.specs.declared.config.Config.{Config}
 use Rattle.pack_rules.specs.declared.host.Host.{Host}
 use Rattle.pack_rules.specs.declared.schedule.Schedule.{Schedule}
@@ -26,6 +26,10 @@ IsScheduleOver config host view schedule = IsScheduleOf config host (map (is_fou
 -- what discovery sees behind these entries at this moment: their tables, and no event
 abbrev pub tables_of : List Entry → ℕ → View
 tables_of entries moment = view_of entries (last_number entries) moment
+
+-- which packs discovery finds over the tables of a state at this moment, where no event is seen
+abbrev pub found_now : Config → Kept → ℕ → List Bool
+found_now config state moment = map (is_found (rows_in (shown_by state state.image.last moment))) config.packs
 
 -- From this moment on the state runs the schedule that the configuration gives the host over its tables. For each list for which the state stands
 -- these are the list's tables.

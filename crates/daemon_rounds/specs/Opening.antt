@@ -1,18 +1,21 @@
 -- A session opens.
-use Rattle.std.specs.Prelude.{◌≡◌, ℕ, ◌+◌, false, List, [], ◌∷◌, ◌++◌}
+use Rattle.std.specs.Prelude.{◌≡◌, ℕ, ◌+◌, Bool, false, List, [], ◌∷◌, ◌++◌, length, map}
 use Rattle.osq_config.specs.declared.config.Config.{Config}
 use Rattle.pack_rules.specs.declared.host.Host.{Host}
 use Rattle.pack_rules.specs.declared.schedule.Schedule.{Schedule}
+use Rattle.query_answers.specs.Discovery.{is_found}
 use Rattle.source_feeds.specs.Feeding.{Feeding}
 use Rattle.entry_model.specs.declared.entry.Entry.{Entry}
 use Rattle.entry_model.specs.declared.entry.Entry.TheVariants.{Opened, Configured}
 use Rattle.entry_model.specs.declared.restored.Restored.{Restored}
+use Rattle.entry_model.specs.Legal.{Legal}
+use Rattle.entry_model.specs.Summary.{summary}
 use Rattle.session_state.specs.Kept.{Kept}
 use Rattle.session_state.specs.StateOf.{Begins, IsStateOf}
 use Rattle.daemon_rounds.specs.Telling.{AreTellable}
 use Rattle.daemon_rounds.specs.Turns.{Turn}
 use Rattle.daemon_rounds.specs.Rounding.{Overflows, Rounds, round_entries}
-use Rattle.daemon_rounds.specs.Configuring.{Configures}
+use Rattle.daemon_rounds.specs.Configuring.{Configures, tables_of}
 use Rattle.daemon_rounds.specs.declared.turning.Which.TheVariants as which
 
 -- the entries of an opening: Opened, the entries of what each source of tables gave in one step, source by source, and one Configured
@@ -42,3 +45,9 @@ pub record OpensTooMuch {S : Type 0} (tells : Type 0) (left : S → List ℕ) (f
   pub last : Kept
   pub begins : Begins restored begun
   pub overflows : Overflows tells left faults which.Tables most feeds nexts sources rests begun last
+
+-- These packs are meant for the host: for each list with these values those that are found in its tables at this moment, directly before the session is
+-- configured. The state's tail ends with that configuration.
+pub record IsFoundBy (restored : Restored) (config : Config) (moment : ℕ) (state : Kept) (found : List Bool) : Type 0 where
+  pub size : length found ≡ length config.packs
+  pub of_list : (before front : List Entry) (last : Entry) → Legal before → summary before ≡ restored → state.tail ≡ front ++ last ∷ [] → found ≡ map (is_found (tables_of (before ++ front) moment)) config.packs

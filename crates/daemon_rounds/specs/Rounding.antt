@@ -8,7 +8,7 @@ use Rattle.entry_model.specs.Fits.{IsDistinct}
 use Rattle.session_state.specs.Kept.{Kept}
 use Rattle.daemon_rounds.specs.Adding.{AddsEntries}
 use Rattle.daemon_rounds.specs.Appending.{Exceeds}
-use Rattle.daemon_rounds.specs.Turns.{IsGoing, IsTurn, Turn, turn_entries}
+use Rattle.daemon_rounds.specs.Turns.{IsGoing, IsTurn, StillCounts, Turn, turn_entries}
 use Rattle.daemon_rounds.specs.declared.turning.Which.{Which}
 
 abbrev pub names_of : List Feeding → List (List ℕ)
@@ -45,6 +45,12 @@ pub record Rounds {S : Type 0} (tells : Type 0) (left : S → List ℕ) (faults 
   pub whole : Whole feeds nexts sources rests turns
   pub each : All (IsTurn tells left faults which most) turns
   pub brings : AddsEntries old (round_entries old.counts.moment turns) new
+
+-- each feed goes on counting
+abbrev pub AllCount : {S : Type 0} → Type 0 → (S → List ℕ) → List Feeding → List Feeding → List S → Type 0
+AllCount tells left [] [] [] = Unit {0}
+AllCount tells left (feed ∷ feeds) (next ∷ nexts) (source ∷ sources) = StillCounts tells (left source) feed next × AllCount tells left feeds nexts sources
+AllCount tells left _ _ _ = ⊥
 
 -- the source at this place failed
 pub record FailsAt {S : Type 0} (faults : S → ℕ) (place : ℕ) (sources rests : List S) : Type 0 where

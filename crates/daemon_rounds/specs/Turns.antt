@@ -7,7 +7,7 @@ use Rattle.osq_value.specs.declared.source.SourceKind.TheVariants as kind
 use Rattle.source_feeds.specs.Feeding.{Fed, Feeding, SameFeed}
 use Rattle.source_feeds.specs.Joining.{Rise}
 use Rattle.source_feeds.specs.Readings.{IsReading}
-use Rattle.source_feeds.specs.Stepping.{IsStep}
+use Rattle.source_feeds.specs.Stepping.{Counts, IsStep}
 use Rattle.entry_model.specs.declared.entry.Entry.{Entry}
 use Rattle.entry_model.specs.declared.restored.Taken.{Taken}
 use Rattle.entry_model.specs.Next.{offset_at}
@@ -41,10 +41,16 @@ pub record Turn (S : Type 0) : Type 0 where
 -- One step of the feed, of at most so many records, gave these readings: whatever the session had taken of the source before, they are those of
 -- a step behind it. The source had the bytes `before` to give, and has `after` now.
 pub record Gave (tells : Type 0) (before after : List ℕ) (feed next : Feeding) (most : ℕ) (readings : List Reading) : Type 0 where
-  pub steps : (bytes : List ℕ) (kept : ℕ) (given : List ReadRecord) → Fed tells bytes before feed kept given → IsStep tells bytes after feed next kept given most readings
+  pub steps : (bytes : List ℕ) (kept : ℕ) (given : List ReadRecord) → Fed tells bytes before feed kept given → IsStep tells bytes before after feed next kept given most readings
   pub each : All IsReading readings
   pub rise : Rise feed.reader.taken readings next.reader.taken
   pub same : SameFeed feed next
+
+-- Whatever the session had taken of the source before, the feed goes on counting the lines that are skipped, also where a call on it has refused.
+pub record StillCounts (tells : Type 0) (before : List ℕ) (feed next : Feeding) : Type 0 where
+  pub name : next.name ≡ feed.name
+  pub kind : next.kind ≡ feed.kind
+  pub counts : (bytes : List ℕ) (kept : ℕ) (given : List ReadRecord) → Fed tells bytes before feed kept given → Counts tells bytes feed.reader.paths kept feed.reader.taken next
 
 -- nothing was read
 pub record IsIdle {S : Type 0} (turn : Turn S) : Type 0 where

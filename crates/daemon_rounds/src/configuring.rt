@@ -1,16 +1,30 @@
 //! What a session runs from now on.
 
-ghost use Rattle.std.specs.Prelude.{◌≡◌, ◌≤◌, OnOk, OnErr};
+ghost use Rattle.std.specs.Prelude.{◌≡◌, ◌≤◌, IfOk, OnOk, OnErr};
 ghost use Rattle.osq_value.specs.declared.moment.TheConstants.{LAST_MOMENT};
 ghost use Rattle.osq_config.specs.Bounds.{IsBounded};
-ghost use Rattle.daemon_rounds.specs.Configuring.{Configures};
+ghost use Rattle.daemon_rounds.specs.Configuring.{Configures, found_now};
 
 use osq_config::Config;
 use osq_value::{Copied, NoMemory, TextList};
 use pack_rules::Host;
-use query_answers::schedule_for;
+use query_answers::{found_packs, schedule_for};
 use session_state::State;
 use std::alloc::Global;
+
+/// Which packs are meant for the host: each whose discovery finds something in the tables at this moment, where no event is seen.
+pub fn discover(
+    alloc: Global,
+    state: &State,
+    config: &Config,
+    moment: u64,
+) -> Result<Vec<bool>, NoMemory>
+    requires { moment ≤ LAST_MOMENT }
+    ensures { IfOk result (λ found. found.items ≡ found_now config.now state.now moment) }
+{
+    let view = state.tables_view(alloc, moment)?;
+    found_packs(alloc, config, &view)
+}
 
 /// Runs the schedule that the configuration gives the host from this moment on, which isn't before the last one. Discovery sees the tables
 /// at that moment, and no event. The documents are those that the configuration was read from.

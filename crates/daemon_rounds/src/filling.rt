@@ -5,7 +5,7 @@ ghost use Rattle.osq_value.specs.declared.moment.TheConstants.{LAST_MOMENT};
 ghost use Rattle.osq_config.specs.Bounds.{IsBounded};
 ghost use Rattle.entry_model.specs.Views.{is_evented_table};
 ghost use Rattle.session_state.specs.Ticks.{first_due, owed_at};
-ghost use Rattle.daemon_rounds.specs.Rounding.{AreGoing, FailsAt};
+ghost use Rattle.daemon_rounds.specs.Rounding.{AllCount, AreGoing, FailsAt};
 ghost use Rattle.daemon_rounds.specs.Ticking.{ConfiguresAgain, Fills, FillsTooMuch, asks_again, configured_last, has_discovery};
 ghost use Rattle.daemon_rounds.specs.declared.error.TakeError.{TakeError};
 
@@ -99,6 +99,7 @@ pub fn fill_tick<S: Source>(
     ensures fills { IfOk result (λ last. Fills S.tells S.left S.faults setup.now configured.now.config configured.now.documents configured_at moment feeds.old feeds.new sources.old sources.new state.old state.new) }
     ensures last { IfOk result (λ last. last ≡ configured_last (asks_again configured.now.config configured_at moment) configured_at moment) }
     ensures going { IfOk result (λ last. AreGoing state.new.counts.taken feeds.new) }
+    ensures counts { AllCount S.tells S.left feeds.old feeds.new sources.old }
     ensures fault { (place : ℕ) → result ≡ Err (TakeError.SourceFault place) → FailsAt S.faults place sources.old sources.new }
     ensures spent { result ≡ Err TakeError.NumbersSpent → FillsTooMuch S.tells S.left S.faults setup.now configured.now.config configured.now.documents configured_at moment feeds.old feeds.new sources.old sources.new state.old state.new }
 {

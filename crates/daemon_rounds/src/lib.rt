@@ -23,7 +23,7 @@ mod turning;
 
 pub use answering::answer_due;
 pub use configuration::read_configuration;
-pub use configuring::configure;
+pub use configuring::{configure, discover};
 pub use error::{FinishError, OpenError, RoundError, StartError, TakeError, TurnError};
 pub use filling::{asks_again, fill_tick};
 pub use finishing::{answer_and_settle, finish_tick};

@@ -1,7 +1,7 @@
 //! A round of the sources.
 
 ghost use Rattle.std.specs.Prelude.{◌≡◌, ℕ, length, Err, OnOk};
-ghost use Rattle.daemon_rounds.specs.Rounding.{AreGoing, FailsAt, Overflows, Rounds};
+ghost use Rattle.daemon_rounds.specs.Rounding.{AllCount, AreGoing, FailsAt, Overflows, Rounds};
 ghost use Rattle.daemon_rounds.specs.declared.error.TakeError.{TakeError};
 
 use crate::error::{TakeError, TurnError};
@@ -26,6 +26,7 @@ pub fn take_round<S: Source>(
     requires going { AreGoing state.old.counts.taken feeds.old }
     ensures round { OnOk result (Rounds S.tells S.left S.faults which most feeds.old feeds.new sources.old sources.new state.old state.new) }
     ensures going { OnOk result (AreGoing state.new.counts.taken feeds.new) }
+    ensures counts { AllCount S.tells S.left feeds.old feeds.new sources.old }
     ensures fault { (place : ℕ) → result ≡ Err (TakeError.SourceFault place) → FailsAt S.faults place sources.old sources.new }
     ensures spent { result ≡ Err TakeError.NumbersSpent → Overflows S.tells S.left S.faults which most feeds.old feeds.new sources.old sources.new state.old state.new }
 {

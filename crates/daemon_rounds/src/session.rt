@@ -4,6 +4,7 @@ ghost use Rattle.std.specs.Prelude.{◌≡◌, ◌<◌, ℕ, length, bytes_eq, E
 ghost use Rattle.osq_value.specs.declared.moment.TheConstants.{LAST_MOMENT};
 ghost use Rattle.osq_config.specs.Bounds.{IsBounded};
 ghost use Rattle.entry_model.specs.Fits.{Fits, IsDistinct};
+ghost use Rattle.daemon_rounds.specs.Opening.{IsFoundBy};
 ghost use Rattle.daemon_rounds.specs.Refusals.{unstarted_by, untaken_by};
 ghost use Rattle.daemon_rounds.specs.Rounding.{AreGoing, FailsAt};
 ghost use Rattle.daemon_rounds.specs.Session.{IsOpen, IsOverfull};
@@ -31,6 +32,8 @@ pub struct Session {
     pub feeds: Vec<Feed>,
     /// The moment at which it was configured last.
     pub configured_at: u64,
+    /// Which packs are meant for the host, in their order, by the discovery of that configuration.
+    pub found: Vec<bool>,
 }
 
 /// The same answer to sources that aren't started.
@@ -75,6 +78,7 @@ pub fn open_session<S: Source, C: Clock>(
     requires paired { length sources.old ≡ length setup.now.sources }
     requires distinct { IsDistinct bytes_eq (source_names setup.now.sources) }
     ensures opened { IfOk result (λ session. IsOpen S.tells S.left S.faults C.reads setup.now configured.now.config configured.now.documents restored clock.old clock.new sources.old sources.new session.configured_at session.feeds.items session.state) }
+    ensures found { IfOk result (λ session. IsFoundBy restored configured.now.config session.configured_at session.state session.found.items) }
     ensures going { IfOk result (λ session. AreGoing session.state.counts.taken session.feeds.items) }
     ensures read { (reading : ℕ) × C.reads clock.old reading clock.new }
     ensures moment { (moment : ℕ) → result ≡ Err (OpenError.MomentTooLarge moment) → C.reads clock.old moment clock.new × (LAST_MOMENT < moment) }
@@ -105,10 +109,11 @@ pub fn open_session<S: Source, C: Clock>(
         feeds.as_mut_slice(),
         sources,
     ) {
-        Ok(state) => Ok(Session {
+        Ok((state, found)) => Ok(Session {
             state,
             feeds,
             configured_at: moment,
+            found,
         }),
         Err(error) => Err(untaken(error)),
     }

@@ -7,7 +7,7 @@ ghost use Rattle.osq_value.specs.declared.reading.Reading.{Reading};
 ghost use Rattle.entry_model.specs.Next.{offset_at};
 ghost use Rattle.daemon_rounds.specs.Adding.{AddsEntries};
 ghost use Rattle.daemon_rounds.specs.Appending.{Exceeds, entries_of};
-ghost use Rattle.daemon_rounds.specs.Turns.{Gave, HasTooMuch, HasTurn, IsGoing, takes_part};
+ghost use Rattle.daemon_rounds.specs.Turns.{Gave, HasTooMuch, HasTurn, IsGoing, StillCounts, takes_part};
 ghost use Rattle.daemon_rounds.specs.declared.error.TurnError.{TurnError};
 
 use crate::appending::append_all;
@@ -54,6 +54,7 @@ fn take_step<S: Source>(
     ensures gave { OnOk result ((readings : List Reading) × Gave S.tells (S.left source.old) (S.left source.new) feed.old feed.new most readings × AddsEntries state.old (entries_of feed.old.name state.old.counts.moment readings) state.new) }
     ensures going { OnOk result (IsGoing state.new.counts.taken feed.new) }
     ensures others { (other : List ℕ) → bytes_eq feed.old.name other ≡ false → OnOk result (offset_at state.new.counts.taken other ≡ offset_at state.old.counts.taken other) }
+    ensures counts { StillCounts S.tells (S.left source.old) feed.old feed.new }
     ensures spent { result ≡ Err TurnError.NumbersSpent → (readings : List Reading) × Gave S.tells (S.left source.old) (S.left source.new) feed.old feed.new most readings × Exceeds feed.old.name readings state.old state.new }
     ensures cause { FaultHasCause TurnError.SourceFault (S.faults source.old) (S.faults source.new) result }
 {
@@ -84,6 +85,7 @@ pub(crate) fn take_turn<S: Source>(
     ensures going { OnOk result (IsGoing state.new.counts.taken feed.new) }
     ensures name { OnOk result (feed.new.name ≡ feed.old.name) }
     ensures others { (other : List ℕ) → bytes_eq feed.old.name other ≡ false → OnOk result (offset_at state.new.counts.taken other ≡ offset_at state.old.counts.taken other) }
+    ensures counts { StillCounts S.tells (S.left source.old) feed.old feed.new }
     ensures spent { result ≡ Err TurnError.NumbersSpent → HasTooMuch S.tells S.left S.faults which most feed.old feed.new source.old source.new state.old state.new }
     ensures cause { FaultHasCause TurnError.SourceFault (S.faults source.old) (S.faults source.new) result }
 {

@@ -1,9 +1,15 @@
 -- What `replay` tells where it doesn't end with Ok.
-use Rattle.std.proofs.Common.{◌≡◌, ◌⊎◌, inl, inr, ℕ, List, [], ◌++◌, take, Option, Some, None, refl, sym, ap, ◌∙◌, subst}
+use Rattle.std.proofs.Common.{◌≡◌, ◌⊎◌, inl, inr, ℕ, List, [], ◌++◌, length, take, drop, append-nil, Option, Some, None, refl, sym, ap, ◌∙◌, subst}
+use Rattle.std.proofs.Math.Seq.{drop-append_seam}
 use Rattle.program_words.specs.declared.command.ReplayWords.{ReplayWords}
 use Rattle.osq_value.specs.declared.source.SourceName.{SourceName}
 use Rattle.session_model.specs.Given.{Given}
-use Rattle.replay_rounds.specs.Noting.{HasTold, HasToldSome}
+use Rattle.entry_model.specs.declared.entry.Entry.{Entry}
+use Rattle.replay_rounds.specs.Fixed.{Fixed}
+use Rattle.replay_rounds.specs.Noting.{ArePlacesBut, CountsTo, HasTold, HasToldSome, HaveCounted, Place}
+use Rattle.replay_rounds.proofs.Places.{places_now}
+use Rattle.replay_rounds.proofs.Ran.{no_tick}
+use Rattle.replay_rounds.proofs.Skips.{same_counted}
 use Rattle.replay_rounds.specs.Stopping.{AreNumbersFor, Stops}
 use Rattle.replay_rounds.specs.declared.refused.Numbers.{Numbers}
 use Rattle.replay_rounds.specs.declared.refused.RunError.{RunError}
@@ -39,6 +45,35 @@ replay_may words seen R OutOfMemory caused = refl
 pub untold_replay : (words : ReplayWords) (seen : Observed) (status : Status) → seen.has_read [] → TellsSome (MayReplayTell words seen) seen status → TellsReplay words seen status
 untold_replay words seen status unread some refusal = inl (record { front = some.front; may = some.before; unread = unread; told = some.behind })
 
+-- what such a session told is told of one that ended early too
+module _ (x : Fixed) (now : List Entry) (left_out before after : List ℕ) (has : HasTold x now left_out before after) where
+  abbrev added : List Entry
+  added = drop (length x.start) now
+
+  list_is : x.keeper_tells → now ≡ x.start ++ added
+  list_is told =
+      let c = has.configured told in
+      c.1 ∙ ap (λ (es : List Entry). x.start ++ es) (sym (ap (drop (length x.start)) c.1 ∙ drop-append_seam x.start c.0))
+
+  told_to : CountsTo x now has.feeds
+  told_to = record {
+    front = added;
+    kept_are = λ told. ([], no_tick, list_is told ∙ ap (λ (es : List Entry). x.start ++ es) (sym (append-nil added)));
+    counted = λ told. subst (λ (list : List Entry). HaveCounted x.source_tells x.given.config.categories x.start list x.given.sources has.feeds) (list_is told)
+        (same_counted x.source_tells (λ (bytes : List ℕ). bytes) x.given.config.categories x.start now x.given.sources has.feeds has.rests (has.fed told));
+  }
+
+  told_early : HasToldSome x now left_out before after
+  told_early = record {
+    places = has.places;
+    configured = λ told.
+        let c = has.configured told in
+        subst (λ (places : List Place). ArePlacesBut x.start now places) (sym c.2) (places_now x.start now c.0 c.1);
+    between = has.between;
+    noted = has.noted;
+    skipped = inr (has.feeds, told_to, has.skipped);
+  }
+
 -- a session that did all its ticks, of which the end could not be told
 pub ran_telling : (words : ReplayWords) (seen : Observed) (status : Status) (given : Given) (is : IsReplayGiven words seen given) (between : List ℕ) (failed : Type 0) → (failed → seen.status_failed)
     → (seen.sink_tells → HasTold (fixed seen given) seen.kept_after is.notes seen.status_before between)
@@ -53,7 +88,7 @@ ran_telling words seen status given is between failed more session ends refusal 
         → ((between : List ℕ) × HasToldSome (fixed seen given) seen.kept_after is.notes seen.status_before between × (EndsWhole seen given status between ⊎ EndsStarved seen status between)) ⊎ seen.status_failed
     by_end tells (inl (wanting, after)) =
         let has = session tells in
-        inl (between, record { count = has.count; counted = λ told. inl (has.counted told); between = has.between; noted = has.noted; skipped = (has.feeds, has.skipped) }, inr (wanting, after))
+        inl (between, told_early (fixed seen given) seen.kept_after is.notes seen.status_before between has, inr (wanting, after))
     by_end tells (inr fault) = inr (more fault)
 
 -- the numbers of a session that ended for this reason are those of its status

@@ -53,10 +53,10 @@ module _ {S : Type 0} (tells : Type 0) (left : S → List ℕ) (faults : S → �
     full_end : EndsFull given (opened_behind kept) read.runs.count entries end.feeds
     full_end = all_read.2
 
-    more_left : is_end ≡ false → (read.runs.count ≡ rounds) × (1 ≤ rounds → HasMore given (opened_behind kept) read.runs.count entries)
+    more_left : is_end ≡ false → (read.runs.count ≡ rounds) × (1 ≤ rounds → HasMore given kept (opened_behind kept) read.runs.count entries)
     more_left ended_not =
         let all_run = read.runs.all_run ended_not in
-        (all_run, λ some. has_more tells left given kept read.runs.count entries end taken full_end (sym read.runs.over ∙ ended_not) (omega (arith, some, all_run)))
+        (all_run, λ some. has_more tells left given kept read.runs.count entries end told taken full_end (sym read.runs.over ∙ ended_not) (omega (arith, some, all_run)))
 
     pub answer_of : (text : List ℕ) (moment : ℕ) (rows : List (List Value)) (skipped : List ℕ) → AnswersBehind state text moment rows → IsAnswer given kept text rounds moment (record { rows = rows; is_end = is_end; skipped = skipped })
     answer_of text moment rows skipped answers = record {

@@ -24,6 +24,7 @@ use Rattle.replay_rounds.specs.Spent.{StepsSpend}
 use Rattle.replay_rounds.proofs.Begun.{started_fed}
 use Rattle.replay_rounds.proofs.Endings.{one_full}
 use Rattle.replay_rounds.proofs.Feeds.{fed_names, fed_on}
+use Rattle.replay_rounds.proofs.Full.{HaveSteps, steps_begun, steps_more}
 use Rattle.replay_rounds.proofs.Nothing.{nothing_behind, opened_nothing}
 use Rattle.replay_rounds.proofs.Overrun.{overflow_brings, overflow_entries, overflow_spends}
 use Rattle.replay_rounds.proofs.Stepped.{every_source, rounds_taken}
@@ -42,6 +43,7 @@ pub record HasTaken {S : Type 0} (tells : Type 0) (left : S → List ℕ) (given
   pub takes : TakesRounds given (opened_behind kept) count entries
   pub stands : IsStateOf (summary kept) (Opened (sessions kept + 1) ∷ entries) at.state
   pub fed : AreFed tells left given.config.categories kept (opened_behind kept ++ entries) given.sources at.feeds at.sources
+  pub have : HaveSteps tells left given.records count kept given.sources at.feeds at.sources
 
 -- the last of the rounds, in which each source that isn't at its end gave a full step
 abbrev pub EndsFull : Given → List Entry → ℕ → List Entry → List Feeding → Type 0
@@ -55,7 +57,8 @@ pub begun_taken : {S : Type 0} (tells : Type 0) (left : S → List ℕ) (faults 
 begun_taken {S} tells left faults given kept names objects start are begun = record {
   takes = refl;
   stands = begun.begins.stands;
-  fed = subst (λ (sources : List Source). AreFed tells left given.config.categories kept (opened_behind kept ++ []) sources start.feeds start.sources) (sym are) (fed_on tells left given.config.categories kept kept (opened_behind kept ++ []) (sources_of left names objects) start.feeds start.sources same of_names);
+  fed = fed;
+  have = steps_begun tells left given.config.categories given.records kept (opened_behind kept ++ []) given.sources start.feeds start.sources fed;
 }
   where
     of_names : AreFed tells left given.config.categories kept kept (sources_of left names objects) start.feeds start.sources
@@ -64,6 +67,10 @@ begun_taken {S} tells left faults given kept names objects start are begun = rec
     same : (name : List ℕ) → taken_from (opened_behind kept ++ []) name ≡ taken_from kept name
     same name =
         ap (λ (list : List Entry). taken_from list name) (append-nil (opened_behind kept)) ∙ nothing_behind kept (Opened (sessions kept + 1) ∷ []) (opened_nothing (sessions kept + 1)) name
+
+    fed : AreFed tells left given.config.categories kept (opened_behind kept ++ []) given.sources start.feeds start.sources
+    fed =
+        subst (λ (sources : List Source). AreFed tells left given.config.categories kept (opened_behind kept ++ []) sources start.feeds start.sources) (sym are) (fed_on tells left given.config.categories kept kept (opened_behind kept ++ []) (sources_of left names objects) start.feeds start.sources same of_names)
 
 -- no two sources have one name
 pub sources_distinct : {S : Type 0} (tells : Type 0) (left : S → List ℕ) (faults : S → ℕ) (given : Given) (kept : List Entry) (names : List SourceName) (objects : List S) (start : Place S) → given.sources ≡ sources_of left names objects → IsBegun tells left faults names given.config.categories (summary kept) objects start → IsDistinct bytes_eq (source_names names) → IsDistinct bytes_eq (map (λ (source : Source). source.name) given.sources)
@@ -100,6 +107,7 @@ module _ {S : Type 0} (tells : Type 0) (left : S → List ℕ) (faults : S → �
       takes = rounds_more given (opened_behind kept) count entries own taken.takes of_round.0;
       stands = turns.brings.stands (summary kept) (Opened (sessions kept + 1) ∷ entries) taken.stands;
       fed = subst (λ (list : List Entry). AreFed tells left given.config.categories kept list given.sources to.feeds to.sources) (append_assoc (opened_behind kept) entries own) of_round.1;
+      have = steps_more tells left faults given.config.categories given.records count kept before given.sources from.feeds to.feeds from.sources to.sources turns.turns turns.whole turns.each taken.fed taken.have;
     }
 
     one_full_end : EndsFull given (opened_behind kept) (suc count) (entries ++ own) to.feeds
@@ -130,11 +138,11 @@ module _ {S : Type 0} (tells : Type 0) (left : S → List ℕ) (faults : S → �
       let (entries, taken, full) = all_taken count from between start before in
       (entries ++ own count entries between to taken last, one_taken count entries between to taken last, one_full_end count entries between to taken last)
 
--- where one source isn't at its end, it gave a full step in the last round
-pub has_more : {S : Type 0} (tells : Type 0) (left : S → List ℕ) (given : Given) (kept : List Entry) (count : ℕ) (entries : List Entry) (at : Place S) → HasTaken tells left given kept count entries at → EndsFull given (opened_behind kept) count entries at.feeds → all_over at.feeds ≡ false → 1 ≤ count → HasMore given (opened_behind kept) count entries
-has_more tells left given kept zero entries at taken full over some = absurd (omega (arith, some))
-has_more tells left given kept (suc earlier) entries at taken (before, last, are, takes, takes_last, full) over some =
-    let (source, among, gave) = one_full tells left given.config.categories kept (opened_behind kept ++ entries) given (opened_behind kept ++ before) given.sources at.feeds at.sources taken.fed full over in
+-- where one source isn't at its end, it gave a full step in the last round, and in each of them
+pub has_more : {S : Type 0} (tells : Type 0) (left : S → List ℕ) (given : Given) (kept : List Entry) (count : ℕ) (entries : List Entry) (at : Place S) → tells → HasTaken tells left given kept count entries at → EndsFull given (opened_behind kept) count entries at.feeds → all_over at.feeds ≡ false → 1 ≤ count → HasMore given kept (opened_behind kept) count entries
+has_more tells left given kept zero entries at told taken full over some = absurd (omega (arith, some))
+has_more tells left given kept (suc earlier) entries at told taken (before, last, are, takes, takes_last, full) over some =
+    let (source, among, gave, each) = one_full tells left given.config.categories given.records (suc earlier) kept (opened_behind kept ++ entries) given (opened_behind kept ++ before) given.sources at.feeds at.sources told taken.fed taken.have full over in
     record {
       earlier = earlier;
       count_is = refl;
@@ -146,4 +154,5 @@ has_more tells left given kept (suc earlier) entries at taken (before, last, are
       source = source;
       among = among;
       full = gave;
+      each = each;
     }

@@ -32,8 +32,8 @@ abbrev pub opened_behind : List Entry → List Entry
 opened_behind kept = kept ++ Opened (sessions kept + 1) ∷ []
 
 -- Each source had the bytes that the kept list has of it. Rounds of the sources were taken behind the opening, and the rows are those that the text means at this moment over all live events and the
--- tables of the list with all of that behind it. At the end every source was read to behind its last line feed; else all rounds were run, and in
--- the last of them some source gave a full step.
+-- tables of the list with all of that behind it. At the end every source was read to behind its last line feed; else all rounds were run, and some
+-- source gave a full step in each of them.
 pub record IsAnswer (given : Given) (kept : List Entry) (text : List ℕ) (rounds moment : ℕ) (asked : Asked) : Type 0 where
   pub present : All (λ (source : Source). taken_from kept source.name ≤ length source.bytes) given.sources
   pub count : ℕ
@@ -42,7 +42,7 @@ pub record IsAnswer (given : Given) (kept : List Entry) (text : List ℕ) (round
   pub takes : TakesRounds given (opened_behind kept) count entries
   pub means : asked.rows ≡ meaning text (view_of (opened_behind kept ++ entries) 0 moment)
   pub whole : asked.is_end ≡ true → All (IsReadWhole kept (opened_behind kept ++ entries)) given.sources
-  pub more : asked.is_end ≡ false → (count ≡ rounds) × (1 ≤ rounds → HasMore given (opened_behind kept) count entries)
+  pub more : asked.is_end ≡ false → (count ≡ rounds) × (1 ≤ rounds → HasMore given kept (opened_behind kept) count entries)
 
 -- Behind the opening some rounds were taken, fewer than may be, and in the next one a source's step gave a reading whose events would have
 -- numbers beyond 2^62.

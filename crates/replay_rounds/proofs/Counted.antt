@@ -24,7 +24,7 @@ use Rattle.daemon_rounds.specs.Rounding.{round_entries}
 use Rattle.daemon_rounds.specs.Ticking.{ConfiguresAgain, asks_again, has_discovery}
 use Rattle.daemon_rounds.specs.Turns.{Turn, turn_entries}
 use Rattle.daemon_rounds.specs.declared.setup.Setup.{Setup}
-use Rattle.replay_rounds.specs.Noting.{AreCounted, configurations}
+use Rattle.replay_rounds.specs.Noting.{configurations}
 use Rattle.replay_rounds.specs.Ticked.{TickDone}
 use Rattle.replay_rounds.proofs.Again.{again_brings, again_entries}
 
@@ -36,7 +36,7 @@ configurations-append xs ys =
 abbrev pub CountNone : List Entry → Type 0
 CountNone entries = configurations entries ≡ 0
 
-none-append : (xs ys : List Entry) → CountNone xs → CountNone ys → CountNone (xs ++ ys)
+pub none-append : (xs ys : List Entry) → CountNone xs → CountNone ys → CountNone (xs ++ ys)
 none-append xs ys first second = let all = configurations-append xs ys in omega (arith, all, first, second)
 
 readings_none : (source : List ℕ) (moment : ℕ) (readings : List Reading) → CountNone (entries_of source moment readings)
@@ -63,7 +63,7 @@ expired_none owed moment (table ∷ tables) =
     expired_or_none (owed table) table moment (filter_map (λ (table : ℕ). option_map (λ (floor : ℕ). Expired (record { 0 = table }) floor moment) (owed table)) tables) (expired_none owed moment tables)
 
 -- what a settled state gained
-settled_none : (old new : Kept) (settles : Settles old new) → CountNone (committed_all settles.batches ++ settles.expired)
+pub settled_none : (old new : Kept) (settles : Settles old new) → CountNone (committed_all settles.batches ++ settles.expired)
 settled_none old new settles =
     none-append (committed_all settles.batches) settles.expired (committed_none settles.batches) (subst CountNone (sym settles.are) (expired_none (owed_at settles.between) settles.between.counts.moment (0 ∷ 1 ∷ 2 ∷ [])))
 
@@ -96,12 +96,6 @@ tick_counted tells left faults setup config documents configured_at moment feeds
     let rest = settled_none done.filled settled done.settles in
     omega (arith, begun, again, once, taken, none, settling, rest)
 
--- these are the tick's own
-pub own_counted : (old settled : Kept) (own : List Entry) (count : ℕ) → settled.tail ≡ old.tail ++ own → configurations settled.tail ≡ configurations old.tail + count → configurations own ≡ count
-own_counted old settled own count tail all =
-    let parts : configurations settled.tail ≡ configurations old.tail + configurations own = ap (λ (es : List Entry). configurations es) tail ∙ configurations-append old.tail own in
-    omega (arith, parts, all)
-
 and_false : (b : Bool) → (b && false) ≡ false
 and_false true = refl
 and_false false = refl
@@ -111,33 +105,3 @@ pub not_at_once : (config : Config) (moment : ℕ) → asks_again config moment 
 not_at_once config moment =
     let later : moment < moment + 3600 = omega arith in
     ap (λ (late : Bool). has_discovery config && late) (lt-leb (moment + 3600) moment later) ∙ and_false (has_discovery config)
-
--- one more where it is configured again
-abbrev pub more_by : Bool → ℕ → ℕ
-more_by true count = suc count
-more_by false count = count
-
-pub more_is : (again : Bool) (count : ℕ) → more_by again count ≡ count + count_of again
-more_is true count = omega arith
-more_is false count = omega arith
-
-module _ (start kept next : List Entry) (count : ℕ) (was : configurations kept ≡ configurations start + count) where
-  -- the list as it was before the tick
-  pub counted_before : (again : Bool) → next ≡ kept → AreCounted start next (more_by again count)
-  counted_before true same =
-      let is : configurations next ≡ configurations kept = ap (λ (es : List Entry). configurations es) same in
-      inr (omega (arith, is, was))
-  counted_before false same = inl (ap (λ (es : List Entry). configurations es) same ∙ was)
-
-  -- the list with the tick
-  pub counted_behind : (again : Bool) (tail : List Entry) → configurations tail ≡ count_of again → next ≡ kept ++ tail → AreCounted start next (more_by again count)
-  counted_behind again tail own grown =
-      let is : configurations next ≡ configurations kept + configurations tail = ap (λ (es : List Entry). configurations es) grown ∙ configurations-append kept tail in
-      let more = more_is again count in
-      inl (omega (arith, is, was, own, more))
-
--- nothing was added
-pub none_counted : (kept now : List Entry) → now ≡ kept → AreCounted kept now 0
-none_counted kept now same =
-    let is : configurations now ≡ configurations kept = ap (λ (es : List Entry). configurations es) same in
-    inl (omega (arith, is))

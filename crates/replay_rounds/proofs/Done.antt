@@ -18,9 +18,10 @@ use Rattle.replay_rounds.specs.Standing.{IsReady}
 use Rattle.replay_rounds.specs.declared.refused.Numbers.{Numbers}
 use Rattle.replay_rounds.specs.declared.running.Ended.{Ended}
 use Rattle.replay_rounds.proofs.Endings.{all_present, all_whole, one_full_step}
+use Rattle.replay_rounds.proofs.Full.{HaveSteps}
 use Rattle.replay_rounds.proofs.Ran.{IsRunning, all_kept, grows, values}
 
-module _ {S C : Type 0} (left : S → List ℕ) (x : Fixed) (reads : C → ℕ → C → Type 0) (clock now : C) (kept : List Entry) (written : List ℕ) (feeds : List Feeding) (objects : List S) (last : ℕ) (s : Kept) (r : IsRunning left x reads clock now kept written feeds objects last s) (is : IsState s) (ready : IsReady feeds last s) (coverage : Coverage) where
+module _ {S C : Type 0} (left : S → List ℕ) (x : Fixed) (reads : C → ℕ → C → Type 0) (clock now : C) (kept : List Entry) (written : List ℕ) (feeds : List Feeding) (objects : List S) (last : ℕ) (s : Kept) (r : IsRunning left x reads clock now kept written feeds objects last s) (ticks : ℕ) (have : x.keeper_tells → HaveSteps x.source_tells left x.given.records ticks x.start x.given.sources feeds objects) (is : IsState s) (ready : IsReady feeds last s) (coverage : Coverage) where
   list_is : x.keeper_tells → kept ≡ x.start ++ r.added.entries
   list_is = all_kept left x r.added.entries kept feeds objects last s r.added.standing r.added.empty
 
@@ -28,7 +29,7 @@ module _ {S C : Type 0} (left : S → List ℕ) (x : Fixed) (reads : C → ℕ �
   has tells legal =
       subst (λ (list : List Entry). HasValues list s) (sym (list_is tells)) (values left x r.added.entries kept feeds objects last s r.added.standing tells legal)
 
-  has_more : x.keeper_tells → x.source_tells → Legal x.start → all_over feeds ≡ false → HasMore x kept
+  has_more : x.keeper_tells → x.source_tells → Legal x.start → all_over feeds ≡ false → HasMore x ticks kept
   has_more tells sources legal over =
       let ends = r.added.full tells sources legal in
       let fed = subst (λ (list : List Entry). AreFed x.source_tells left x.given.config.categories x.start list x.given.sources feeds objects) (sym (list_is tells)) (r.added.standing.fed tells) in
@@ -38,11 +39,11 @@ module _ {S C : Type 0} (left : S → List ℕ) (x : Fixed) (reads : C → ℕ �
         last = ends.last;
         are = list_is tells ∙ ap (λ (es : List Entry). x.start ++ es) ends.are ∙ sym (append_assoc x.start ends.before ends.last);
         tick = ends.tick.tick;
-        full = one_full_step x.source_tells left x.given.config.categories x.start kept x.given ((x.start ++ ends.before) ++ (Ticked ends.moment ∷ ends.tick.tick.configured)) x.given.sources feeds objects ends.tick.tick.taken fed ends.tick.full over;
+        full = one_full_step x.source_tells left x.given.config.categories x.given.records ticks x.start kept x.given ((x.start ++ ends.before) ++ (Ticked ends.moment ∷ ends.tick.tick.configured)) x.given.sources feeds objects ends.tick.tick.taken sources fed (have tells) ends.tick.full over;
       }
 
-  pub has_run : (ticks : ℕ) (ended : Ended) → length (r.added.reading ∷ r.added.readings) ≡ ticks → ended.is_end ≡ all_over feeds → ended.numbers ≡ numbers_of s → HasRun x (λ readings. ReadsAll reads clock readings now) ticks kept written ended
-  has_run ticks ended count over numbers = record {
+  pub has_run : (ended : Ended) → length (r.added.reading ∷ r.added.readings) ≡ ticks → ended.is_end ≡ all_over feeds → ended.numbers ≡ numbers_of s → HasRun x (λ readings. ReadsAll reads clock readings now) ticks kept written ended
+  has_run ended count over numbers = record {
     readings = r.added.reading ∷ r.added.readings;
     entries = r.added.entries;
     read = r.added.read;

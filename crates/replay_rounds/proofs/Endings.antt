@@ -9,7 +9,8 @@ use Rattle.entry_model.specs.declared.entry.Entry.{Entry}
 use Rattle.entry_model.specs.Values.{taken_from}
 use Rattle.session_model.specs.Given.{Given, Source}
 use Rattle.session_model.specs.Taking.{IsReadWhole}
-use Rattle.replay_rounds.specs.Sources.{AreFed, AreFullOrOver, AreFullSteps, HasFullStep, IsFed, IsFull, IsFullStep, IsUnended, all_over}
+use Rattle.replay_rounds.specs.Sources.{AreFed, AreFullOrOver, AreFullSteps, HadFullSteps, HasFullStep, IsFed, IsFull, IsFullStep, IsUnended, all_over}
+use Rattle.replay_rounds.proofs.Full.{HasSteps, HaveSteps, had_steps}
 
 both : (a b : Bool) → (a && b) ≡ true → (a ≡ true) × (b ≡ true)
 both true b h = (refl, h)
@@ -43,20 +44,26 @@ here x xs = (0, omega arith, refl)
 later : {X : Type 0} (y : X) (xs : List X) (x : X) → Contains xs x → Contains (y ∷ xs) x
 later y xs x (i, within, is) = (suc i, omega (arith, within), is)
 
--- where one isn't, its source gave a full step
-pub one_full : {S : Type 0} (tells : Type 0) (left : S → List ℕ) (paths : List Category) (start now : List Entry) (given : Given) (kept : List Entry) (sources : List Source) (feeds : List Feeding) (objects : List S) → AreFed tells left paths start now sources feeds objects → AreFullOrOver given kept sources feeds → all_over feeds ≡ false → (source : Source) × Contains sources source × IsFull given kept source
-one_full tells left paths start now given kept [] [] objects fed full over = absurd (cc)
-one_full tells left paths start now given kept [] (feed ∷ feeds) objects fed full over = absurd fed
-one_full tells left paths start now given kept (source ∷ sources) [] objects fed full over = absurd fed
-one_full tells left paths start now given kept (source ∷ sources) (feed ∷ feeds) [] fed full over = absurd fed
-one_full tells left paths start now given kept (source ∷ sources) (feed ∷ feeds) (object ∷ objects) fed full over =
-    by_end (is_at_end feed.reader) refl (one_full tells left paths start now given kept sources feeds objects fed.1 full.1)
+-- one of these sources gave a full step behind this list, and so many full ones in all
+abbrev pub HasFull : List Category → (records steps : ℕ) → List Entry → Given → List Entry → List Source → Type 0
+HasFull paths records steps start given kept sources =
+    (source : Source) × Contains sources source × IsFull given kept source × (1 ≤ records → HadFullSteps paths records steps start source)
+
+-- where one isn't, its source gave a full step, now and in each step before
+pub one_full : {S : Type 0} (tells : Type 0) (left : S → List ℕ) (paths : List Category) (records steps : ℕ) (start now : List Entry) (given : Given) (kept : List Entry) (sources : List Source) (feeds : List Feeding) (objects : List S) → tells → AreFed tells left paths start now sources feeds objects → HaveSteps tells left records steps start sources feeds objects → AreFullOrOver given kept sources feeds → all_over feeds ≡ false → HasFull paths records steps start given kept sources
+one_full tells left paths records steps start now given kept [] [] objects told fed have full over = absurd (cc)
+one_full tells left paths records steps start now given kept [] (feed ∷ feeds) objects told fed have full over = absurd fed
+one_full tells left paths records steps start now given kept (source ∷ sources) [] objects told fed have full over = absurd fed
+one_full tells left paths records steps start now given kept (source ∷ sources) (feed ∷ feeds) [] told fed have full over = absurd fed
+one_full tells left paths records steps start now given kept (source ∷ sources) (feed ∷ feeds) (object ∷ objects) told fed have full over =
+    by_end (is_at_end feed.reader) refl (one_full tells left paths records steps start now given kept sources feeds objects told fed.1 have.1 full.1)
   where
-    by_end : (b : Bool) → is_at_end feed.reader ≡ b → (all_over feeds ≡ false → (s : Source) × Contains sources s × IsFull given kept s) → (s : Source) × Contains (source ∷ sources) s × IsFull given kept s
-    by_end false e further = (source, here source sources, full.0 e)
+    by_end : (b : Bool) → is_at_end feed.reader ≡ b → (all_over feeds ≡ false → HasFull paths records steps start given kept sources) → HasFull paths records steps start given kept (source ∷ sources)
+    by_end false e further =
+        (source, here source sources, full.0 e, had_steps tells left paths records steps start now source feed object told fed.0 have.0 e)
     by_end true e further =
-        let (found, among, is) = further (sym (ap (λ (b : Bool). b && all_over feeds) e) ∙ over) in
-        (found, later source sources found among, is)
+        let (found, among, is, had) = further (sym (ap (λ (b : Bool). b && all_over feeds) e) ∙ over) in
+        (found, later source sources found among, is, had)
 
 -- the feed of a source by the bytes that are left of it
 fed_by_bytes : {S : Type 0} (tells : Type 0) (left : S → List ℕ) (paths : List Category) (start now : List Entry) (source : Source) (feed : Feeding) (object : S) → IsFed tells left paths start now source feed object → IsFed tells (λ (bytes : List ℕ). bytes) paths start now source feed (left object)
@@ -73,17 +80,17 @@ fed_by_all tells left paths start now (source ∷ sources) (feed ∷ feeds) [] f
 fed_by_all tells left paths start now (source ∷ sources) (feed ∷ feeds) (object ∷ objects) fed =
     (fed_by_bytes tells left paths start now source feed object fed.0, fed_by_all tells left paths start now sources feeds objects fed.1)
 
--- where one isn't at its end, and each such one gave a full step in its turn, there is one that did
-pub one_full_step : {S : Type 0} (tells : Type 0) (left : S → List ℕ) (paths : List Category) (start now : List Entry) (given : Given) (kept : List Entry) (sources : List Source) (feeds : List Feeding) (objects : List S) (entries : List Entry) → AreFed tells left paths start now sources feeds objects → AreFullSteps given kept sources feeds entries → all_over feeds ≡ false → HasFullStep (IsUnended tells paths start now) given kept sources entries
-one_full_step tells left paths start now given kept [] [] objects entries fed full over = absurd (cc)
-one_full_step tells left paths start now given kept [] (feed ∷ feeds) objects entries fed full over = absurd fed
-one_full_step tells left paths start now given kept (source ∷ sources) [] objects entries fed full over = absurd fed
-one_full_step tells left paths start now given kept (source ∷ sources) (feed ∷ feeds) [] entries fed full over = absurd fed
-one_full_step tells left paths start now given kept (source ∷ sources) (feed ∷ feeds) (object ∷ objects) entries fed (own, others, (step, full, behind, are)) over =
-    (own, others, (step, are, by_end (is_at_end feed.reader) refl (one_full_step tells left paths start now given (kept ++ own) sources feeds objects others fed.1 behind)))
+-- where one isn't at its end, and each such one gave a full step in its turn, there is one that did, now and in each step before
+pub one_full_step : {S : Type 0} (tells : Type 0) (left : S → List ℕ) (paths : List Category) (records steps : ℕ) (start now : List Entry) (given : Given) (kept : List Entry) (sources : List Source) (feeds : List Feeding) (objects : List S) (entries : List Entry) → tells → AreFed tells left paths start now sources feeds objects → HaveSteps tells left records steps start sources feeds objects → AreFullSteps given kept sources feeds entries → all_over feeds ≡ false → HasFullStep (IsUnended tells paths records steps start now) given kept sources entries
+one_full_step tells left paths records steps start now given kept [] [] objects entries told fed have full over = absurd (cc)
+one_full_step tells left paths records steps start now given kept [] (feed ∷ feeds) objects entries told fed have full over = absurd fed
+one_full_step tells left paths records steps start now given kept (source ∷ sources) [] objects entries told fed have full over = absurd fed
+one_full_step tells left paths records steps start now given kept (source ∷ sources) (feed ∷ feeds) [] entries told fed have full over = absurd fed
+one_full_step tells left paths records steps start now given kept (source ∷ sources) (feed ∷ feeds) (object ∷ objects) entries told fed have (own, others, (step, full, behind, are)) over =
+    (own, others, (step, are, by_end (is_at_end feed.reader) refl (one_full_step tells left paths records steps start now given (kept ++ own) sources feeds objects others told fed.1 have.1 behind)))
   where
-    by_end : (b : Bool) → is_at_end feed.reader ≡ b → (all_over feeds ≡ false → HasFullStep (IsUnended tells paths start now) given (kept ++ own) sources others)
-        → (IsUnended tells paths start now source × IsFullStep given kept source own step) ⊎ HasFullStep (IsUnended tells paths start now) given (kept ++ own) sources others
+    by_end : (b : Bool) → is_at_end feed.reader ≡ b → (all_over feeds ≡ false → HasFullStep (IsUnended tells paths records steps start now) given (kept ++ own) sources others)
+        → (IsUnended tells paths records steps start now source × IsFullStep given kept source own step) ⊎ HasFullStep (IsUnended tells paths records steps start now) given (kept ++ own) sources others
     by_end false e further =
-        inl (record { feed = feed; rest = left object; fed = fed_by_bytes tells left paths start now source feed object fed.0; unended = e }, full e)
+        inl (record { feed = feed; rest = left object; fed = fed_by_bytes tells left paths start now source feed object fed.0; unended = e; full = had_steps tells left paths records steps start now source feed object told fed.0 have.0 e }, full e)
     by_end true e further = inr (further (sym (ap (λ (b : Bool). b && all_over feeds) e) ∙ over))

@@ -9,6 +9,7 @@ pub mod Dues
 pub mod Endings
 pub mod Feeds
 pub mod Filled
+pub mod Full
 pub mod Grown
 pub mod Looping
 pub mod Noted
@@ -16,8 +17,11 @@ pub mod Nothing
 pub mod OpenedSession
 pub mod Overrun
 pub mod Passed
+pub mod Pieces
+pub mod Places
 pub mod Ran
 pub mod Sessions
+pub mod Skips
 pub mod Spent
 pub mod Stepped
 pub mod Stopped

@@ -1,20 +1,25 @@
 -- The turns of the loop over ticks.
-use Rattle.std.proofs.Common.{◌≡◌, ℕ, ◌+◌, Bool, List, [], ◌∷◌, ◌++◌, length, refl, sym, ap, ◌∙◌, subst, arith, append_assoc, length-append, inl, inr, map}
-use Rattle.std.specs.Prelude.{bytes_eq, take}
+use Rattle.std.proofs.Common.{◌≡◌, ℕ, suc, ◌+◌, Bool, Option, List, [], ◌∷◌, ◌++◌, length, refl, sym, ap, ◌∙◌, subst, arith, append_assoc, length-append, inl, inr, map}
+use Rattle.std.specs.Prelude.{bytes_eq, option_map, take}
+use Rattle.std.specs.List.{cons_option}
+use Rattle.std.proofs.Math.Numerals.{suc-eq-add-one}
 use Rattle.std.proofs.lemmas.List.{append-nil}
 use Rattle.osq_config.specs.declared.config.Config.{Config}
 use Rattle.config_files.specs.Configurations.{IsConfigOf}
 use Rattle.source_feeds.specs.Feeding.{Feeding}
 use Rattle.pack_rules.specs.declared.schedule.Form.TheVariants as form
 use Rattle.entry_model.specs.declared.entry.Entry.{Entry}
-use Rattle.entry_model.specs.declared.entry.Entry.TheVariants.{Opened}
+use Rattle.entry_model.specs.declared.entry.Entry.TheVariants.{Opened, Ticked}
+use Rattle.entry_model.specs.Legal.{Legal}
+use Rattle.session_model.specs.Configuring.{found_behind}
 use Rattle.entry_model.specs.declared.restored.Restored.{Restored}
 use Rattle.entry_model.specs.Fits.{IsDistinct}
 use Rattle.entry_model.specs.Summary.{summary}
-use Rattle.session_state.specs.Kept.{Kept}
+use Rattle.session_state.specs.Kept.{IsState, Kept}
+use Rattle.daemon_rounds.specs.Configuring.{found_now}
 use Rattle.daemon_rounds.specs.Keeping.{GoesOn}
 use Rattle.daemon_rounds.specs.Moments.{IsRead}
-use Rattle.daemon_rounds.specs.Opening.{opening_entries}
+use Rattle.daemon_rounds.specs.Opening.{IsFoundBy, opening_entries}
 use Rattle.daemon_rounds.specs.Rounding.{AreGoing}
 use Rattle.daemon_rounds.specs.Session.{IsOpen}
 use Rattle.daemon_rounds.specs.Starting.{source_names}
@@ -25,7 +30,7 @@ use Rattle.daemon_rounds.proofs.Laters.{AreLater, later_then, round_later, start
 use Rattle.daemon_rounds.proofs.Opened.{opened_goes_on}
 use Rattle.daemon_rounds.specs.declared.turning.Which.TheVariants as which
 use Rattle.replay_rounds.specs.Fixed.{Fixed, fixed_of}
-use Rattle.replay_rounds.specs.Noting.{AreCounted, configurations}
+use Rattle.replay_rounds.specs.Noting.{ArePlacesBut, Place, configurations, places_of}
 use Rattle.replay_rounds.specs.OneTick.{HasOneTick, IsOneTick}
 use Rattle.replay_rounds.specs.Running.{IsKept, IsWritten, ReadsAll}
 use Rattle.replay_rounds.specs.Refusals.{numbers_of}
@@ -34,10 +39,12 @@ use Rattle.replay_rounds.specs.Standing.{Standing}
 use Rattle.replay_rounds.specs.Stopping.{AreNumbersOf, AreSealed, HasNumbers}
 use Rattle.replay_rounds.specs.Ticked.{IsPartlyTold, IsSealedTick, IsTick, IsWholeTick, TakesTick, TickDone}
 use Rattle.replay_rounds.specs.declared.refused.Numbers.{Numbers}
-use Rattle.replay_rounds.proofs.Counted.{configurations-append, count_of, counted_before, counted_behind, more_by, more_is, not_at_once, own_counted, tick_counted}
+use Rattle.replay_rounds.proofs.Counted.{configurations-append, count_of, not_at_once, tick_counted}
 use Rattle.replay_rounds.proofs.Endings.{fed_by_all}
+use Rattle.replay_rounds.proofs.Full.{HaveSteps, steps_begun, steps_more}
 use Rattle.replay_rounds.proofs.OpenedSession.{OpensSession, opened_session}
-use Rattle.replay_rounds.proofs.Ran.{HasRest, IsAdded, IsRunning, added_on, all_is_kept, all_kept, all_written, first_added, first_ran, from_opened, grows, no_tick, none_kept, none_written, numbers_are, partly_written, ran_on, reads_more, still_kept, tail_own, tick_alone, told_on}
+use Rattle.replay_rounds.proofs.Places.{again_places, found_ticked, places-append, places_none, places_sealed, places_unsealed, tick_place, tick_places}
+use Rattle.replay_rounds.proofs.Ran.{HasRest, IsAdded, IsRunning, added_on, all_is_kept, all_kept, all_written, first_added, first_ran, from_opened, grows, no_tick, none_kept, none_written, numbers_are, partly_written, ran_on, reads_more, still_kept, tail_own, tick_alone, told_on, values}
 use Rattle.replay_rounds.proofs.Ticked.{takes_tick}
 
 -- the counts of the sources' faults never fell in a tick
@@ -54,10 +61,17 @@ module _ {S C : Type 0} (keeper_tells sink_tells tells : Type 0) (left : S → L
     pub running : IsRunning left x reads clock now kept written feeds objects last s
     pub count : length (running.added.reading ∷ running.added.readings) ≡ rounds
     pub later : AreLater faults sources objects
+    pub have : keeper_tells → HaveSteps tells left setup.records rounds start x.given.sources feeds objects
 
   takes : (added kept : List Entry) (feeds nexts : List Feeding) (objects rests : List S) (configured_at last moment : ℕ) (old settled : Kept) → Standing left x added kept feeds objects configured_at old → AreGoing old.counts.taken feeds → TickDone tells left faults setup config documents configured_at moment feeds nexts objects rests old settled → last ≡ configured_last (asks_again config configured_at moment) configured_at moment → TakesTick left x added kept nexts rests last moment old settled
   takes added kept feeds nexts objects rests configured_at last moment old settled standing going done last_is =
       takes_tick left faults x setup config documents added kept feeds nexts objects rests configured_at last moment old settled refl refl refl refl standing going.distinct done last_is
+
+  -- each source that isn't at its end gave one more full step in a tick
+  pub more_steps : (steps : ℕ) (added kept : List Entry) (feeds nexts : List Feeding) (objects rests : List S) (configured_at moment : ℕ) (old settled : Kept) → Standing left x added kept feeds objects configured_at old → TickDone tells left faults setup config documents configured_at moment feeds nexts objects rests old settled → keeper_tells → HaveSteps tells left setup.records steps start x.given.sources feeds objects → HaveSteps tells left setup.records (suc steps) start x.given.sources nexts rests
+  more_steps steps added kept feeds nexts objects rests configured_at moment old settled standing done told have =
+      let rounds = done.fills.rounds in
+      steps_more tells left faults config.categories setup.records steps start (start ++ added) x.given.sources feeds nexts objects rests rounds.turns rounds.whole rounds.each (standing.fed told) have
 
   -- when a session was configured last, behind a tick
   abbrev last_in : ℕ → ℕ → ℕ
@@ -95,6 +109,7 @@ module _ {S C : Type 0} (keeper_tells sink_tells tells : Type 0) (left : S → L
           running = first_ran left x reads clock now kept next nexts rests last opened_at old tick.settled new opening t tick.taken tick.kept o.reading notes o.read configuration o.opens (λ tells legal. o.at) written (λ tells. let (lines, told, is) = tick.told tells in (lines, first_told last tick.settled t lines told, is));
           count = refl;
           later = later_then faults sources objects rests later (tick_later tells left faults setup config documents opened_at opened_at feeds nexts objects rests old tick.settled tick.done);
+          have = λ told. more_steps 0 opening kept feeds nexts objects rests opened_at opened_at old tick.settled o.standing tick.done told (steps_begun tells left config.categories setup.records start (start ++ opening) x.given.sources feeds objects (o.standing.fed told));
         }
 
     -- the session is configured once, when it opens
@@ -105,21 +120,42 @@ module _ {S C : Type 0} (keeper_tells sink_tells tells : Type 0) (left : S → L
         let once : configurations old.tail ≡ 1 = ap (λ (es : List Entry). configurations es) o.tail ∙ o.once in
         omega (arith, all, none, once)
 
-    pub counted_first : (last : ℕ) (new : Kept) (tick : IsTick keeper_tells sink_tells tells left faults setup config documents opened_at last opened_at kept next before written feeds nexts objects rests old new) (later : AreLater faults sources objects) → configurations (looped_first last new tick later).running.added.entries ≡ 1
+    -- where that is
+    abbrev pub place : Place
+    place = record { list = start ++ (Opened o.number ∷ o.tables); moment = opened_at }
+
+    opening_places : places_of start opening ≡ place ∷ []
+    opening_places =
+        ap (λ (rest : List Entry). places_of start (Opened o.number ∷ rest)) o.rest_is ∙ places-append start (Opened o.number ∷ o.tables) (o.configured ∷ [])
+        ∙ ap (λ (places : List Place). places ++ places_of (start ++ (Opened o.number ∷ o.tables)) (o.configured ∷ [])) (places_none start (Opened o.number ∷ o.tables) o.none)
+        ∙ ap (λ (at : Option ℕ). cons_option (option_map (λ (moment : ℕ). record { list = start ++ (Opened o.number ∷ o.tables); moment = moment }) at) []) o.configures
+
+    -- what its notes say is found, discovery finds there
+    pub found_first : (restored : Restored) (found : List Bool) → (keeper_tells → restored ≡ summary start) → IsFoundBy restored config opened_at old found → keeper_tells → Legal start → found ≡ found_behind x.given place.list place.moment
+    found_first restored found same by told legal =
+        by.of_list start (Opened o.number ∷ o.tables) o.configured legal (sym (same told)) (o.tail ∙ ap (λ (rest : List Entry). Opened o.number ∷ rest) o.rest_is)
+
+    -- and nowhere else in the first tick
+    first_places : (own : List Entry) (settled : Kept) → settled.tail ≡ opening ++ own → TickDone tells left faults setup config documents opened_at opened_at feeds nexts objects rests old settled → places_of start (opening ++ own) ≡ place ∷ []
+    first_places own settled tail done =
+        let all = none_first settled done in
+        let parts : configurations settled.tail ≡ configurations opening + configurations own = ap (λ (es : List Entry). configurations es) tail ∙ configurations-append opening own in
+        let once = o.once in
+        places-append start opening own ∙ ap (λ (places : List Place). places_of start opening ++ places) (places_none (start ++ opening) own (omega (arith, all, parts, once))) ∙ append-nil (places_of start opening) ∙ opening_places
+
+    pub counted_first : (last : ℕ) (new : Kept) (tick : IsTick keeper_tells sink_tells tells left faults setup config documents opened_at last opened_at kept next before written feeds nexts objects rests old new) (later : AreLater faults sources objects) → places_of start (looped_first last new tick later).running.added.entries ≡ place ∷ []
     unfolding looped_first first_ran first_added
     counted_first last new tick later =
-        ap (λ (es : List Entry). configurations es) (sym (own_tail last tick.settled (first_takes last tick.settled tick.done tick.last_is))) ∙ none_first tick.settled tick.done
+        let t = first_takes last tick.settled tick.done tick.last_is in
+        first_places t.own tick.settled (own_tail last tick.settled t) tick.done
 
     -- where the tick isn't done
-    pub counted_in_first : IsWholeTick tells left faults setup config documents opened_at opened_at kept next feeds nexts objects rests old → keeper_tells → AreCounted start next 1
-    counted_in_first (inl same) told =
-        let is : configurations next ≡ configurations start = ap (λ (es : List Entry). configurations es) (same ∙ kept_is told) in
-        inr (ap (λ n. n + 1) is)
+    pub counted_in_first : IsWholeTick tells left faults setup config documents opened_at opened_at kept next feeds nexts objects rests old → keeper_tells → ArePlacesBut start next (place ∷ [])
+    counted_in_first (inl same) told = ([], opening, same ∙ kept_is told ∙ sym (append-nil start), (let once = o.once in omega (arith, once)), sym opening_places)
     counted_in_first (inr (settled, done, grown)) told =
-        let parts : configurations next ≡ configurations kept + configurations settled.tail = ap (λ (es : List Entry). configurations es) grown ∙ configurations-append kept settled.tail in
-        let was : configurations kept ≡ configurations start = ap (λ (es : List Entry). configurations es) (kept_is told) in
-        let once = none_first settled done in
-        inl (omega (arith, parts, was, once))
+        let t = first_takes (last_in opened_at opened_at) settled done refl in
+        let tail = own_tail (last_in opened_at opened_at) settled t in
+        (opening ++ t.own, [], grown ∙ ap (λ (list : List Entry). list ++ settled.tail) (kept_is told) ∙ ap (λ (es : List Entry). start ++ es) tail, omega arith, sym (ap (places_of start) (append-nil (opening ++ t.own)) ∙ first_places t.own settled tail done))
 
     -- what is kept where it isn't done
     pub kept_first : IsWholeTick tells left faults setup config documents opened_at opened_at kept next feeds nexts objects rests old → keeper_tells → IsKept x (λ readings. ReadsAll reads clock readings now) next
@@ -158,7 +194,7 @@ module _ {S C : Type 0} (keeper_tells sink_tells tells : Type 0) (left : S → L
     }
 
     -- what is kept where nothing of it was written
-    rest_first : IsWholeTick tells left faults setup config documents opened_at opened_at kept next feeds nexts objects rests old → keeper_tells → HasRest x next []
+    pub rest_first : IsWholeTick tells left faults setup config documents opened_at opened_at kept next feeds nexts objects rests old → keeper_tells → HasRest x next []
     rest_first (inl same) told = ([], no_tick, same ∙ kept_is told ∙ sym (append-nil start))
     rest_first (inr (settled, done, grown)) told =
         let t = first_takes (last_in opened_at opened_at) settled done refl in
@@ -172,10 +208,10 @@ module _ {S C : Type 0} (keeper_tells sink_tells tells : Type 0) (left : S → L
   still_written now rounds kept written feeds objects last s l told =
       all_written x kept l.running.added.entries written (λ tells. ([], no_tick, all_kept left x l.running.added.entries kept feeds objects last s l.running.added.standing l.running.added.empty tells ∙ ap (λ (es : List Entry). start ++ es) (sym (append-nil l.running.added.entries)))) (l.running.told told)
 
-  -- how often the session was configured
-  pub counted_now : (now : C) (rounds : ℕ) (kept : List Entry) (written : List ℕ) (feeds : List Feeding) (objects : List S) (last : ℕ) (s : Kept) (l : IsLooping now rounds kept written feeds objects last s) → keeper_tells → configurations kept ≡ configurations start + configurations l.running.added.entries
+  -- where the session was configured
+  pub counted_now : (now : C) (rounds : ℕ) (kept : List Entry) (written : List ℕ) (feeds : List Feeding) (objects : List S) (last : ℕ) (s : Kept) (l : IsLooping now rounds kept written feeds objects last s) → keeper_tells → kept ≡ start ++ l.running.added.entries
   counted_now now rounds kept written feeds objects last s l told =
-      ap (λ (es : List Entry). configurations es) (all_kept left x l.running.added.entries kept feeds objects last s l.running.added.standing l.running.added.empty told) ∙ configurations-append start l.running.added.entries
+      all_kept left x l.running.added.entries kept feeds objects last s l.running.added.standing l.running.added.empty told
 
   -- its feeds, told by the bytes that their sources have left
   pub fed_now : (now : C) (rounds : ℕ) (kept : List Entry) (written : List ℕ) (feeds : List Feeding) (objects : List S) (last : ℕ) (s : Kept) (l : IsLooping now rounds kept written feeds objects last s) → keeper_tells
@@ -204,6 +240,7 @@ module _ {S C : Type 0} (keeper_tells sink_tells tells : Type 0) (left : S → L
           running = ran_on left x reads clock between now kept next feeds nexts objects rests configured_at last moment read.reading old tick.settled new r t tick.taken tick.kept read.reads_it read.is between_written written l.running.told tick.told;
           count = counted r.reading read.reading r.readings ∙ ap (λ n. n + 1) l.count;
           later = later_then faults sources objects rests l.later (tick_later tells left faults setup config documents configured_at moment feeds nexts objects rests old tick.settled tick.done);
+          have = λ told. subst (λ (steps : ℕ). HaveSteps tells left setup.records steps start x.given.sources nexts rests) (suc-eq-add-one rounds) (more_steps rounds r.entries kept feeds nexts objects rests configured_at moment old tick.settled r.standing tick.done told (l.have told));
         }
 
     pub kept_on : IsWholeTick tells left faults setup config documents configured_at moment kept next feeds nexts objects rests old → keeper_tells → IsKept x (λ readings. ReadsAll reads clock readings now) next
@@ -219,33 +256,25 @@ module _ {S C : Type 0} (keeper_tells sink_tells tells : Type 0) (left : S → L
     abbrev again : Bool
     again = asks_again config configured_at moment
 
-    -- the session is configured again where that is due
-    own_on : (settled : Kept) → TickDone tells left faults setup config documents configured_at moment feeds nexts objects rests old settled → configurations settled.tail ≡ count_of again
-    own_on settled done =
-        let all = tick_counted tells left faults setup config documents configured_at moment feeds nexts objects rests old settled done in
-        let empty : configurations old.tail ≡ 0 = ap (λ (es : List Entry). configurations es) r.empty in
-        omega (arith, all, empty)
-
-    pub counted_on : (written : List ℕ) (last : ℕ) (new : Kept) (tick : IsTick keeper_tells sink_tells tells left faults setup config documents configured_at last moment kept next between_written written feeds nexts objects rests old new) → configurations (looped_on written last new tick).running.added.entries ≡ more_by again (configurations r.entries)
+    pub counted_on : (written : List ℕ) (last : ℕ) (new : Kept) (tick : IsTick keeper_tells sink_tells tells left faults setup config documents configured_at last moment kept next between_written written feeds nexts objects rests old new) → places_of start (looped_on written last new tick).running.added.entries ≡ places_of start r.entries ++ again_places again (tick_place (start ++ r.entries) moment)
     unfolding looped_on ran_on added_on
     counted_on written last new tick =
         let t = next_takes last tick.settled tick.done tick.last_is in
-        let parts = configurations-append r.entries t.own in
-        let own = own_counted old tick.settled t.own (count_of again) t.tail (tick_counted tells left faults setup config documents configured_at moment feeds nexts objects rests old tick.settled tick.done) in
-        let more = more_is again (configurations r.entries) in
-        omega (arith, parts, own, more)
-
-    was_counted : keeper_tells → configurations kept ≡ configurations start + configurations r.entries
-    was_counted told = ap (λ (es : List Entry). configurations es) (list_is told) ∙ configurations-append start r.entries
+        let own = tail_own left x reads clock between now kept next feeds nexts objects rests configured_at last moment read.reading old tick.settled new r t in
+        places-append start r.entries t.own ∙ ap (λ (places : List Place). places_of start r.entries ++ places) (ap (places_of (start ++ r.entries)) (sym own) ∙ tick_places tells left faults setup config documents configured_at moment feeds nexts objects rests old tick.settled tick.done (start ++ r.entries) r.empty)
 
     -- where the tick isn't done
-    pub counted_in : IsWholeTick tells left faults setup config documents configured_at moment kept next feeds nexts objects rests old → keeper_tells → AreCounted start next (more_by again (configurations r.entries))
-    counted_in (inl same) told = counted_before start kept next (configurations r.entries) (was_counted told) again same
+    pub counted_in : IsWholeTick tells left faults setup config documents configured_at moment kept next feeds nexts objects rests old → keeper_tells → ArePlacesBut start next (places_of start r.entries ++ again_places again (tick_place (start ++ r.entries) moment))
+    counted_in (inl same) told = places_unsealed start kept next r.entries again moment (list_is told) same
     counted_in (inr (settled, done, grown)) told =
-        counted_behind start kept next (configurations r.entries) (was_counted told) again settled.tail (own_on settled done) grown
+        places_sealed start kept next r.entries settled.tail (again_places again (tick_place (start ++ r.entries) moment)) (list_is told) grown (tick_places tells left faults setup config documents configured_at moment feeds nexts objects rests old settled done (start ++ r.entries) r.empty)
+
+    -- what its notes say is found, discovery finds in it
+    pub found_on : IsState old → keeper_tells → Legal start → found_now config old moment ≡ found_behind x.given ((start ++ r.entries) ++ Ticked moment ∷ []) moment
+    found_on is told legal = found_ticked x.given (start ++ r.entries) old moment is (values left x r.entries kept feeds objects configured_at old r.standing told legal)
 
     -- the list where a tick isn't done begins with what was told
-    more_kept : IsWholeTick tells left faults setup config documents configured_at moment kept next feeds nexts objects rests old → keeper_tells → HasRest x next r.entries
+    pub more_kept : IsWholeTick tells left faults setup config documents configured_at moment kept next feeds nexts objects rests old → keeper_tells → HasRest x next r.entries
     more_kept (inl same) told =
         ([], no_tick, same ∙ list_is told ∙ ap (λ (es : List Entry). start ++ es) (sym (append-nil r.entries)))
     more_kept (inr (settled, done, grown)) told =

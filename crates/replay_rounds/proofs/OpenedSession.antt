@@ -1,5 +1,5 @@
 -- A session that opened by the state opened by the list.
-use Rattle.std.proofs.Common.{◌≡◌, ℕ, ◌+◌, List, [], ◌∷◌, ◌++◌, refl, sym, ap, ◌∙◌, subst, append_assoc, arith}
+use Rattle.std.proofs.Common.{◌≡◌, ℕ, ◌+◌, List, [], ◌∷◌, ◌++◌, Some, refl, sym, ap, ◌∙◌, subst, append_assoc, arith}
 use Rattle.std.specs.Prelude.{All, bytes_eq, filter, max, false}
 use Rattle.std.proofs.lemmas.List.{append-nil}
 use Rattle.std.proofs.lemmas.List.Elements.{All-append, All-cons, All-nil}
@@ -58,6 +58,11 @@ pub record OpensSession {S C : Type 0} (left : S → List ℕ) (x : Fixed) (read
   pub tail : s.tail ≡ Opened number ∷ rest
   pub silent : All NoBatch (Opened number ∷ rest)
   pub once : configurations (Opened number ∷ rest) ≡ 1
+  pub tables : List Entry
+  pub configured : Entry
+  pub rest_is : rest ≡ tables ++ configured ∷ []
+  pub none : configurations (Opened number ∷ tables) ≡ 0
+  pub configures : configured_in configured ≡ Some moment
   pub ready : AreGoing s.counts.taken feeds → IsReady feeds moment s
 
 module _ {S : Type 0} (left : S → List ℕ) (faults : S → ℕ) (x : Fixed) (setup : Setup) (restored : Restored) (kept : List Entry) (started feeds : List Feeding) (objects between rests : List S) (moment : ℕ) (state : Kept) (same : x.keeper_tells → restored ≡ summary x.start) (distinct : IsDistinct bytes_eq (source_names setup.sources)) (sources_are : x.given.sources ≡ sources_of left setup.sources objects)
@@ -189,6 +194,11 @@ module _ {S : Type 0} (left : S → List ℕ) (faults : S → ℕ) (x : Fixed) (
     tail = opens.opened.tail;
     silent = silent;
     once = once;
+    tables = tables;
+    configured = configured;
+    rest_is = refl;
+    none = round_none restored.moment opens.tables.turns;
+    configures = refl;
     ready = ready;
   }
 

@@ -50,7 +50,7 @@ takes_as bytes most pieces to {old} {new} {were} {paths} {before} {from} kinds s
 
 -- a source behind the list `now`, whose feed took a step
 module _ {S : Type 0} (tells : Type 0) (left : S → List ℕ) (paths : List Category) (start now : List Entry) (source : Source) (feed next : Feeding) (object rest : S) (most : ℕ) (readings : List Reading) (is : IsFed tells left paths start now source feed object) (gave : Gave tells (left object) (left rest) feed next most readings) where
-  step : IsStep tells source.bytes (left rest) feed next (taken_from start source.name) is.pieces most readings
+  step : IsStep tells source.bytes (left object) (left rest) feed next (taken_from start source.name) is.pieces most readings
   step = gave.steps source.bytes (taken_from start source.name) is.pieces is.fed
 
   -- the step goes up to where the list with its entries has the source
@@ -106,7 +106,7 @@ unfolding step_taken step_told step_given
 full_step tells left start now given source feed next object rest readings is gave moment told at =
     (step_taken tells left start now given source feed next object rest readings is gave moment told at, λ open_still. by_size (of_feed.still told open_still))
   where
-    of_feed : IsStep tells source.bytes (left rest) feed next (taken_from start source.name) is.pieces given.records readings
+    of_feed : IsStep tells source.bytes (left object) (left rest) feed next (taken_from start source.name) is.pieces given.records readings
     of_feed = step tells left given.config.categories start now source feed next object rest given.records readings is gave
 
     by_size : (length of_feed.pieces ≡ given.records) ⊎ (STEP_BYTES ≤ length (drop feed.reader.taken source.bytes)) → (STEP_BYTES ≤ length (drop (taken_from now source.name) source.bytes)) ⊎ (length of_feed.pieces ≡ given.records)

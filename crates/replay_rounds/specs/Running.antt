@@ -56,14 +56,15 @@ pub record IsWritten (x : Fixed) (kept : List Entry) (written : List ℕ) : Type
   pub count : ℕ
   pub written_is : written ≡ (x.written ++ lines) ++ take count more
 
--- The list ends with a tick, its last, in which some source that isn't at its end gave a full step behind the list up to its own place.
-pub record HasMore (x : Fixed) (kept : List Entry) : Type 0 where
+-- The list ends with a tick, its last, in which some source that isn't at its end gave a full step behind the list up to its own place, as it did in
+-- each of these ticks.
+pub record HasMore (x : Fixed) (ticks : ℕ) (kept : List Entry) : Type 0 where
   pub before : List Entry
   pub moment : ℕ
   pub last : List Entry
   pub are : kept ≡ before ++ last
   pub tick : Ticks x.source_tells x.given before moment last
-  pub full : HasFullStep (IsUnended x.source_tells x.given.config.categories x.start kept) x.given (before ++ (Ticked moment ∷ tick.configured)) x.given.sources tick.taken
+  pub full : HasFullStep (IsUnended x.source_tells x.given.config.categories x.given.records ticks x.start kept) x.given (before ++ (Ticked moment ∷ tick.configured)) x.given.sources tick.taken
 
 -- All ticks were run: the list has grown by a session of as many, and the results by its lines; nothing is due, and nothing is to expire. Each
 -- source had the bytes that earlier sessions took of it, and either every source was read to behind its last line feed, or one of them had more in the last tick.
@@ -82,4 +83,4 @@ pub record HasRun (x : Fixed) (has_read : List ℕ → Type 0) (ticks : ℕ) (ke
   pub acknowledged : x.keeper_tells → Legal x.start → ended.numbers.acknowledged ≡ acked_upto kept
   pub present : x.keeper_tells → x.source_tells → All (λ (source : Source). taken_from x.start source.name ≤ length source.bytes) x.given.sources
   pub whole : x.keeper_tells → x.source_tells → Legal x.start → ended.is_end ≡ true → All (IsReadWhole x.start kept) x.given.sources
-  pub more : x.keeper_tells → x.source_tells → Legal x.start → ended.is_end ≡ false → HasMore x kept
+  pub more : x.keeper_tells → x.source_tells → Legal x.start → ended.is_end ≡ false → HasMore x ticks kept

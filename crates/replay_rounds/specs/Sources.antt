@@ -1,12 +1,12 @@
 -- The sources of a session between its steps.
-use Rattle.std.specs.Prelude.{◌≡◌, ◌⊎◌, ℕ, ◌≤◌, Bool, true, false, List, [], ◌∷◌, ◌++◌, length, drop}
+use Rattle.std.specs.Prelude.{◌≡◌, ◌⊎◌, ℕ, ◌+◌, ◌*◌, ◌≤◌, Bool, true, false, List, [], ◌∷◌, ◌++◌, length, drop}
 use Rattle.std.specs.List.{list_all}
 use Rattle.osq_value.specs.declared.reading.Category.{Category}
 use Rattle.publisher_core.specs.declared.record.ReadRecord.{ReadRecord}
 use Rattle.publisher_core.specs.Standing.{is_at_end}
 use Rattle.publisher_core.specs.Stepping.{STEP_BYTES}
 use Rattle.source_feeds.specs.Feeding.{Fed, Feeding}
-use Rattle.source_feeds.specs.Taking.{IsBehindLastFeed}
+use Rattle.source_feeds.specs.Taking.{IsBehindLastFeed, ReadsTo}
 use Rattle.entry_model.specs.declared.entry.Entry.{Entry}
 use Rattle.entry_model.specs.Values.{taken_from}
 use Rattle.session_model.specs.Given.{Given, Source}
@@ -32,12 +32,26 @@ AreFed tells left paths start now (source ∷ sources) (feed ∷ feeds) (object 
     IsFed tells left paths start now source feed object × AreFed tells left paths start now sources feeds objects
 AreFed tells left paths start now _ _ _ = ⊥
 
--- A feed that reads the source so, and has the list up to where it has the source, isn't at the source's end.
-pub record IsUnended (tells : Type 0) (paths : List Category) (start now : List Entry) (source : Source) : Type 0 where
+-- So many steps of a source behind what this list has of it were full: each gave as many records as a step may, and these are records of lines that
+-- stand there; or 16777216 bytes were read in it, which stand there too.
+pub record HadFullSteps (paths : List Category) (records steps : ℕ) (start : List Entry) (source : Source) : Type 0 where
+  pub by_records : ℕ
+  pub by_bytes : ℕ
+  pub all : steps ≡ by_records + by_bytes
+  pub pieces : List ReadRecord
+  pub to : ℕ
+  pub read : ReadsTo source.kind paths (taken_from start source.name) (drop (taken_from start source.name) source.bytes) pieces to
+  pub given : by_records * records ≤ length pieces
+  pub took : by_bytes * STEP_BYTES ≤ length (drop (taken_from start source.name) source.bytes)
+
+-- A feed that reads the source so, and has the list up to where it has the source, isn't at the source's end. So each of the steps that it took in the
+-- session's ticks was full, of which there were so many.
+pub record IsUnended (tells : Type 0) (paths : List Category) (records steps : ℕ) (start now : List Entry) (source : Source) : Type 0 where
   pub feed : Feeding
   pub rest : List ℕ
   pub fed : IsFed tells (λ (bytes : List ℕ). bytes) paths start now source feed rest
   pub unended : is_at_end feed.reader ≡ false
+  pub full : 1 ≤ records → HadFullSteps paths records steps start source
 
 -- each feed is at its source's end
 abbrev pub all_over : List Feeding → Bool

@@ -1,18 +1,20 @@
 //! What a session tells on the status stream.
 
-ghost use Rattle.std.specs.Prelude.{◌≡◌, ◌≢◌, ◌⊎◌, ◌≤◌, ◌++◌, Err, IfOk, OnOk};
+ghost use Rattle.std.specs.Prelude.{◌≡◌, ◌≢◌, ◌⊎◌, ◌≤◌, ◌++◌, length, Err, IfOk, OnOk};
 ghost use Rattle.osq_value.specs.declared.moment.TheConstants.{LAST_MOMENT};
 ghost use Rattle.osq_outside.specs.Causes.{FaultHasCause, Rose};
-ghost use Rattle.replay_rounds.specs.Noting.{AreNotesOf, HasSkipped, IsGrown, IsNoted, skipped_end, skipped_line, skipped_lines, skipped_of};
+ghost use Rattle.schedule_notes.specs.Notes.{AreNotes};
+ghost use Rattle.daemon_rounds.specs.Configuring.{found_now};
+ghost use Rattle.replay_rounds.specs.Noting.{IsGrown, IsNoted, TellsSkipped, skipped_end, skipped_line, skipped_lines, skipped_of};
 ghost use Rattle.replay_rounds.specs.declared.noting.NoteError.{NoteError};
 
 use crate::refused::Refused;
 use config_files::Configured;
 use control_escapes::push_text;
+use daemon_rounds::discover;
 use daemon_rounds::setup::Setup;
 use osq_outside::{Sink, write_all};
 use osq_value::{Bytes, NoMemory, Str};
-use query_answers::found_packs;
 use schedule_notes::schedule_notes;
 use session_state::State;
 use source_feeds::Feed;
@@ -39,35 +41,46 @@ fn write_lines<O: Sink>(status: &mut O, lines: &Bytes) -> Result<(), NoteError>
     }
 }
 
-/// The lines that tell of a configuration at this moment, where discovery sees the tables of the state. At a session's opening that is the
-/// state behind its first Configured, and later the state before the tick's Ticked: both have the tables that the configuration's own
-/// discovery sees.
-fn notes_at(
+/// The lines that tell of a configuration, of whose packs these are meant for the host.
+fn notes_by(
     alloc: Global,
     setup: &Setup,
     configured: &Configured,
+    found: &[bool],
     state: &State,
-    moment: u64,
 ) -> Result<Bytes, NoMemory>
-    requires { moment ≤ LAST_MOMENT }
-    ensures { IfOk result (AreNotesOf configured.now.config setup.now.host configured.now.notes) }
+    requires { length found.now ≡ length configured.now.config.packs }
+    ensures { IfOk result (AreNotes configured.now.config setup.now.host found.now configured.now.notes) }
 {
     let config = &configured.config;
-    let view = state.tables_view(alloc, moment)?;
-    let found = found_packs(alloc, config, &view)?;
     let left_out = configured.notes.as_slice();
-    schedule_notes(
-        alloc,
-        config,
-        &setup.host,
-        found.as_slice(),
-        state.queries(),
-        left_out,
-    )
+    schedule_notes(alloc, config, &setup.host, found, state.queries(), left_out)
 }
 
-/// Writes the lines that tell of a configuration at this moment.
+/// Writes the lines that tell of a configuration, of whose packs these are meant for the host.
 pub(crate) fn write_notes<O: Sink>(
+    alloc: Global,
+    setup: &Setup,
+    configured: &Configured,
+    found: &[bool],
+    state: &State,
+    status: &mut O,
+) -> Result<(), NoteError>
+    requires { length found.now ≡ length configured.now.config.packs }
+    ensures noted { O.tells → OnOk result (IsNoted configured.now.config setup.now.host found.now configured.now.notes (O.written status.old) (O.written status.new)) }
+    ensures grown { O.tells → IsGrown (O.written status.old) (O.written status.new) }
+    ensures unmade { result ≡ Err NoteError.NoMemory → status.new ≡ status.old }
+    ensures cause { FaultHasCause NoteError.SinkFault (O.faults status.old) (O.faults status.new) result }
+{
+    let Ok(lines) = notes_by(alloc, setup, configured, found, state) else {
+        return Err(NoteError::NoMemory);
+    };
+    write_lines(status, &lines)
+}
+
+/// Writes the lines that tell of the configuration which the tick at this moment begins with, before that tick: its Ticked changes no table that discovery
+/// sees.
+pub(crate) fn note_again<O: Sink>(
     alloc: Global,
     setup: &Setup,
     configured: &Configured,
@@ -76,15 +89,15 @@ pub(crate) fn write_notes<O: Sink>(
     moment: u64,
 ) -> Result<(), NoteError>
     requires { moment ≤ LAST_MOMENT }
-    ensures noted { O.tells → OnOk result (IsNoted configured.now.config setup.now.host configured.now.notes (O.written status.old) (O.written status.new)) }
+    ensures noted { O.tells → OnOk result (IsNoted configured.now.config setup.now.host (found_now configured.now.config state.now moment) configured.now.notes (O.written status.old) (O.written status.new)) }
     ensures grown { O.tells → IsGrown (O.written status.old) (O.written status.new) }
     ensures unmade { result ≡ Err NoteError.NoMemory → status.new ≡ status.old }
     ensures cause { FaultHasCause NoteError.SinkFault (O.faults status.old) (O.faults status.new) result }
 {
-    let Ok(lines) = notes_at(alloc, setup, configured, state, moment) else {
+    let Ok(found) = discover(alloc, state, &configured.config, moment) else {
         return Err(NoteError::NoMemory);
     };
-    write_lines(status, &lines)
+    write_notes(alloc, setup, configured, found.as_slice(), state, status)
 }
 
 /// Adds how many lines were skipped.
@@ -154,7 +167,7 @@ pub(crate) fn told<O: Sink>(
     refused: Refused,
 ) -> Refused
     ensures same { result ≡ refused }
-    ensures skipped { O.tells → HasSkipped (O.written status.old) (O.written status.new) ⊎ Rose (O.faults status.old) (O.faults status.new) }
+    ensures skipped { O.tells → TellsSkipped feeds.now (O.written status.old) (O.written status.new) ⊎ Rose (O.faults status.old) (O.faults status.new) }
     ensures grown { O.tells → IsGrown (O.written status.old) (O.written status.new) }
     ensures later { O.faults status.old ≤ O.faults status.new }
 {

@@ -5,10 +5,11 @@ ghost use Rattle.osq_value.specs.declared.moment.TheConstants.{LAST_MOMENT};
 ghost use Rattle.osq_config.specs.Bounds.{IsBounded};
 ghost use Rattle.osq_outside.specs.Causes.{Rose};
 ghost use Rattle.entry_model.specs.Fits.{Fits, IsDistinct};
+ghost use Rattle.daemon_rounds.specs.Opening.{IsFoundBy};
 ghost use Rattle.daemon_rounds.specs.Rounding.{AreGoing, FailsAt};
 ghost use Rattle.daemon_rounds.specs.Session.{IsOpen, IsOverfull};
 ghost use Rattle.daemon_rounds.specs.Starting.{HasShrunk, source_names};
-ghost use Rattle.replay_rounds.specs.Noting.{HasSkipped, IsGrown, IsNoted};
+ghost use Rattle.replay_rounds.specs.Noting.{IsGrown, IsNoted, TellsOpened, TellsSkipped};
 ghost use Rattle.replay_rounds.specs.Refusals.{numbers_in};
 ghost use Rattle.replay_rounds.specs.declared.refused.Refused.{Refused};
 ghost use Rattle.replay_rounds.specs.declared.refused.RunError.{RunError};
@@ -25,7 +26,7 @@ use std::alloc::Global;
 /// What a session that was opened is refused with, where what is to be told of its configuration isn't written. The session ends.
 fn unwritten<O: Sink>(alloc: Global, session: Session, status: &mut O, refused: Refused) -> Refused
     ensures same { result ≡ refused }
-    ensures skipped { O.tells → HasSkipped (O.written status.old) (O.written status.new) ⊎ Rose (O.faults status.old) (O.faults status.new) }
+    ensures skipped { O.tells → TellsSkipped session.feeds.items (O.written status.old) (O.written status.new) ⊎ Rose (O.faults status.old) (O.faults status.new) }
     ensures grown { O.tells → IsGrown (O.written status.old) (O.written status.new) }
     ensures later { O.faults status.old ≤ O.faults status.new }
 {
@@ -55,8 +56,9 @@ pub(crate) fn open_noted<S: Source, C: Clock, O: Sink>(
     ensures shrank { (refused : Refused) (place kept found : ℕ) → result ≡ Err refused → refused.error ≡ RunError.SourceShrank place kept found → HasShrunk S.tells S.left restored.taken setup.now.sources place kept found sources.old }
     ensures spent { (refused : Refused) → result ≡ Err refused → refused.error ≡ RunError.NumbersSpent → IsOverfull S.tells S.left S.faults setup.now configured.now.config restored sources.old sources.new }
     ensures sink_cause { (refused : Refused) → result ≡ Err refused → refused.error ≡ RunError.SinkFault → Rose (O.faults status.old) (O.faults status.new) }
-    ensures noted { O.tells → IfOk result (λ session. IsNoted configured.now.config setup.now.host configured.now.notes (O.written status.old) (O.written status.new)) }
-    ensures untold { O.tells → IfErr result (λ refused. HasSkipped (O.written status.old) (O.written status.new) ⊎ Rose (O.faults status.old) (O.faults status.new)) }
+    ensures found { IfOk result (λ session. IsFoundBy restored configured.now.config session.configured_at session.state session.found.items) }
+    ensures noted { O.tells → IfOk result (λ session. IsNoted configured.now.config setup.now.host session.found.items configured.now.notes (O.written status.old) (O.written status.new)) }
+    ensures untold { O.tells → IfErr result (λ refused. TellsOpened S.tells S.left S.faults C.reads setup.now configured.now.config configured.now.documents restored clock.old clock.new sources.old sources.new (O.written status.old) (O.written status.new) ⊎ Rose (O.faults status.old) (O.faults status.new)) }
     ensures numbers { IfErr result (λ refused. refused.numbers ≡ Some (numbers_in restored)) }
     ensures grown { O.tells → IsGrown (O.written status.old) (O.written status.new) }
     ensures later { O.faults status.old ≤ O.faults status.new }
@@ -70,9 +72,9 @@ pub(crate) fn open_noted<S: Source, C: Clock, O: Sink>(
         alloc,
         setup,
         configured,
+        session.found.as_slice(),
         &session.state,
         status,
-        session.configured_at,
     ) {
         Ok(()) => Ok(session),
         Err(error) => Err(unwritten(alloc, session, status, unnoted(error, kept))),

@@ -9,10 +9,12 @@ ghost use Rattle.entry_model.specs.declared.restored.Taken.{Taken};
 ghost use Rattle.entry_model.specs.Fits.{Fits, IsDistinct};
 ghost use Rattle.entry_model.specs.Legal.{Legal};
 ghost use Rattle.entry_model.specs.Summary.{summary};
+ghost use Rattle.session_state.specs.Kept.{IsState};
 ghost use Rattle.daemon_rounds.specs.Moments.{IsRead};
 ghost use Rattle.daemon_rounds.specs.Rounding.{FailsAt};
 ghost use Rattle.daemon_rounds.specs.Starting.{HasShrunk, source_names};
 ghost use Rattle.replay_rounds.specs.Fixed.{fixed_of};
+ghost use Rattle.daemon_rounds.specs.Configuring.{found_now};
 ghost use Rattle.replay_rounds.specs.Noting.{HasTold, HasToldSome, IsBetween, IsGrown, IsNotedAgain, skipped_lines};
 ghost use Rattle.daemon_rounds.specs.Ticking.{asks_again};
 ghost use Rattle.replay_rounds.specs.Refusals.{numbers_of};
@@ -24,7 +26,7 @@ ghost use Rattle.replay_rounds.specs.declared.refused.Refused.{Refused};
 ghost use Rattle.replay_rounds.specs.declared.refused.RunError.{RunError};
 
 use crate::loading::load_values;
-use crate::noting::{told, write_notes, write_skipped};
+use crate::noting::{note_again, told, write_skipped};
 use crate::opening::open_noted;
 use crate::refused::{Numbers, Refused, RunError, numbers_in, numbers_of, unloaded, unnoted};
 use crate::ticking::take_tick;
@@ -59,9 +61,10 @@ fn next_moment<C: Clock, O: Sink>(
     configured_at: u64,
 ) -> Result<u64, Refused>
     requires { configured_at ≤ state.now.counts.moment }
+    ensures is { IsState state.now }
     ensures read { IfOk result (λ moment. IsRead C.reads clock.old clock.new state.now.counts.moment moment) }
     ensures once { (reading : ℕ) × C.reads clock.old reading clock.new }
-    ensures noted { O.tells → IfOk result (λ moment. IsNotedAgain (asks_again configured.now.config configured_at moment) configured.now.config setup.now.host configured.now.notes (O.written status.old) (O.written status.new)) }
+    ensures noted { O.tells → IfOk result (λ moment. IsNotedAgain (asks_again configured.now.config configured_at moment) configured.now.config setup.now.host (found_now configured.now.config state.now moment) configured.now.notes (O.written status.old) (O.written status.new)) }
     ensures cause { IfErr result (λ refused. IsBetween (λ moment. C.reads clock.old moment clock.new × (LAST_MOMENT < moment)) (Rose (O.faults status.old) (O.faults status.new)) refused.error) }
     ensures numbers { IfErr result (λ refused. refused.numbers ≡ Some (numbers_of state.now)) }
     ensures untold { O.tells → IfErr result (λ refused. (O.written status.new ≡ O.written status.old) ⊎ Rose (O.faults status.old) (O.faults status.new)) }
@@ -82,7 +85,7 @@ fn next_moment<C: Clock, O: Sink>(
     if !asks_again(&configured.config, configured_at, moment) {
         return Ok(moment);
     }
-    match write_notes(alloc, setup, configured, state, status, moment) {
+    match note_again(alloc, setup, configured, state, status, moment) {
         Ok(()) => Ok(moment),
         Err(error) => Err(unnoted(error, numbers)),
     }
@@ -167,6 +170,7 @@ pub fn run_session<S: Source, K: Keeper, O: Sink, C: Clock>(
         mut state,
         mut feeds,
         configured_at,
+        found: _,
     } = match open_noted(alloc, setup, configured, restored, clock, sources, status) {
         Ok(session) => session,
         Err(refused) => return Err(refused),

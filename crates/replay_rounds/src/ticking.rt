@@ -5,7 +5,7 @@ ghost use Rattle.osq_value.specs.declared.moment.TheConstants.{LAST_MOMENT};
 ghost use Rattle.osq_config.specs.Bounds.{IsBounded};
 ghost use Rattle.osq_outside.specs.Causes.{Rose};
 ghost use Rattle.daemon_rounds.specs.Keeping.{GoesOn};
-ghost use Rattle.daemon_rounds.specs.Rounding.{FailsAt};
+ghost use Rattle.daemon_rounds.specs.Rounding.{AllCount, FailsAt};
 ghost use Rattle.replay_rounds.specs.Refusals.{tick_numbers};
 ghost use Rattle.replay_rounds.specs.Standing.{IsReady};
 ghost use Rattle.replay_rounds.specs.Ticked.{IsPartlyTold, IsSealedTick, IsTick, IsWholeTick, SpendsTick};
@@ -54,6 +54,7 @@ pub fn take_tick<S: Source, K: Keeper, O: Sink>(
     ensures sealed { (refused : Refused) → result ≡ Err refused → refused.error ≡ RunError.SinkFault → IsSealedTick K.tells S.tells S.left S.faults setup.now configured.now.config configured.now.documents configured_at moment (K.kept keeper.old) (K.kept keeper.new) feeds.old feeds.new sources.old sources.new state.old state.new }
     ensures partly { O.tells → (refused : Refused) → result ≡ Err refused → refused.error ≡ RunError.SinkFault → IsPartlyTold K.tells S.tells S.left S.faults setup.now configured.now.config configured.now.documents configured_at moment (K.kept keeper.old) (K.kept keeper.new) (O.written results.old) (O.written results.new) feeds.old feeds.new sources.old sources.new state.old }
     ensures numbers { IfErr result (λ refused. refused.numbers ≡ Some (tick_numbers refused.error sealed state.new)) }
+    ensures counts { AllCount S.tells S.left feeds.old feeds.new sources.old }
     ensures unwritten { IfErr result (λ refused. refused.error ≢ RunError.SinkFault → results.new ≡ results.old) }
     ensures fault { (refused : Refused) (place : ℕ) → result ≡ Err refused → refused.error ≡ RunError.SourceFault place → FailsAt S.faults place sources.old sources.new }
     ensures opened { (refused : Refused) → result ≡ Err refused → (refused.error ≢ RunError.KeeperRefused) × ((moment : ℕ) → refused.error ≢ RunError.MomentTooLarge moment) × ((place kept found : ℕ) → refused.error ≢ RunError.SourceShrank place kept found) }

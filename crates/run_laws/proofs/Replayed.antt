@@ -1,14 +1,12 @@
 -- A replay that is ready is complete.
 use Rattle.std.proofs.Common.{◌≡◌, ◌⊎◌, inl, inr, ℕ, ◌≤◌, false, List, [], ◌∷◌, ◌++◌, sym, subst, ◌∙◌, arith}
-use Rattle.std.specs.Prelude.{All, bytes_eq}
+use Rattle.std.specs.Prelude.{All}
 use Rattle.std.proofs.lemmas.Bool.{true≢false}
 use Rattle.std.proofs.lemmas.List.Elements.{All-head, All-tail}
 use Rattle.osq_value.specs.declared.moment.TheConstants.{LAST_MOMENT}
-use Rattle.entry_model.specs.Fits.{IsDistinct}
 use Rattle.program_words.specs.declared.command.ReplayWords.{ReplayWords}
 use Rattle.program_words.specs.Bounds.{RunBounds}
 use Rattle.session_model.specs.Given.{Source}
-use Rattle.session_model.specs.Laws.{names_of}
 use Rattle.session_laws.specs.Enough.{AreEnough}
 use Rattle.session_laws.proofs.Ended.{is_end}
 use Rattle.osq_program.specs.declared.status.Status.{Status}
@@ -20,7 +18,7 @@ use Rattle.run_laws.specs.Laws.{IsComplete}
 use Rattle.run_laws.specs.Ready.{IsReplayReady, NoneFails}
 use Rattle.run_laws.proofs.Accepted.{not_refused}
 use Rattle.run_laws.proofs.Settled.{NoCause, settled}
-use Rattle.run_laws.proofs.Sources.{distinct_sources, not_shrunk}
+use Rattle.run_laws.proofs.Sources.{not_shrunk}
 
 pub all_end : {X : Type 0} (P : X → Type 0) (front : List X) (last : X) → All P (front ++ last ∷ []) → P last
 all_end P [] last all = All-head P last [] all
@@ -53,10 +51,9 @@ module _ (words : ReplayWords) (seen : Observed) (bounds : RunBounds words.start
   not_more ran =
       let sources : ran.given.sources ≡ sources_named words.sources seen.all_bytes = ran.is.sources in
       let some : 1 ≤ ran.given.records = subst (λ (n : ℕ). 1 ≤ n) (sym ran.is.records) bounds.some_records in
-      let distinct = subst (λ (ss : List Source). IsDistinct bytes_eq (names_of ss)) (sym sources) (distinct_sources words.sources seen.all_bytes bounds.sources_in.own_paths) in
       let enough = subst (λ (n : ℕ). All (AreEnough n seen.kept_before words.ticks) ran.given.sources) (sym ran.is.records)
       (subst (All (AreEnough words.records seen.kept_before words.ticks)) (sym sources) ready.ready.enough) in
-      let end = is_end (fixed seen ran.given) seen.has_read words.ticks seen.kept_after seen.results_after ran.ended ran.run ready.ready.keeper_tells ready.ready.source_tells ready.ready.legal some distinct enough in
+      let end = is_end (fixed seen ran.given) seen.has_read words.ticks seen.kept_after seen.results_after ran.ended ran.run ready.ready.keeper_tells ready.ready.source_tells ready.ready.legal some enough in
       true≢false (sym end ∙ ran.end_is)
 
   pub replayed : (status : Status) → IsReplay words seen status → ¬ IsUsageStatus status → IsComplete status

@@ -1,37 +1,14 @@
 -- The sources that words name.
-use Rattle.std.proofs.Common.{◌≡◌, ◌≢◌, ℕ, zero, suc, ◌≤◌, Bool, false, List, [], ◌∷◌, length, slice_get, Some, refl, ap, subst, ◌∙◌, arith}
-use Rattle.std.specs.Prelude.{All, AllPairs, bytes_eq}
-use Rattle.std.specs.List.{list_any}
+use Rattle.std.proofs.Common.{◌≡◌, ℕ, zero, suc, ◌≤◌, List, [], ◌∷◌, length, slice_get, Some, refl, ap, subst, ◌∙◌, arith}
+use Rattle.std.specs.Prelude.{All}
 use Rattle.std.proofs.lemmas.List.Elements.{All-head, All-tail}
 use Rattle.osq_value.specs.declared.source.SourceName.{SourceName}
-use Rattle.entry_model.specs.Fits.{IsDistinct}
 use Rattle.entry_model.specs.Values.{taken_from}
 use Rattle.session_model.specs.Given.{Source}
-use Rattle.session_model.specs.Laws.{names_of}
-use Rattle.daemon_rounds.specs.Starting.{source_names}
-use Rattle.replay_rounds.proofs.Passed.{or_false}
-use Rattle.osq_program.proofs.Setups.{distinct_names}
 use Rattle.osq_program.specs.Observed.{Observed}
 use Rattle.osq_program.specs.Reasons.{HasShrunk}
 use Rattle.osq_program.specs.Setups.{sources_named}
 use Rattle.run_laws.specs.Ready.{IsThere}
-
-not_any : (test : List ℕ → Bool) (names : List SourceName) (bytes : List (List ℕ)) → list_any test (source_names names) ≡ false → list_any test (names_of (sources_named names bytes)) ≡ false
-not_any test [] bytes none = refl
-not_any test (name ∷ names) [] none = refl
-not_any test (name ∷ names) (first ∷ bytes) none =
-    let both = or_false (test name.name) (list_any test (source_names names)) none in
-    rw both.0 (not_any test names bytes both.1)
-
-named_distinct : (names : List SourceName) (bytes : List (List ℕ)) → IsDistinct bytes_eq (source_names names) → IsDistinct bytes_eq (names_of (sources_named names bytes))
-named_distinct [] bytes distinct = tt
-named_distinct (name ∷ names) [] distinct = tt
-named_distinct (name ∷ names) (first ∷ bytes) distinct =
-    (not_any (λ (other : List ℕ). bytes_eq other name.name) names bytes distinct.0, named_distinct names bytes distinct.1)
-
--- no two of them have one name
-pub distinct_sources : (names : List SourceName) (bytes : List (List ℕ)) → AllPairs (λ (a b : SourceName). a.name ≢ b.name) names → IsDistinct bytes_eq (names_of (sources_named names bytes))
-distinct_sources names bytes own = named_distinct names bytes (distinct_names names own)
 
 -- the source at a place, with its bytes
 there_at : (P : Source → Type 0) (names : List SourceName) (all : List (List ℕ)) (place : ℕ) (source : SourceName) (bytes : List ℕ) → slice_get names place ≡ Some source → slice_get all place ≡ Some bytes → All P (sources_named names all)

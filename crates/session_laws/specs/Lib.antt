@@ -1,3 +1,2 @@
 pub mod Enough
 pub mod Laws
-pub mod Short

@@ -1,24 +1,9 @@
 //! How many ticks are enough for a session to read its sources to their ends.
 
-ghost use Rattle.session_laws.specs.Laws.{FewBytes, FewTicks, ReadsWhole, ShortGroups, ShortLines};
+ghost use Rattle.session_laws.specs.Laws.{FewTicks, ReadsWhole};
 
 use batch_keeper::Keeper;
 use osq_outside::{Clock, Sink, Source};
-
-/// Where fewer than 16777216 bytes are left of a source, no step of it falls short.
-pub fn few_bytes()
-    ensures { FewBytes }
-{}
-
-/// A step of changes or tables falls short by a part of one line.
-pub fn short_lines()
-    ensures { ShortLines }
-{}
-
-/// A step of an audit log falls short by a part of one line and by its last group.
-pub fn short_groups()
-    ensures { ShortGroups }
-{}
 
 /// Where a session's ticks are over and a source had more, there were fewer than are enough for it.
 pub fn few_ticks<S: Source>()

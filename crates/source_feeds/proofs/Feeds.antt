@@ -17,7 +17,7 @@ use Rattle.source_feeds.specs.Stepping.{IsStep}
 use Rattle.source_feeds.specs.Taking.{ReadsTo, Takes, TakesAll}
 use Rattle.source_feeds.proofs.Joins.{reads_skip, rises, skipped_of-append}
 use Rattle.source_feeds.proofs.Shapes.{good_readings}
-use Rattle.source_feeds.proofs.Steps.{behind, reads_to, still_full, takes_all, takes_of}
+use Rattle.source_feeds.proofs.Steps.{behind, read_full, reads_to, still_full, takes_all, takes_of}
 
 -- a feed that was started, or is spent
 pub started : {T : Type 0} (result : Result T StepError) (kind : SourceKind) (old new : Reader) → HasRead kind old → OnOk result (new ≡ record old { is_begun = true }) → IfErr result (λ error. new ≡ record old { is_begun = true; is_spent = true })
@@ -74,7 +74,7 @@ skips_add before more now sum first last old new is same = omega (arith, old, ne
 pub stepped : (tells : Type 0) (before middle after : List ℕ) (old new : Feeding) (kept : ℕ) (given : List ReadRecord) (most : ℕ) (readings : List Reading) (f : Fed tells before middle old kept given)
     → ((pieces : List ReadRecord) × (readings ≡ readings_of old.reader.kind pieces) × Steps tells middle after new.reader given kept f.stream pieces most) → GrowsBy old.reader.taken new.reader.taken readings → SameSource old.reader new.reader
     → (tells → new.reader.is_ended ≡ true → after ≡ []) → new.skipped ≡ counted (old.skipped + skipped_told readings) → new.kind ≡ old.kind
-    → IsStep tells before after old new kept given most readings
+    → IsStep tells before middle after old new kept given most readings
 stepped tells before middle after old new kept given most readings f (pieces, read, steps) grown same end skipped kind =
     let up = goes_up old.reader.taken new.reader.taken readings grown in
     record {
@@ -101,6 +101,9 @@ stepped tells before middle after old new kept given most readings f (pieces, re
           (subst (λ p. TakesAll new.reader.kind p kept before (given ++ pieces) new.reader.taken) same.paths
           (takes_all new.reader kept (given ++ pieces) (f.stream ++ steps.fresh) before after steps.stands over (lefts told) (end told)));
       still = λ told still. still_full tells old.reader new.reader kept given pieces f.stream before middle after most f.stands steps same.kind same.paths up (lefts told) still;
+      fresh = steps.fresh;
+      left = steps.left;
+      reads = λ told still. read_full tells new.reader kept given pieces f.stream middle after most steps still;
     }
   where
     lefts : tells → IsLeft before after kept (f.stream ++ steps.fresh)

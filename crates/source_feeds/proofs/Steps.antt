@@ -232,6 +232,14 @@ still_full tells old new kept given pieces stream before middle after most s ste
       let read = size_read old new kept given pieces stream steps.fresh s d.stands b in
       inr (omega (arith, enough, bytes, sum, read))
 
+-- or as much was read in it
+pub read_full : (tells : Type 0) (new : Reader) (kept : ℕ) (given pieces : List ReadRecord) (stream middle after : List ℕ) (most : ℕ) (steps : Steps tells middle after new given kept stream pieces most) → is_at_end new ≡ false → (length pieces ≡ most) ⊎ (STEP_BYTES ≤ length steps.fresh)
+read_full tells new kept given pieces stream middle after most steps still = by_full steps.full where
+  by_full : (length pieces ≡ most) ⊎ (IsDry new (given ++ pieces) kept (stream ++ steps.fresh) × ((new.is_ended ≡ true) ⊎ (STEP_BYTES ≤ length steps.fresh))) → (length pieces ≡ most) ⊎ (STEP_BYTES ≤ length steps.fresh)
+  by_full (inl full) = inl full
+  by_full (inr (d, inl over)) = absurd (not_over new over d.none still)
+  by_full (inr (d, inr enough)) = inr enough
+
 -- what a session has taken so far of a source that tells its bytes
 pub reads_to : (new : Reader) (kept : ℕ) (pieces : List ReadRecord) (stream before after : List ℕ) → HasPublished new pieces kept stream → IsLeft before after kept stream → ReadsTo new.kind new.paths kept (drop kept before) pieces new.taken
 reads_to new kept pieces stream before after t left =

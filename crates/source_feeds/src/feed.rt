@@ -114,17 +114,18 @@ impl Feed {
 
     /// Takes whole records of the source: as many as `most`, or fewer where the source is at its end or this step has read 16777216 bytes.
     /// Its readings are those of the records; there are none exactly where the offset stands still. The feed is spent where it refuses:
-    /// where the source failed, or memory was wanting.
+    /// where the source failed, or memory was wanting; its count stays.
     pub fn step<S: Source>(&mut self, source: &mut S, most: u64) -> Result<ReadingList, StepError>
         requires begun { (self.old.reader.is_begun ≡ true) × (self.old.reader.is_spent ≡ false) }
         ensures steps { (before : List ℕ) → (kept : ℕ) → (given : List ReadRecord) → Fed S.tells before (S.left source.old) self.old kept given
-            → IfOk result (λ readings. IsStep S.tells before (S.left source.new) self.old self.new kept given most readings) }
+            → IfOk result (λ readings. IsStep S.tells before (S.left source.old) (S.left source.new) self.old self.new kept given most readings) }
         ensures each { IfOk result (λ readings. All IsReading readings) }
         ensures rise { IfOk result (λ readings. Rise self.old.reader.taken readings self.new.reader.taken) }
         ensures grown { IfOk result (λ readings. GrowsBy self.old.reader.taken self.new.reader.taken readings) }
         ensures same { OnOk result (SameFeed self.old self.new) }
         ensures spent { IfErr result (λ error. self.new.reader.is_spent ≡ true) }
         ensures source { (self.new.name ≡ self.old.name) × (self.new.kind ≡ self.old.kind) }
+        ensures uncounted { IfErr result (λ error. self.new.skipped ≡ self.old.skipped) }
         ensures shrank { (kept found : ℕ) → result ≢ Err (StepError.SourceShrank kept found) }
         ensures cause { FaultHasCause StepError.SourceFault (S.faults source.old) (S.faults source.new) result }
     {

@@ -2,7 +2,7 @@ use Rattle.std.proofs.Common.{◌≡◌, Err, refl, inl, sym, ap, ◌∙◌}
 use Rattle.replay_rounds.specs.declared.refused.Refused.{Refused}
 use Rattle.replay_rounds.proofs.Causes.{unopened_late, unopened_spent}
 use Rattle.replay_rounds.proofs.Grown.{grown_then}
-use Rattle.replay_rounds.proofs.Noted.{none_skipped, skipped_behind, untold_by}
+use Rattle.replay_rounds.proofs.Noted.{skipped_behind, told_opened, untold_by}
 use Rattle.replay_rounds.proofs.opening.open_noted.Goals as goal
 
 pub returns-in-Err-clause-moment : goal.returns-in-Err-clause-moment
@@ -22,9 +22,11 @@ returns-in-Err-write_notes-clause-grown g c tells =
     grown_then _ _ _ (c.write_notes.ensures.grown tells) (c.unwritten.ensures.grown tells)
 
 pub returns-in-Err-clause-untold : goal.returns-in-Err-clause-untold
-returns-in-Err-clause-untold g c tells = inl (none_skipped _ _ refl)
+returns-in-Err-clause-untold g c tells = inl (inl refl)
 
 pub returns-in-Err-write_notes-clause-untold : goal.returns-in-Err-write_notes-clause-untold
 returns-in-Err-write_notes-clause-untold g c tells =
-    skipped_behind (g.O.Sink.written c.args.status.now) (g.O.Sink.written c.write_notes.new.status) (g.O.Sink.written c.unwritten.new.status) (g.O.Sink.faults c.args.status.now) (g.O.Sink.faults c.write_notes.new.status) (g.O.Sink.faults c.unwritten.new.status)
-    (untold_by _ _ _ _ c.in-Err-write_notes.error c.write_notes.result c.in-Err-write_notes.is (λ is. ap g.O.Sink.written (c.write_notes.ensures.unmade is)) c.write_notes.ensures.cause) (c.unwritten.ensures.skipped tells) c.write_notes.ensures.cause.later c.unwritten.ensures.later
+    told_opened _ c.in-Ok.session.feeds.items (g.O.Sink.written c.args.status.now) (g.O.Sink.written c.unwritten.new.status) (g.O.Sink.faults c.args.status.now) (g.O.Sink.faults c.unwritten.new.status)
+    (skipped_behind c.in-Ok.session.feeds.items (g.O.Sink.written c.args.status.now) (g.O.Sink.written c.write_notes.new.status) (g.O.Sink.written c.unwritten.new.status) (g.O.Sink.faults c.args.status.now) (g.O.Sink.faults c.write_notes.new.status) (g.O.Sink.faults c.unwritten.new.status)
+    (untold_by _ _ _ _ c.in-Err-write_notes.error c.write_notes.result c.in-Err-write_notes.is (λ is. ap g.O.Sink.written (c.write_notes.ensures.unmade is)) c.write_notes.ensures.cause) (c.unwritten.ensures.skipped tells) c.write_notes.ensures.cause.later c.unwritten.ensures.later)
+    (λ is. (c.in-Ok.session.configured_at, c.in-Ok.session.feeds.items, c.in-Ok.session.state, c.in-Ok.ensures.opened, is))

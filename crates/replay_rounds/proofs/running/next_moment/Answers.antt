@@ -1,8 +1,8 @@
 use Rattle.std.proofs.Common.{arith}
 use Rattle.replay_rounds.proofs.running.next_moment.Goals as goal
 
-pub write_notes-requires : goal.write_notes-requires
-write_notes-requires g c =
+pub note_again-requires : goal.note_again-requires
+note_again-requires g c =
     let read = c.in-Ok.ensures.read in
     let calendar = read.calendar in
     let is = read.is in

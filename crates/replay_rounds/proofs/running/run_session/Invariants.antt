@@ -1,6 +1,7 @@
 use Rattle.std.proofs.Common.{◌≤◌}
 use Rattle.daemon_rounds.specs.Keeping.{GoesOn}
-use Rattle.replay_rounds.specs.Noting.{HasNoted, IsGrown, configurations}
+use Rattle.replay_rounds.specs.Noting.{HasNoted, IsGrown, places_of}
+use Rattle.replay_rounds.specs.Fixed.{fixed_of}
 use Rattle.replay_rounds.specs.Standing.{IsReady}
 use Rattle.replay_rounds.proofs.Looping.{IsLooping}
 use Rattle.replay_rounds.proofs.running.run_session.Given as goal
@@ -15,5 +16,5 @@ invariant-loop g l = record {
   results_later : g.O.Sink.faults l.fn.results ≤ g.O.Sink.faults l.results;
   status_later : g.O.Sink.faults l.fn.status ≤ g.O.Sink.faults l.status;
   noted : g.O.Sink.tells → IsGrown (g.O.Sink.written l.fn.status) (g.O.Sink.written l.status);
-  told : g.O.Sink.tells → HasNoted l.configured.config l.setup.host l.configured.notes (configurations looping.running.added.entries) (g.O.Sink.written l.fn.status) (g.O.Sink.written l.status);
+  told : g.O.Sink.tells → HasNoted (fixed_of g.K.Keeper.tells g.O.Sink.tells g.S.Source.tells g.S.Source.left l.setup l.configured.config l.configured.documents l.fn.sources (g.K.Keeper.kept l.fn.keeper) (g.O.Sink.written l.fn.results)) l.configured.notes (places_of (g.K.Keeper.kept l.fn.keeper) looping.running.added.entries) (g.O.Sink.written l.fn.status) (g.O.Sink.written l.status);
 }

@@ -19,7 +19,7 @@ returns-in-Ok-clause-steps g c = λ before kept given fed.
     let f = subst (λ (feed : Feeding). Fed g.S.Source.tells before (g.S.Source.left c.args.source.now) feed kept given) (sym c.self.view_is) fed in
     let steps = c.in-Ok.ensures.steps given kept f.stream f.stands in
     let skipped = c.skipped_with-self-inside.ensures ∙ ap (λ (rs : List Reading). counted (c.self.inside.skipped + skipped_told rs)) c.as_slice.ensures in
-    subst (λ (feed : Feeding). IsStep g.S.Source.tells before (g.S.Source.left c.step.new.source) feed new kept given c.args.most c.in-Ok.readings) c.self.view_is
+    subst (λ (feed : Feeding). IsStep g.S.Source.tells before (g.S.Source.left c.args.source.now) (g.S.Source.left c.step.new.source) feed new kept given c.args.most c.in-Ok.readings) c.self.view_is
     (stepped g.S.Source.tells before (g.S.Source.left c.args.source.now) (g.S.Source.left c.step.new.source) old new kept given c.args.most c.in-Ok.readings f
     (steps.0, steps.1, steps.2) (c.in-Ok.ensures.grown given kept f.stream f.stands) c.in-Ok.ensures.same (c.in-Ok.ensures.end f.end) skipped refl)
 
