@@ -182,7 +182,7 @@ for _ in range(seals):
         db.execute(sql("NOTE_TAKEN"), (events, "audit"))
         for first, end, text in parts([row(at) for at in range(events)]):
             numbers = json.dumps(list(range(last + 1 + first, last + 2 + end)), separators=(",", ":"))
-            db.execute(sql("ADD_EVENTS"), (last + 1 + first, last + 1 + end, 0, 1000, numbers, text))
+            db.execute(sql("ADD_EVENTS"), (last + 1 + end, 0, 1000, numbers, text))
         last += events
     for at in range(batches):
         made += 1

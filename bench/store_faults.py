@@ -74,7 +74,7 @@ def unopened(bench: Bench) -> None:
     db.close()
     bench.refused("a database of another program", foreign)
     with sqlite3.connect(whole) as db:
-        db.execute("UPDATE kept SET layout = 2")
+        db.execute("UPDATE kept SET layout = 3")
     db.close()
     bench.refused("a store of another layout", whole)
 

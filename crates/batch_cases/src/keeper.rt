@@ -1,8 +1,7 @@
 //! Lists in a keeper in memory.
 
-use crate::entries::entries_of;
-use crate::loaded::push_restored;
 use batch_keeper::{Keeper, KeeperError, MemoryKeeper};
+use case_lists::{entries_of, push_restored};
 use case_text::{fails_of, items_of};
 use entry_model::entry::EntryList;
 use osq_outside::FailList;

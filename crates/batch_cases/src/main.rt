@@ -1,6 +1,6 @@
 //! Keeps lists of entries and writes batches, and prints what they give. Standard input has a row of JSON a line; empty lines and lines
 //! that begin with `#` are passed over. Each row is printed behind `> `, and then what it gives. Entries are a text of words: `opened`,
-//! `configured`, `ticked`, `appended`, `set`, `expired1`, `expired3`, `committed` and `acked`, each for an entry that entries.rt has. The rows:
+//! `configured`, `ticked`, `appended`, `set`, `expired1`, `expired3`, `committed` and `acked`, each for an entry that `case_lists` has. The rows:
 //!
 //! - `kept`, the entries of a list: what a keeper loads from it.
 //! - `seals`, texts of entries that are sealed one after another; `fails`, which of the seals fail, counted from 1; and `is_whole`, whether
@@ -11,10 +11,8 @@
 #![tactic(auto)]
 
 mod answer;
-mod entries;
 mod keeper;
 mod lines;
-mod loaded;
 mod recorded;
 
 use case_text::json_of_line;

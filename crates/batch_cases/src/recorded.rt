@@ -1,6 +1,6 @@
 //! Batches that are recorded in room that was made for them.
 
-use crate::entries::key_of;
+use case_lists::key_of;
 use entry_model::reserved::ReservedRuns;
 use entry_model::restored::{Run, RunList};
 use osq_value::NoMemory;

@@ -35,7 +35,7 @@ fn make<S: Alter>(alloc: Global, tx: &mut Transaction<'_, S>, change: &Change) -
     ensures survives { CommitsNothing (state S.Store tx.old.conn.now) (state S.Store tx.new.conn.now) }
 {
     let values = values_of(alloc, change.parameters.as_slice());
-    execute(tx, change.sql, values)
+    execute(tx, change.statement.text(), values)
 }
 
 /// Runs a statement with these parameters, if there was memory for them.

@@ -1,6 +1,14 @@
 pub mod Answering
+pub mod Behind
+pub mod Cutting
+pub mod Expiring
 pub mod Giving
 pub mod Joining
+pub mod Keeping
+pub mod Mixing
 pub mod Places
+pub mod Setting
 pub mod Sorting
+pub mod Spelling
+pub mod Texts
 pub mod Writing

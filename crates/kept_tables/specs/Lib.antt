@@ -1,7 +1,13 @@
 pub mod Columns
 pub mod Counting
+pub mod Edits
+pub mod Groups
+pub mod Keeps
 pub mod Lists
 pub mod Loads
+pub mod Parts
 pub mod Reads
 pub mod Rows
+pub mod Sealing
 pub mod Shows
+pub mod Worked

@@ -1,6 +1,6 @@
 //! The counts of a kept list, which lie in one row.
 
-ghost use Rattle.std.specs.Prelude.{◌≡◌, map};
+ghost use Rattle.std.specs.Prelude.{◌≡◌, ◌+◌, map, IfOk};
 ghost use Rattle.std.specs.Option.{ok_or};
 ghost use Rattle.change_records.specs.Rows.{all_there};
 ghost use Rattle.kept_tables.specs.declared.error.TableError.TheVariants as fault;
@@ -10,7 +10,7 @@ ghost use Rattle.kept_tables.specs.Counting.{columns, counts_in, counts_shown, i
 use crate::error::TableError;
 use crate::layout::LAYOUT;
 use crate::values::number_at;
-use osq_value::{Row, RowList};
+use osq_value::{NoMemory, Row, RowList};
 
 /// The counts of a kept list.
 #[derive(Clone, Copy)]
@@ -98,4 +98,11 @@ fn counts_in(row: &Row) -> Option<Counts>
         acked,
         parts,
     })
+}
+
+/// One more.
+pub(crate) fn after(number: u64) -> Result<u64, NoMemory>
+    ensures { IfOk result (λ more. more ≡ number + 1) }
+{
+    number.checked_add(1).ok_or(NoMemory)
 }

@@ -1,7 +1,7 @@
 //! The tables, and the statements that read them.
 
 /// The number of this layout, which stands first in the one row of `kept`.
-pub const LAYOUT: u64 = 1;
+pub const LAYOUT: u64 = 2;
 
 /// Shows a row for each table that there is.
 pub const NAMES: &str = "SELECT name FROM sqlite_schema WHERE type = 'table'";
@@ -15,7 +15,7 @@ pub const LAYOUT_OF: &str = "SELECT layout FROM kept";
 /// the batches.
 pub const TABLES: &str = "
     CREATE TABLE kept (layout INTEGER NOT NULL, position INTEGER NOT NULL, sessions INTEGER NOT NULL, moment INTEGER NOT NULL, last INTEGER NOT NULL, floor0 INTEGER NOT NULL, floor1 INTEGER NOT NULL, floor2 INTEGER NOT NULL, batches INTEGER NOT NULL, acked INTEGER NOT NULL, parts INTEGER NOT NULL) STRICT;
-    CREATE TABLE live (first INTEGER PRIMARY KEY, last INTEGER NOT NULL, tbl INTEGER NOT NULL, moment INTEGER NOT NULL, numbers TEXT NOT NULL, rows TEXT NOT NULL) STRICT;
+    CREATE TABLE live (place INTEGER PRIMARY KEY, last INTEGER NOT NULL, tbl INTEGER NOT NULL, moment INTEGER NOT NULL, numbers TEXT NOT NULL, rows TEXT NOT NULL) STRICT;
     CREATE INDEX live_last ON live (tbl, last);
     CREATE TABLE taken (place INTEGER PRIMARY KEY, source TEXT NOT NULL UNIQUE, taken INTEGER NOT NULL) STRICT;
     CREATE TABLE set_part (place INTEGER PRIMARY KEY, tbl INTEGER NOT NULL, rows TEXT NOT NULL) STRICT;
@@ -24,21 +24,21 @@ pub const TABLES: &str = "
     CREATE TABLE batch_part (place INTEGER PRIMARY KEY, number INTEGER NOT NULL, rows TEXT NOT NULL) STRICT;
     CREATE INDEX batch_part_number ON batch_part (number);
     CREATE TABLE configured (place INTEGER PRIMARY KEY) STRICT;
-    INSERT INTO kept VALUES (1, 0, 0, 0, 0, 0, 0, 0, 0, 0, 0);
+    INSERT INTO kept VALUES (2, 0, 0, 0, 0, 0, 0, 0, 0, 0, 0);
 ";
 
 /// Shows the counts.
 pub const COUNTS: &str =
     "SELECT position, sessions, moment, last, floor0, floor1, floor2, batches, acked, parts FROM kept";
 
-/// Shows the parts of live events.
-pub const LIVE: &str = "SELECT tbl, moment, numbers, rows FROM live ORDER BY first";
+/// Shows the parts of live events, in the order in which they were added.
+pub const LIVE: &str = "SELECT tbl, moment, numbers, rows FROM live ORDER BY place";
 
 /// Shows the offsets of the sources, in the order in which they first gave something.
 pub const TAKEN: &str = "SELECT source, taken FROM taken ORDER BY place";
 
-/// Shows the parts of the recorded tables, in the order of the catalogue.
-pub const SET: &str = "SELECT tbl, rows FROM set_part ORDER BY tbl, place";
+/// Shows the parts of the recorded tables, in the order in which they were added.
+pub const SET: &str = "SELECT tbl, rows FROM set_part ORDER BY place";
 
 /// Shows the runs, in the order of the first batches of their queries.
 pub const RUNS: &str = "SELECT name, text, mode, number, hi, moment, count FROM run ORDER BY place";
@@ -51,7 +51,8 @@ pub(crate) const ADD_CONFIGURED: &str = "INSERT INTO configured VALUES (?1)";
 pub(crate) const NOTE_TAKEN: &str =
     "INSERT INTO taken (taken, source) VALUES (?1, ?2) ON CONFLICT (source) DO UPDATE SET taken = excluded.taken";
 
-pub(crate) const ADD_EVENTS: &str = "INSERT INTO live VALUES (?1, ?2, ?3, ?4, ?5, ?6)";
+pub(crate) const ADD_EVENTS: &str =
+    "INSERT INTO live (last, tbl, moment, numbers, rows) VALUES (?1, ?2, ?3, ?4, ?5)";
 
 pub(crate) const EXPIRE: &str = "DELETE FROM live WHERE tbl = ?1 AND last <= ?2";
 

@@ -5,6 +5,7 @@
 pub mod changes;
 pub mod counts;
 mod error;
+pub mod laws;
 pub mod layout;
 pub mod lists;
 pub mod live;
@@ -15,7 +16,7 @@ pub mod shown;
 mod tables;
 mod values;
 
-pub use changes::{Change, ChangeList, Parameter};
+pub use changes::{Change, ChangeList, Parameter, Statement};
 pub use counts::{Counts, counts_of, has_layout};
 pub use error::TableError;
 pub use restoring::{Found, restored_of};

@@ -36,7 +36,7 @@ fn push_live(text: &mut String, live: &LiveList) -> Result<(), NoMemory> {
 }
 
 /// Adds what is loaded.
-pub(crate) fn push_restored(text: &mut String, restored: &Restored) -> Result<(), NoMemory> {
+pub fn push_restored(text: &mut String, restored: &Restored) -> Result<(), NoMemory> {
     push_numbers(text, restored)?;
     push_sizes(text, restored)?;
     writeln!(

@@ -30,20 +30,50 @@ fn appended(alloc: Global) -> Result<Entry, NoMemory> {
     })
 }
 
-/// A table is set to one row.
-fn table_set(alloc: Global) -> Result<Entry, NoMemory> {
+/// So many events are appended, of processes and of files in turn. Their rows take some 60 bytes each.
+fn many(alloc: Global, count: u64) -> Result<Entry, NoMemory> {
+    let mut events = EventList::new(alloc);
+    for at in 0..count {
+        let table = if at % 2 == 0 { 0 } else { 2 };
+        events.push(long_event(alloc, table)?)?;
+    }
+    Ok(Entry::Appended {
+        source: Str::of(alloc, "changes")?,
+        taken: 90,
+        events,
+        skipped: 0,
+        moment: 1001,
+    })
+}
+
+/// An event with values of each kind.
+fn long_event(alloc: Global, table: u8) -> Result<Event, NoMemory> {
+    let mut row = Row::new(alloc);
+    row.push(Value::Null)?;
+    row.push(Value::Int(i64::MIN))?;
+    row.push(Value::Text(Str::of(alloc, "/etc/\"a\" \\ \n zażółć")?))?;
+    Ok(Event {
+        table: TableId(table),
+        row,
+    })
+}
+
+/// A table is set to so many rows, each without values.
+fn table_set(alloc: Global, table: TableId, count: u64) -> Result<Entry, NoMemory> {
     let mut rows = RowList::new(alloc);
-    rows.push(Row::new(alloc))?;
+    for _ in 0..count {
+        rows.push(Row::new(alloc))?;
+    }
     Ok(Entry::TableSet {
         source: Str::of(alloc, "tables")?,
-        table: TableId::USERS,
+        table,
         rows,
         taken: 7,
     })
 }
 
 /// A query of this name.
-pub(crate) fn key_of(alloc: Global, name: &str) -> Result<QueryKey, NoMemory> {
+pub fn key_of(alloc: Global, name: &str) -> Result<QueryKey, NoMemory> {
     Ok(QueryKey::read(
         Str::of(alloc, name)?,
         Str::of(alloc, "SELECT * FROM users")?,
@@ -51,13 +81,13 @@ pub(crate) fn key_of(alloc: Global, name: &str) -> Result<QueryKey, NoMemory> {
     ))
 }
 
-/// A batch without rows.
-fn committed(alloc: Global, number: u64) -> Result<Entry, NoMemory> {
+/// A batch without rows of the query of this name.
+fn committed(alloc: Global, name: &str, number: u64, hi: u64) -> Result<Entry, NoMemory> {
     let batch = Batch {
         number,
-        query: key_of(alloc, "q")?,
+        query: key_of(alloc, name)?,
         lo: 0,
-        hi: 3,
+        hi,
         cut: 3,
         moment: 1000,
         rows: RowList::new(alloc),
@@ -95,19 +125,34 @@ fn entry_of(alloc: Global, word: &str, at: u64) -> Result<Option<Entry>, NoMemor
         "configured" => configured(alloc),
         "ticked" => Entry::Ticked { moment: 1000 },
         "appended" => appended(alloc)?,
-        "set" => table_set(alloc)?,
+        "many" => many(alloc, 2200)?,
+        "set" => table_set(alloc, TableId::USERS, 1)?,
+        "reset" => table_set(alloc, TableId::USERS, 2)?,
+        "emptied" => table_set(alloc, TableId::USERS, 0)?,
+        "larger" => table_set(alloc, TableId::PROCESSES, 22000)?,
         "expired1" => expired(1),
         "expired3" => expired(3),
-        "committed" => committed(alloc, at)?,
+        "expired2000" => expired(2000),
+        "committed" => committed(alloc, "q", at, 3)?,
+        "answered" => committed(alloc, "r", at, 5)?,
         "acked" => Entry::Acked { upto: 1 },
         _ => return Ok(None),
     }))
 }
 
 /// The entries of words; nothing where a word is none of an entry. A batch is numbered by its place among the entries, from 0.
-pub(crate) fn entries_of(alloc: Global, words: &str) -> Result<Option<EntryList>, NoMemory> {
+pub fn entries_of(alloc: Global, words: &str) -> Result<Option<EntryList>, NoMemory> {
+    entries_behind(alloc, 0, words)
+}
+
+/// The same behind so many entries, which the places count too.
+pub fn entries_behind(
+    alloc: Global,
+    before: u64,
+    words: &str,
+) -> Result<Option<EntryList>, NoMemory> {
     let mut entries = EntryList::new(alloc);
-    let mut at = 0u64;
+    let mut at = before;
     for word in words.split_whitespace() {
         let Some(entry) = entry_of(alloc, word, at)? else {
             return Ok(None);
