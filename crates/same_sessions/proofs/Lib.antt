@@ -1,0 +1,6 @@
+pub mod Documents
+pub mod Generated
+pub mod Lines
+pub mod Names
+pub mod Same
+pub mod Schedules
