@@ -1,0 +1,9 @@
+pub mod Owning
+pub mod Adding
+pub mod Published
+pub mod Worked
+pub mod InTime
+pub mod Answered
+pub mod Halves
+pub mod Forked
+pub mod Sent
