@@ -15,28 +15,9 @@ mod keeper;
 mod lines;
 mod recorded;
 
-use case_text::json_of_line;
-use osq_value::NoMemory;
-use std::alloc::Global;
-use std::io::{self, ErrorKind};
-
-/// What is printed of a line.
-fn told(alloc: Global, line: &str) -> Result<String, NoMemory> {
-    let mut text = String::new(alloc);
-    if let Some(row) = json_of_line(alloc, line)? {
-        writeln!(text, "> {line}")?;
-        answer::push_answer(alloc, &mut text, &row)?;
-    }
-    Ok(text)
-}
+use case_text::print_answers;
+use std::io;
 
 fn main(rt: HostRuntime) -> io::Result<()> {
-    let alloc = rt.alloc();
-    for line in rt.lines(alloc) {
-        match told(alloc, line?.as_str()) {
-            Ok(text) => print!(rt; "{text}")?,
-            Err(NoMemory) => return Err(io::Error::from(ErrorKind::OutOfMemory)),
-        }
-    }
-    Ok(())
+    print_answers(&rt, rt.alloc(), answer::push_answer)
 }

@@ -1,0 +1,45 @@
+//! Programs that read rows and print what each gives.
+
+use crate::line::json_of_line;
+use osq_value::NoMemory;
+use serde_json::Value as Json;
+use std::alloc::Global;
+use std::io::{self, ErrorKind};
+
+/// What is printed of a line: nothing, or its row behind `> `, and then what the row gives.
+fn answered<F: Fn(Global, &mut String, &Json) -> Result<(), NoMemory>>(
+    alloc: Global,
+    line: &str,
+    push_answer: &F,
+) -> Result<String, NoMemory>
+    requires { F.IsAlwaysCallable push_answer.now }
+{
+    let mut text = String::new(alloc);
+    if let Some(row) = json_of_line(alloc, line)? {
+        writeln!(text, "> {line}")?;
+        push_answer(alloc, &mut text, &row)?;
+    }
+    Ok(text)
+}
+
+/// Prints each row of standard input behind `> `, and then what `push_answer` writes of it. A row is a line of JSON, as `json_of_line` takes it.
+///
+/// OutOfMemory where memory is wanting; else what reading or printing is refused with.
+pub fn print_answers<
+    R: Input + Print,
+    F: Fn(Global, &mut String, &Json) -> Result<(), NoMemory>,
+>(
+    rt: &R,
+    alloc: Global,
+    push_answer: F,
+) -> io::Result<()>
+    requires { F.IsAlwaysCallable push_answer }
+{
+    for line in rt.lines(alloc) {
+        match answered(alloc, line?.as_str(), &push_answer) {
+            Ok(text) => print!(rt; "{text}")?,
+            Err(NoMemory) => return Err(io::Error::from(ErrorKind::OutOfMemory)),
+        }
+    }
+    Ok(())
+}
