@@ -19,7 +19,7 @@ use Rattle.osq_program.specs.declared.status.Status.TheVariants.{Ok as Done, Usa
 use Rattle.osq_program.specs.Answers.{IsCaused, IsRefusal, no_causes}
 use Rattle.osq_program.specs.Ending.{IsAnswerTo}
 use Rattle.osq_program.specs.Observed.{Observed}
-use Rattle.osq_program.specs.Replaying.{IsReplayGiven, fixed}
+use Rattle.osq_program.specs.Replaying.{IsReplayGiven, fixed, run_in}
 use Rattle.osq_program.specs.Report.{EndsAs, Tells, TellsStop, final_line, refusal_line}
 use Rattle.osq_program.specs.Answers.{status_number}
 use Rattle.osq_program.specs.Telling.{AreNumbersAt, EndsStarved, EndsWhole, IsEnded, IsUnbegun, MayReplayTell, TellsReplay, TellsSome}
@@ -92,7 +92,7 @@ ran_telling words seen status given is between failed more session ends refusal 
     by_end tells (inr fault) = inr (more fault)
 
 -- the numbers of a session that ended for this reason are those of its status
-numbers_at : (seen : Observed) (given : Given) (sources : List SourceName) (e : RunError) (s : Status) (numbers : Numbers) → IsAnswerTo sources e s → AreNumbersFor e (fixed seen given) seen.has_read seen.kept_after numbers → AreNumbersAt s seen given numbers
+numbers_at : (seen : Observed) (given : Given) (sources : List SourceName) (e : RunError) (s : Status) (numbers : Numbers) → IsAnswerTo sources e s → AreNumbersFor e (run_in seen given) seen.kept_after numbers → AreNumbersAt s seen given numbers
 numbers_at seen given sources running.KeeperFault s numbers is are = subst (λ (s : Status). AreNumbersAt s seen given numbers) (sym is) are
 numbers_at seen given sources running.KeeperRefused s numbers is are = subst (λ (s : Status). AreNumbersAt s seen given numbers) (sym is) are
 numbers_at seen given sources (running.MomentTooLarge moment) s numbers is are = subst (λ (s : Status). AreNumbersAt s seen given numbers) (sym is) are
@@ -107,7 +107,7 @@ numbers_at seen given sources running.NoMemory s numbers is are = subst (λ (s :
 -- a session that ended early
 module _ (words : ReplayWords) (seen : Observed) (given : Given) (is : IsReplayGiven words seen given) (sources : List SourceName) (e : RunError) (answered status : Status) (between : List ℕ) (failed untold : Type 0) (answer : IsAnswerTo sources e answered) (more : failed → seen.status_failed) where
   -- its list wasn't loaded
-  unloaded_may : (e : RunError) (answered status : Status) → IsAnswerTo sources e answered → Stops (fixed seen given) seen.has_read seen.kept_after untold e None → (status ≡ answered) ⊎ (status ≡ OutOfMemory) → MayReplayTell words seen status []
+  unloaded_may : (e : RunError) (answered status : Status) → IsAnswerTo sources e answered → Stops (run_in seen given) seen.kept_after untold e None → (status ≡ answered) ⊎ (status ≡ OutOfMemory) → MayReplayTell words seen status []
   unloaded_may running.KeeperFault answered status answer stops how =
       as_stopped (λ (s : Status). MayReplayTell words seen s []) answered status how (subst (λ (s : Status). MayReplayTell words seen s []) (sym answer) ((given, is), refl)) refl
   unloaded_may running.KeeperRefused answered status answer stops how = absurd stops.0
@@ -120,12 +120,12 @@ module _ (words : ReplayWords) (seen : Observed) (given : Given) (is : IsReplayG
       as_stopped (λ (s : Status). MayReplayTell words seen s []) answered status how (subst (λ (s : Status). MayReplayTell words seen s []) (sym answer) refl) refl
 
   -- the line of its status and the final line
-  ends_as : (numbers : Numbers) → AreNumbersFor e (fixed seen given) seen.has_read seen.kept_after numbers → EndsAs between seen.status_after answered status numbers → EndsWhole seen given status between ⊎ EndsStarved seen status between
+  ends_as : (numbers : Numbers) → AreNumbersFor e (run_in seen given) seen.kept_after numbers → EndsAs between seen.status_after answered status numbers → EndsWhole seen given status between ⊎ EndsStarved seen status between
   ends_as numbers are (inl (same, after)) =
       inl (subst (λ (s : Status). EndsWhole seen given s between) (sym same) (numbers, numbers_at seen given sources e answered numbers answer are, after))
   ends_as numbers are (inr (wanting, after)) = inr (wanting, after)
 
-  pub stopped_telling : (known : Option Numbers) → Stops (fixed seen given) seen.has_read seen.kept_after untold e known → (untold → between ≡ seen.status_before)
+  pub stopped_telling : (known : Option Numbers) → Stops (run_in seen given) seen.kept_after untold e known → (untold → between ≡ seen.status_before)
       → (seen.sink_tells → HasToldSome (fixed seen given) seen.kept_after is.notes seen.status_before between ⊎ seen.status_failed) → (seen.sink_tells → TellsStop failed between seen.status_after answered status known)
       → (status ≡ answered) ⊎ (status ≡ OutOfMemory) → TellsReplay words seen status
   stopped_telling None stops same some told how refusal = inl (record {

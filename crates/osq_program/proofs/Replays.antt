@@ -29,7 +29,7 @@ use Rattle.osq_program.specs.Answers.{Causes, IsCaused, IsDoneStatus, IsSpentSta
 use Rattle.osq_program.specs.Checking.{IsRefusedFor}
 use Rattle.osq_program.specs.Ending.{IsAnswerTo, IsNamedAt}
 use Rattle.osq_program.specs.Reasons.{HasShrunk}
-use Rattle.osq_program.specs.Replaying.{IsAccepted, IsReplayGiven, IsReplay, IsToldBy, Ran, causes_of, fixed}
+use Rattle.osq_program.specs.Replaying.{IsAccepted, IsReplayGiven, IsReplay, IsToldBy, Ran, causes_of, fixed, run_in}
 use Rattle.osq_program.specs.Report.{final_line, refusal_line}
 use Rattle.osq_program.specs.Setups.{setup_in, sources_named}
 use Rattle.osq_program.specs.Observed.{Observed}
@@ -120,7 +120,7 @@ line_cause words seen accepted OutOfMemory caused = tt
 
 -- a run that ended before its session was done
 pub stopped : (words : ReplayWords) (seen : Observed) (s : Status) → IsCaused (causes_of words seen) s
-    → (seen.keeper_tells → ((seen.kept_after ≡ seen.kept_before) × seen.has_read []) ⊎ ((given : Given) × IsReplayGiven words seen given × IsKept (fixed seen given) seen.has_read seen.kept_after))
+    → (seen.keeper_tells → ((seen.kept_after ≡ seen.kept_before) × seen.has_read []) ⊎ ((given : Given) × IsReplayGiven words seen given × IsKept (run_in seen given) seen.kept_after))
     → (seen.sink_tells → ((seen.results_after ≡ seen.results_before) × seen.has_read []) ⊎ ((given : Given) × IsReplayGiven words seen given × IsWritten (fixed seen given) seen.kept_after seen.results_after))
     → IsReplay words seen s
 stopped words seen s caused kept written = record {
@@ -157,7 +157,7 @@ given_is left words seen setup config documents notes objects is bytes configure
 
 -- a session that did all its ticks, and what was then told of it
 module _ (words : ReplayWords) (seen : Observed) (status : Status) (given : Given) (is : IsReplayGiven words seen given) (ended : Ended)
-    (run : HasRun (fixed seen given) seen.has_read words.ticks seen.kept_after seen.results_after ended) (between : List ℕ) (session : seen.sink_tells → HasTold (fixed seen given) seen.kept_after is.notes seen.status_before between) (fit : seen.keeper_tells → Fits (summary seen.kept_before)) where
+    (run : HasRun (run_in seen given) words.ticks seen.kept_after seen.results_after ended) (between : List ℕ) (session : seen.sink_tells → HasTold (fixed seen given) seen.kept_after is.notes seen.status_before between) (fit : seen.keeper_tells → Fits (summary seen.kept_before)) where
   abbrev ran_with : (is_end : Bool) → ended.is_end ≡ is_end → Ran words seen is_end
   ran_with is_end end_is = record { given = given; is = is; ended = ended; end_is = end_is; run = run; fit = fit }
 
@@ -172,7 +172,7 @@ module _ (words : ReplayWords) (seen : Observed) (status : Status) (given : Give
   pub ran : (failed : Type 0) → (failed → seen.status_failed) → (IsDoneStatus status → (ended.is_end ≡ true) × (seen.sink_tells → seen.status_after ≡ between ++ final_line 0 ended.numbers 0))
       → (IsSpentStatus status → (ended.is_end ≡ false) × (seen.sink_tells → (seen.status_after ≡ between ++ (refusal_line TicksSpent ++ final_line 11 ended.numbers 0)) ⊎ failed))
       → (IsRefusal status → IsCaused (record no_causes { sink = failed }) status)
-      → (seen.keeper_tells → IsKept (fixed seen given) seen.has_read seen.kept_after) → (seen.sink_tells → IsWritten (fixed seen given) seen.kept_after seen.results_after) → IsReplay words seen status
+      → (seen.keeper_tells → IsKept (run_in seen given) seen.kept_after) → (seen.sink_tells → IsWritten (fixed seen given) seen.kept_after seen.results_after) → IsReplay words seen status
   ran failed more done spent cause kept written = record {
     done = λ finished.
         let end = done finished in

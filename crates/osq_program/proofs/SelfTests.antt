@@ -13,8 +13,8 @@ use Rattle.program_words.specs.declared.command.ReplayWords.{ReplayWords}
 use Rattle.program_words.specs.Bounds.{RunBounds}
 use Rattle.session_model.specs.Given.{Given}
 use Rattle.replay_rounds.specs.declared.running.Ended.{Ended}
-use Rattle.replay_rounds.specs.Fixed.{Fixed}
-use Rattle.replay_rounds.specs.Running.{HasRun, ReadsAll}
+use Rattle.replay_rounds.specs.Fixed.{Run}
+use Rattle.replay_rounds.specs.Running.{HasRun, ReadsAll, run_by}
 use Rattle.entry_model.specs.declared.entry.Entry.{Entry}
 use Rattle.osq_program.specs.declared.status.Status.{Status}
 use Rattle.osq_program.specs.declared.status.Status.TheVariants.{Ok as Done, SinkFault, OutOfMemory}
@@ -22,13 +22,13 @@ use Rattle.osq_program.specs.Answers.{IsDoneStatus}
 use Rattle.osq_program.specs.Observed.{Observed}
 use Rattle.osq_program.specs.Replaying.{IsReplayGiven}
 use Rattle.osq_program.specs.Report.{IsRefusedAs}
-use Rattle.osq_program.specs.SelfTesting.{HasRunOver, HasTested, IsSelfGiven, IsSelfTest, config_path, document, readings_from, self_fixed, self_key, self_words}
+use Rattle.osq_program.specs.SelfTesting.{HasRunOver, HasTested, IsSelfGiven, IsSelfTest, config_path, document, readings_from, self_fixed, self_key, self_run, self_words}
 use Rattle.osq_program.specs.Setups.{host_in, sources_named}
 use Rattle.osq_program.proofs.Toldings.{as_plain}
 
 -- the same run, told by another property of the readings
-pub read_as : (x : Fixed) (p q : List ℕ → Type 0) (ticks : ℕ) (kept : List Entry) (written : List ℕ) (ended : Ended) → ((readings : List ℕ) → p readings → q readings) → HasRun x p ticks kept written ended → HasRun x q ticks kept written ended
-read_as x p q ticks kept written ended more run =
+pub read_as : (ran : Run) (q : List ℕ → Type 0) (ticks : ℕ) (kept : List Entry) (written : List ℕ) (ended : Ended) → ((readings : List ℕ) → ran.has_read readings → q readings) → HasRun ran ticks kept written ended → HasRun (record ran { has_read = q }) ticks kept written ended
+read_as ran q ticks kept written ended more run =
     record {
       readings = run.readings;
       entries = run.entries;
@@ -92,19 +92,18 @@ readings_are clock (reading ∷ rest) after step (between, (first, next), others
 
 -- from one list to another a session ran over these lines
 pub ran_over : (lines : List ℕ) (count start : ℕ) (before kept after : List Entry) (words : ReplayWords) (clock read : StepClock) (given : Given) (ended : Ended) → IsSelfGiven lines count start given → ended.is_end ≡ true → words ≡ self_words count start → kept ≡ before → clock ≡ record { next = start; step = 60 }
-    → HasRun (self_fixed given kept) (λ readings. ReadsAll steps clock readings read) words.ticks after [] ended → HasRunOver lines count start before after
+    → HasRun (run_by (self_fixed given kept) steps clock read) words.ticks after [] ended → HasRunOver lines count start before after
 ran_over lines count start before kept after words clock read given ended is whole words_is kept_is clock_is run =
-    let p : List ℕ → Type 0 = λ readings. readings ≡ readings_from start (length readings) in
-    let told : HasRun (self_fixed given kept) p words.ticks after [] ended =
-    read_as (self_fixed given kept) (λ readings. ReadsAll steps clock readings read) p words.ticks after [] ended (λ readings reads. readings_are clock readings read (ap (λ (c : StepClock). c.step) clock_is) reads ∙ ap (λ (c : StepClock). readings_from c.next (length readings)) clock_is) run
+    let told : HasRun (self_run given start kept) words.ticks after [] ended =
+    read_as (run_by (self_fixed given kept) steps clock read) (self_run given start kept).has_read words.ticks after [] ended (λ readings reads. readings_are clock readings read (ap (λ (c : StepClock). c.step) clock_is) reads ∙ ap (λ (c : StepClock). readings_from c.next (length readings)) clock_is) run
     in
-    let ticked : HasRun (self_fixed given kept) p (count / 100 + 2) after [] ended = subst (λ (t : ℕ). HasRun (self_fixed given kept) p t after [] ended) (ap (λ (w : ReplayWords). w.ticks) words_is) told in
+    let ticked : HasRun (self_run given start kept) (count / 100 + 2) after [] ended = subst (λ (t : ℕ). HasRun (self_run given start kept) t after [] ended) (ap (λ (w : ReplayWords). w.ticks) words_is) told in
     record {
       given = given;
       is = is;
       ended = ended;
       whole = whole;
-      run = subst (λ (k : List Entry). HasRun (self_fixed given k) p (count / 100 + 2) after [] ended) kept_is ticked;
+      run = subst (λ (k : List Entry). HasRun (self_run given start k) (count / 100 + 2) after [] ended) kept_is ticked;
     }
 
 -- the line of the list that the session left

@@ -12,7 +12,7 @@ use Rattle.session_model.specs.Given.{Source}
 use Rattle.daemon_rounds.specs.declared.setup.Setup.{Setup}
 use Rattle.daemon_rounds.specs.Starting.{source_names}
 use Rattle.replay_rounds.specs.declared.running.Ended.{Ended}
-use Rattle.replay_rounds.specs.Fixed.{Fixed}
+use Rattle.replay_rounds.specs.Fixed.{Run}
 use Rattle.replay_rounds.specs.Running.{HasRun}
 use Rattle.replay_rounds.specs.Sources.{sources_of}
 use Rattle.osq_program.specs.Setups.{setup_in, sources_named}
@@ -55,9 +55,9 @@ setup_distinct setup words is own = subst (λ (s : Setup). IsDistinct bytes_eq (
 pub setup_ticks : (setup : Setup) (words : ReplayWords) → setup ≡ setup_in words → 1 ≤ words.ticks → 1 ≤ setup.ticks
 setup_ticks setup words is some = subst (λ (s : Setup). 1 ≤ s.ticks) (sym is) some
 
-pub for_ticks : (setup : Setup) (words : ReplayWords) (x : Fixed) (has_read : List ℕ → Type 0) (kept : List Entry) (written : List ℕ) (ended : Ended) → setup ≡ setup_in words
-    → HasRun x has_read setup.ticks kept written ended → HasRun x has_read words.ticks kept written ended
-for_ticks setup words x has_read kept written ended is run = subst (λ (s : Setup). HasRun x has_read s.ticks kept written ended) is run
+pub for_ticks : (setup : Setup) (words : ReplayWords) (ran : Run) (kept : List Entry) (written : List ℕ) (ended : Ended) → setup ≡ setup_in words
+    → HasRun ran setup.ticks kept written ended → HasRun ran words.ticks kept written ended
+for_ticks setup words ran kept written ended is run = subst (λ (s : Setup). HasRun ran s.ticks kept written ended) is run
 
 -- the same of the names of these sources
 pub names_distinct : (names sources : List SourceName) → names ≡ sources → AllPairs (λ (a b : SourceName). a.name ≢ b.name) sources → IsDistinct bytes_eq (source_names names)

@@ -7,7 +7,7 @@ use Rattle.entry_model.specs.Summary.{summary}
 use Rattle.program_words.specs.declared.command.ReplayWords.{ReplayWords}
 use Rattle.session_model.specs.Given.{Given}
 use Rattle.replay_rounds.specs.declared.running.Ended.{Ended}
-use Rattle.replay_rounds.specs.Fixed.{Fixed}
+use Rattle.replay_rounds.specs.Fixed.{Fixed, Run}
 use Rattle.replay_rounds.specs.Noting.{HasTold}
 use Rattle.replay_rounds.specs.Running.{HasRun, IsKept, IsWritten}
 use Rattle.replay_rounds.specs.Spent.{RanOutOfNumbers}
@@ -45,13 +45,17 @@ fixed seen given =
       written = seen.results_before;
     }
 
+-- the run that this was
+abbrev pub run_in : Observed → Given → Run
+run_in seen given = record { fixed = fixed seen given; has_read = seen.has_read }
+
 -- All its ticks were run, behind values that a session may go on from: each source is then at its end, or one of them had more.
 pub record Ran (words : ReplayWords) (seen : Observed) (is_end : Bool) : Type 0 where
   pub given : Given
   pub is : IsReplayGiven words seen given
   pub ended : Ended
   pub end_is : ended.is_end ≡ is_end
-  pub run : HasRun (fixed seen given) seen.has_read words.ticks seen.kept_after seen.results_after ended
+  pub run : HasRun (run_in seen given) words.ticks seen.kept_after seen.results_after ended
   pub fit : seen.keeper_tells → Fits (summary seen.kept_before)
 
 -- the clock gave this moment, last of all
@@ -69,7 +73,7 @@ causes_of words seen =
       moment = λ moment. IsAccepted words seen × IsTooLate seen moment;
       source = λ name. IsAccepted words seen × HasFailed words.sources seen name;
       shrank = λ name kept found. IsAccepted words seen × HasShrunk words.sources seen name kept found;
-      numbers = (given : Given) × IsReplayGiven words seen given × RanOutOfNumbers (fixed seen given) seen.has_read seen.kept_after;
+      numbers = (given : Given) × IsReplayGiven words seen given × RanOutOfNumbers (run_in seen given) seen.kept_after;
       sink = IsAccepted words seen × (seen.results_failed ⊎ seen.status_failed);
     }
 
@@ -85,5 +89,5 @@ pub record IsReplay (words : ReplayWords) (seen : Observed) (status : Status) : 
       × (seen.sink_tells → IsToldBy seen ran.given ran.is.notes (refusal_line TicksSpent ++ final_line 11 ran.ended.numbers 0) ⊎ seen.status_failed)
   pub cause : IsRefusal status → IsCaused (causes_of words seen) status
   -- however it ends; where no session was begun, nothing is added and the clock isn't read
-  pub kept : seen.keeper_tells → ((seen.kept_after ≡ seen.kept_before) × seen.has_read []) ⊎ ((given : Given) × IsReplayGiven words seen given × IsKept (fixed seen given) seen.has_read seen.kept_after)
+  pub kept : seen.keeper_tells → ((seen.kept_after ≡ seen.kept_before) × seen.has_read []) ⊎ ((given : Given) × IsReplayGiven words seen given × IsKept (run_in seen given) seen.kept_after)
   pub written : seen.sink_tells → ((seen.results_after ≡ seen.results_before) × seen.has_read []) ⊎ ((given : Given) × IsReplayGiven words seen given × IsWritten (fixed seen given) seen.kept_after seen.results_after)

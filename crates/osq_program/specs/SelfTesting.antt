@@ -12,7 +12,7 @@ use Rattle.program_words.specs.declared.command.GenerateWords.{GenerateWords}
 use Rattle.program_words.specs.declared.command.ReplayWords.{ReplayWords}
 use Rattle.session_model.specs.Given.{Given}
 use Rattle.replay_rounds.specs.declared.running.Ended.{Ended}
-use Rattle.replay_rounds.specs.Fixed.{Fixed}
+use Rattle.replay_rounds.specs.Fixed.{Fixed, Run}
 use Rattle.replay_rounds.specs.Running.{HasRun}
 use Rattle.osq_program.specs.declared.status.Status.{Status}
 use Rattle.osq_program.specs.declared.status.Status.TheVariants.{Ok as Done, SinkFault}
@@ -73,13 +73,17 @@ self_fixed given before =
       written = [];
     }
 
+-- the run of it over a clock that begins at this moment
+abbrev pub self_run : Given → ℕ → List Entry → Run
+self_run given start before = record { fixed = self_fixed given before; has_read = λ readings. readings ≡ readings_from start (length readings) }
+
 -- From one list to another a session ran over these lines, which did all its ticks and read them all.
 pub record HasRunOver (lines : List ℕ) (count start : ℕ) (before after : List Entry) : Type 0 where
   pub given : Given
   pub is : IsSelfGiven lines count start given
   pub ended : Ended
   pub whole : ended.is_end ≡ true
-  pub run : HasRun (self_fixed given before) (λ readings. readings ≡ readings_from start (length readings)) (count / 100 + 2) after [] ended
+  pub run : HasRun (self_run given start before) (count / 100 + 2) after [] ended
 
 -- the line tells the numbers of a list that such a session left, over the generated lines and behind an empty list
 pub record HasTested (w : GenerateWords) (line : List ℕ) : Type 0 where

@@ -14,7 +14,7 @@ use Rattle.osq_program.specs.Answers.{IsRefusal, status_number}
 use Rattle.osq_program.specs.Checking.{HasLines}
 use Rattle.osq_program.specs.Observed.{Observed}
 use Rattle.osq_program.specs.Querying.{HasAnswer, IsPosed}
-use Rattle.osq_program.specs.Replaying.{IsAccepted, IsReplayGiven, fixed}
+use Rattle.osq_program.specs.Replaying.{IsAccepted, IsReplayGiven, fixed, run_in}
 use Rattle.osq_program.specs.Report.{Tells, final_line, refusal_line, unread_line}
 use Rattle.osq_program.specs.Unconfigured.{IsFileOf}
 use Rattle.osq_program.specs.Watching.{IsFileIn}
@@ -99,8 +99,8 @@ pub record IsUnbegun (words : ReplayWords) (seen : Observed) (status : Status) :
 
 -- the numbers in the final line of each status: of the list as it was loaded, as it was before a seal that failed, or as it is
 abbrev pub AreNumbersAt : Status → Observed → Given → Numbers → Type 0
-AreNumbersAt KeeperRefused seen given numbers = AreLoaded (fixed seen given) seen.has_read seen.kept_after numbers
-AreNumbersAt KeeperFault seen given numbers = AreSealed (fixed seen given) seen.has_read seen.kept_after numbers
+AreNumbersAt KeeperRefused seen given numbers = AreLoaded (run_in seen given) seen.kept_after numbers
+AreNumbersAt KeeperFault seen given numbers = AreSealed (run_in seen given) seen.kept_after numbers
 AreNumbersAt status seen given numbers = AreNumbersOf (fixed seen given) seen.kept_after numbers
 
 -- behind these lines there stand that of the status and the final line

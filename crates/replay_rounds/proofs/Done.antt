@@ -13,7 +13,7 @@ use Rattle.session_state.proofs.Dues.{none_due, owed_is}
 use Rattle.replay_rounds.specs.Fixed.{Fixed}
 use Rattle.replay_rounds.specs.Refusals.{numbers_of}
 use Rattle.replay_rounds.specs.Sources.{AreFed, all_over}
-use Rattle.replay_rounds.specs.Running.{HasMore, HasRun, ReadsAll}
+use Rattle.replay_rounds.specs.Running.{HasMore, HasRun, run_by}
 use Rattle.replay_rounds.specs.Standing.{IsReady}
 use Rattle.replay_rounds.specs.declared.refused.Numbers.{Numbers}
 use Rattle.replay_rounds.specs.declared.running.Ended.{Ended}
@@ -42,7 +42,7 @@ module _ {S C : Type 0} (left : S → List ℕ) (x : Fixed) (reads : C → ℕ �
         full = one_full_step x.source_tells left x.given.config.categories x.given.records ticks x.start kept x.given ((x.start ++ ends.before) ++ (Ticked ends.moment ∷ ends.tick.tick.configured)) x.given.sources feeds objects ends.tick.tick.taken sources fed (have tells) ends.tick.full over;
       }
 
-  pub has_run : (ended : Ended) → length (r.added.reading ∷ r.added.readings) ≡ ticks → ended.is_end ≡ all_over feeds → ended.numbers ≡ numbers_of s → HasRun x (λ readings. ReadsAll reads clock readings now) ticks kept written ended
+  pub has_run : (ended : Ended) → length (r.added.reading ∷ r.added.readings) ≡ ticks → ended.is_end ≡ all_over feeds → ended.numbers ≡ numbers_of s → HasRun (run_by x reads clock now) ticks kept written ended
   has_run ended count over numbers = record {
     readings = r.added.reading ∷ r.added.readings;
     entries = r.added.entries;

@@ -29,10 +29,10 @@ use Rattle.daemon_rounds.specs.declared.setup.Setup.{Setup}
 use Rattle.daemon_rounds.proofs.Laters.{AreLater, later_then, round_later, start_later}
 use Rattle.daemon_rounds.proofs.Opened.{opened_goes_on}
 use Rattle.daemon_rounds.specs.declared.turning.Which.TheVariants as which
-use Rattle.replay_rounds.specs.Fixed.{Fixed, fixed_of}
+use Rattle.replay_rounds.specs.Fixed.{Fixed, fixed_with}
 use Rattle.replay_rounds.specs.Noting.{ArePlacesBut, Place, configurations, places_of}
 use Rattle.replay_rounds.specs.OneTick.{HasOneTick, IsOneTick}
-use Rattle.replay_rounds.specs.Running.{IsKept, IsWritten, ReadsAll}
+use Rattle.replay_rounds.specs.Running.{IsKept, IsWritten, ReadsAll, run_by}
 use Rattle.replay_rounds.specs.Refusals.{numbers_of}
 use Rattle.replay_rounds.specs.Sources.{AreFed}
 use Rattle.replay_rounds.specs.Standing.{Standing}
@@ -54,7 +54,7 @@ tick_later tells left faults setup config documents configured_at moment feeds n
 
 module _ {S C : Type 0} (keeper_tells sink_tells tells : Type 0) (left : S → List ℕ) (faults : S → ℕ) (setup : Setup) (config : Config) (documents : List (List ℕ)) (sources : List S) (start : List Entry) (before : List ℕ) (reads : C → ℕ → C → Type 0) (clock : C) where
   abbrev x : Fixed
-  x = fixed_of keeper_tells sink_tells tells left setup config documents sources start before
+  x = fixed_with keeper_tells sink_tells tells left setup config documents sources start before
 
   -- Behind so many ticks: all that they gained is kept and told, and the next one may begin.
   pub record IsLooping (now : C) (rounds : ℕ) (kept : List Entry) (written : List ℕ) (feeds : List Feeding) (objects : List S) (last : ℕ) (s : Kept) : Type 0 where
@@ -158,7 +158,7 @@ module _ {S C : Type 0} (keeper_tells sink_tells tells : Type 0) (left : S → L
         (opening ++ t.own, [], grown ∙ ap (λ (list : List Entry). list ++ settled.tail) (kept_is told) ∙ ap (λ (es : List Entry). start ++ es) tail, omega arith, sym (ap (places_of start) (append-nil (opening ++ t.own)) ∙ first_places t.own settled tail done))
 
     -- what is kept where it isn't done
-    pub kept_first : IsWholeTick tells left faults setup config documents opened_at opened_at kept next feeds nexts objects rests old → keeper_tells → IsKept x (λ readings. ReadsAll reads clock readings now) next
+    pub kept_first : IsWholeTick tells left faults setup config documents opened_at opened_at kept next feeds nexts objects rests old → keeper_tells → IsKept (run_by x reads clock now) next
     kept_first (inl same) told =
         none_kept x (λ readings. ReadsAll reads clock readings now) (o.reading ∷ []) next (now, o.read, refl) (omega arith) (λ tells. same ∙ kept_is tells)
     kept_first (inr (settled, done, grown)) told =
@@ -181,7 +181,7 @@ module _ {S C : Type 0} (keeper_tells sink_tells tells : Type 0) (left : S → L
     more_first (inr (settled, done, grown)) told = (settled.tail, grown ∙ ap (λ (list : List Entry). list ++ settled.tail) (kept_is told))
 
     -- where its seal fails, these numbers are those of the list before
-    pub sealed_first : (numbers : Numbers) → AreNumbersOf x start numbers → (keeper_tells → IsWholeTick tells left faults setup config documents opened_at opened_at kept next feeds nexts objects rests old) → AreSealed x (λ readings. ReadsAll reads clock readings now) next numbers
+    pub sealed_first : (numbers : Numbers) → AreNumbersOf x start numbers → (keeper_tells → IsWholeTick tells left faults setup config documents opened_at opened_at kept next feeds nexts objects rests old) → AreSealed (run_by x reads clock now) next numbers
     sealed_first numbers are whole = record {
       readings = [];
       last = o.reading;
@@ -243,7 +243,7 @@ module _ {S C : Type 0} (keeper_tells sink_tells tells : Type 0) (left : S → L
           have = λ told. subst (λ (steps : ℕ). HaveSteps tells left setup.records steps start x.given.sources nexts rests) (suc-eq-add-one rounds) (more_steps rounds r.entries kept feeds nexts objects rests configured_at moment old tick.settled r.standing tick.done told (l.have told));
         }
 
-    pub kept_on : IsWholeTick tells left faults setup config documents configured_at moment kept next feeds nexts objects rests old → keeper_tells → IsKept x (λ readings. ReadsAll reads clock readings now) next
+    pub kept_on : IsWholeTick tells left faults setup config documents configured_at moment kept next feeds nexts objects rests old → keeper_tells → IsKept (run_by x reads clock now) next
     kept_on (inl same) told =
         still_kept left x reads clock between kept feeds objects configured_at old r read.reading now next read.reads_it same
     kept_on (inr (settled, done, grown)) told =
@@ -311,7 +311,7 @@ module _ {S C : Type 0} (keeper_tells sink_tells tells : Type 0) (left : S → L
     more_on (inl same) = ([], same ∙ sym (append-nil kept))
     more_on (inr (settled, done, grown)) = (settled.tail, grown)
 
-    pub sealed_on : (keeper_tells → IsWholeTick tells left faults setup config documents configured_at moment kept next feeds nexts objects rests old) → AreSealed x (λ readings. ReadsAll reads clock readings now) next (numbers_of old)
+    pub sealed_on : (keeper_tells → IsWholeTick tells left faults setup config documents configured_at moment kept next feeds nexts objects rests old) → AreSealed (run_by x reads clock now) next (numbers_of old)
     sealed_on whole = record {
       readings = r.reading ∷ r.readings;
       last = read.reading;
@@ -326,10 +326,10 @@ module _ {S C : Type 0} (keeper_tells sink_tells tells : Type 0) (left : S → L
 -- what an opening gives: it opens by the list, and the counts of the sources' faults never fell in it
 pub opens_here : {S C : Type 0} (keeper_tells sink_tells tells : Type 0) (left : S → List ℕ) (faults : S → ℕ) (setup : Setup) (config : Config) (documents : List (List ℕ)) (sources : List S) (start : List Entry) (before : List ℕ) (reads : C → ℕ → C → Type 0) (clock now : C) (restored : Restored) (kept : List Entry) (items feeds : List Feeding) (rests : List S) (moment : ℕ) (state : Kept)
     → (keeper_tells → restored ≡ summary start) → (keeper_tells → kept ≡ start) → IsDistinct bytes_eq (source_names setup.sources) → IsOpen tells left faults reads setup config documents restored clock now sources rests moment items state → feeds ≡ items
-    → OpensSession left (fixed_of keeper_tells sink_tells tells left setup config documents sources start before) reads clock now kept feeds rests moment state × AreLater faults sources rests
+    → OpensSession left (fixed_with keeper_tells sink_tells tells left setup config documents sources start before) reads clock now kept feeds rests moment state × AreLater faults sources rests
 opens_here keeper_tells sink_tells tells left faults setup config documents sources start before reads clock now restored kept items feeds rests moment state same kept_is distinct is slice = (
-  subst (λ (fs : List Feeding). OpensSession left (fixed_of keeper_tells sink_tells tells left setup config documents sources start before) reads clock now kept fs rests moment state) (sym slice)
-      (opened_session left faults reads (fixed_of keeper_tells sink_tells tells left setup config documents sources start before) setup config documents restored clock now kept items sources rests moment state refl refl refl refl refl same kept_is distinct is),
+  subst (λ (fs : List Feeding). OpensSession left (fixed_with keeper_tells sink_tells tells left setup config documents sources start before) reads clock now kept fs rests moment state) (sym slice)
+      (opened_session left faults reads (fixed_with keeper_tells sink_tells tells left setup config documents sources start before) setup config documents restored clock now kept items sources rests moment state refl refl refl refl refl same kept_is distinct is),
   later_then faults sources is.between rests (start_later tells left faults is.starts.opened is.started sources is.between is.starts.starts)
       (round_later tells left faults which.Tables setup.records is.started items is.between rests is.opens.begun is.opens.filled is.opens.tables),
 )

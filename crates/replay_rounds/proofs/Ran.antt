@@ -20,7 +20,7 @@ use Rattle.session_state.specs.StateOf.{HasValues}
 use Rattle.daemon_rounds.specs.Telling.{AreLinesOf}
 use Rattle.replay_rounds.specs.Fixed.{Fixed}
 use Rattle.replay_rounds.specs.OneTick.{HasOneTick, IsOneTick}
-use Rattle.replay_rounds.specs.Running.{Grows, IsKept, IsWritten, ReadsAll}
+use Rattle.replay_rounds.specs.Running.{Grows, IsKept, IsWritten, ReadsAll, run_by}
 use Rattle.replay_rounds.specs.Refusals.{numbers_of}
 use Rattle.replay_rounds.specs.Standing.{Standing}
 use Rattle.replay_rounds.specs.Stopping.{AreNumbersOf}
@@ -184,7 +184,7 @@ module _ {S C : Type 0} (left : S → List ℕ) (x : Fixed) (reads : C → ℕ �
     }
 
 -- what is kept where nothing was sealed
-pub none_kept : (x : Fixed) (has_read : List ℕ → Type 0) (readings : List ℕ) (kept : List Entry) → has_read readings → length readings ≤ 1 → (x.keeper_tells → kept ≡ x.start) → IsKept x has_read kept
+pub none_kept : (x : Fixed) (has_read : List ℕ → Type 0) (readings : List ℕ) (kept : List Entry) → has_read readings → length readings ≤ 1 → (x.keeper_tells → kept ≡ x.start) → IsKept (record { fixed = x; has_read = has_read }) kept
 none_kept x has_read readings kept read few same = record {
   readings = [];
   more = readings;
@@ -199,7 +199,7 @@ module _ {S C : Type 0} (left : S → List ℕ) (x : Fixed) (reads : C → ℕ �
   grows = record { grown = all_kept left x r.entries kept feeds objects last s r.standing r.empty; adds = r.session }
 
   -- what is kept behind a tick
-  pub all_is_kept : IsKept x (λ readings. ReadsAll reads clock readings now) kept
+  pub all_is_kept : IsKept (run_by x reads clock now) kept
   all_is_kept = record {
     readings = r.reading ∷ r.readings;
     more = [];
@@ -210,7 +210,7 @@ module _ {S C : Type 0} (left : S → List ℕ) (x : Fixed) (reads : C → ℕ �
   }
 
   -- it is still kept where the next tick isn't, for which the clock was read once more
-  pub still_kept : (reading : ℕ) (after : C) (list : List Entry) → reads now reading after → list ≡ kept → IsKept x (λ readings. ReadsAll reads clock readings after) list
+  pub still_kept : (reading : ℕ) (after : C) (list : List Entry) → reads now reading after → list ≡ kept → IsKept (run_by x reads clock after) list
   still_kept reading after list read same = record {
     readings = r.reading ∷ r.readings;
     more = reading ∷ [];

@@ -18,7 +18,7 @@ use Rattle.daemon_rounds.specs.Starting.{source_names}
 use Rattle.daemon_rounds.specs.Turns.{StillCounts}
 use Rattle.daemon_rounds.specs.declared.setup.Setup.{Setup}
 use Rattle.daemon_rounds.proofs.Counting.{all_count}
-use Rattle.replay_rounds.specs.Fixed.{Fixed, fixed_of}
+use Rattle.replay_rounds.specs.Fixed.{Fixed, fixed_with}
 use Rattle.replay_rounds.specs.Noting.{CountsTo, HasCounted, HasToldSome, HaveCounted, TellsOpened}
 use Rattle.replay_rounds.specs.Sources.{AreFed, IsFed}
 use Rattle.replay_rounds.proofs.Feeds.{fed_lengths}
@@ -113,11 +113,11 @@ counts_now left x entries list feeds objects is fed = record {
 pub told_opening : {S C : Type 0} (keeper_tells sink_tells tells : Type 0) (left : S → List ℕ) (faults : S → ℕ) (setup : Setup) (config : Config) (documents : List (List ℕ)) (sources : List S) (start : List Entry) (before : List ℕ) (reads : C → ℕ → C → Type 0) (clock now : C) (restored : Restored) (kept : List Entry) (rests : List S)
     → (keeper_tells → restored ≡ summary start) → (keeper_tells → kept ≡ start) → IsDistinct bytes_eq (source_names setup.sources) → (left_out was is : List ℕ) (first second : ℕ)
     → TellsOpened tells left faults reads setup config documents restored clock now sources rests was is ⊎ Rose first second
-    → HasToldSome (fixed_of keeper_tells sink_tells tells left setup config documents sources start before) kept left_out was is ⊎ Rose first second
+    → HasToldSome (fixed_with keeper_tells sink_tells tells left setup config documents sources start before) kept left_out was is ⊎ Rose first second
 told_opening keeper_tells sink_tells tells left faults setup config documents sources start before reads clock now restored kept rests same kept_is distinct left_out was is first second (inl (inl none)) =
-    told_none (fixed_of keeper_tells sink_tells tells left setup config documents sources start before) kept left_out was was is first first second [] (λ told. places_still start kept (kept_is told)) (noted_none (fixed_of keeper_tells sink_tells tells left setup config documents sources start before) left_out was) (inl none) (omega arith)
+    told_none (fixed_with keeper_tells sink_tells tells left setup config documents sources start before) kept left_out was was is first first second [] (λ told. places_still start kept (kept_is told)) (noted_none (fixed_with keeper_tells sink_tells tells left setup config documents sources start before) left_out was) (inl none) (omega arith)
 told_opening keeper_tells sink_tells tells left faults setup config documents sources start before reads clock now restored kept rests same kept_is distinct left_out was is first second (inl (inr (moment, feeds, state, opened, skipped))) =
     let o = (opens_here keeper_tells sink_tells tells left faults setup config documents sources start before reads clock now restored kept feeds feeds rests moment state same kept_is distinct opened refl).0 in
-    told_some (fixed_of keeper_tells sink_tells tells left setup config documents sources start before) kept left_out was was is first first second [] feeds
-    (counts_opened left (fixed_of keeper_tells sink_tells tells left setup config documents sources start before) _ kept feeds rests kept_is o.standing.fed) (λ told. places_still start kept (kept_is told)) (noted_none (fixed_of keeper_tells sink_tells tells left setup config documents sources start before) left_out was) (inl (inr skipped)) (omega arith)
+    told_some (fixed_with keeper_tells sink_tells tells left setup config documents sources start before) kept left_out was was is first first second [] feeds
+    (counts_opened left (fixed_with keeper_tells sink_tells tells left setup config documents sources start before) _ kept feeds rests kept_is o.standing.fed) (λ told. places_still start kept (kept_is told)) (noted_none (fixed_with keeper_tells sink_tells tells left setup config documents sources start before) left_out was) (inl (inr skipped)) (omega arith)
 told_opening keeper_tells sink_tells tells left faults setup config documents sources start before reads clock now restored kept rests same kept_is distinct left_out was is first second (inr rose) = inr rose

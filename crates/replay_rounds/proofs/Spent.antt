@@ -27,8 +27,8 @@ use Rattle.daemon_rounds.specs.declared.setup.Setup.{Setup}
 use Rattle.daemon_rounds.specs.declared.turning.Which.TheVariants as which
 use Rattle.daemon_rounds.proofs.Adding.{brings_then}
 use Rattle.daemon_rounds.proofs.Started.{all_going}
-use Rattle.replay_rounds.specs.Fixed.{Fixed, fixed_of}
-use Rattle.replay_rounds.specs.Running.{ReadsAll}
+use Rattle.replay_rounds.specs.Fixed.{Fixed, fixed_with}
+use Rattle.replay_rounds.specs.Running.{run_by}
 use Rattle.replay_rounds.specs.Sources.{AreFed}
 use Rattle.replay_rounds.specs.Spent.{AnswersFront, RanOutOfNumbers, SpendsAt, StepsSpend, TickSpends}
 use Rattle.replay_rounds.specs.Standing.{Standing}
@@ -125,10 +125,10 @@ module _ {S : Type 0} (left : S → List ℕ) (faults : S → ℕ) (x : Fixed) (
 
 module _ {S C : Type 0} (keeper_tells sink_tells tells : Type 0) (left : S → List ℕ) (faults : S → ℕ) (setup : Setup) (config : Config) (documents : List (List ℕ)) (sources : List S) (start : List Entry) (before : List ℕ) (reads : C → ℕ → C → Type 0) (clock : C) where
   abbrev x : Fixed
-  x = fixed_of keeper_tells sink_tells tells left setup config documents sources start before
+  x = fixed_with keeper_tells sink_tells tells left setup config documents sources start before
 
   -- An opening spends no number, since a source of tables gives no event.
-  pub spent_nowhere : (now : C) (reading : ℕ) (restored : Restored) (kept : List Entry) (rests : List S) → reads clock reading now → (keeper_tells → restored ≡ summary start) → (keeper_tells → kept ≡ start) → IsDistinct bytes_eq (source_names setup.sources) → IsOverfull tells left faults setup config restored sources rests → RanOutOfNumbers x (λ readings. ReadsAll reads clock readings now) kept
+  pub spent_nowhere : (now : C) (reading : ℕ) (restored : Restored) (kept : List Entry) (rests : List S) → reads clock reading now → (keeper_tells → restored ≡ summary start) → (keeper_tells → kept ≡ start) → IsDistinct bytes_eq (source_names setup.sources) → IsOverfull tells left faults setup config restored sources rests → RanOutOfNumbers (run_by x reads clock now) kept
   spent_nowhere now reading restored kept rests read same kept_is distinct over = record {
     readings = [];
     reading = reading;
@@ -180,7 +180,7 @@ module _ {S C : Type 0} (keeper_tells sink_tells tells : Type 0) (left : S → L
 
   -- in the first tick
   pub spent_first : (now : C) (kept next : List Entry) (feeds nexts : List Feeding) (objects rests : List S) (opened_at : ℕ) (old new : Kept) → OpensSession left x reads clock now kept feeds objects opened_at old → IsDistinct bytes_eq (names_of feeds) → (keeper_tells → next ≡ start)
-      → SpendsTick tells left faults setup config documents opened_at opened_at feeds nexts objects rests old new → RanOutOfNumbers x (λ readings. ReadsAll reads clock readings now) next
+      → SpendsTick tells left faults setup config documents opened_at opened_at feeds nexts objects rests old new → RanOutOfNumbers (run_by x reads clock now) next
   spent_first now kept next feeds nexts objects rests opened_at old new o distinct same spends = record {
     readings = [];
     reading = o.reading;
@@ -202,7 +202,7 @@ module _ {S C : Type 0} (keeper_tells sink_tells tells : Type 0) (left : S → L
 
   -- in a further tick
   pub spent_on : (between now : C) (kept next : List Entry) (feeds nexts : List Feeding) (objects rests : List S) (configured_at moment : ℕ) (old new : Kept) → IsAdded left x reads clock between kept feeds objects configured_at old → IsDistinct bytes_eq (names_of feeds) → IsRead reads between now old.counts.moment moment → (keeper_tells → next ≡ kept)
-      → SpendsTick tells left faults setup config documents configured_at moment feeds nexts objects rests old new → RanOutOfNumbers x (λ readings. ReadsAll reads clock readings now) next
+      → SpendsTick tells left faults setup config documents configured_at moment feeds nexts objects rests old new → RanOutOfNumbers (run_by x reads clock now) next
   spent_on between now kept next feeds nexts objects rests configured_at moment old new r distinct read same spends = record {
     readings = r.reading ∷ r.readings;
     reading = read.reading;

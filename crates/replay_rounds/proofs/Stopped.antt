@@ -4,7 +4,7 @@ use Rattle.entry_model.specs.declared.entry.Entry.{Entry}
 use Rattle.entry_model.specs.declared.restored.Restored.{Restored}
 use Rattle.entry_model.specs.Summary.{summary}
 use Rattle.session_state.specs.Kept.{Kept}
-use Rattle.replay_rounds.specs.Fixed.{Fixed}
+use Rattle.replay_rounds.specs.Fixed.{Fixed, Run}
 use Rattle.replay_rounds.specs.Noting.{IsBetween}
 use Rattle.replay_rounds.specs.Refusals.{numbers_in, numbers_of, tick_numbers, unloaded_by, unloaded_numbers}
 use Rattle.replay_rounds.specs.Stopping.{AreNumbersFor, AreNumbersOf, AreSealed, HasNumbers, Stops}
@@ -30,28 +30,31 @@ unloaded_refused (loading.KeeperRefused kept) h = (kept, refl)
 unloaded_refused loading.NoMemory h = absurd (cc)
 
 module _ (x : Fixed) (has_read : List ℕ → Type 0) (kept : List Entry) where
+  abbrev ran : Run
+  ran = record { fixed = x; has_read = has_read }
+
   pub loaded_numbers : (restored : Restored) → (x.keeper_tells → restored ≡ summary x.start) → (x.keeper_tells → kept ≡ x.start) → AreNumbersOf x kept (numbers_in restored)
   loaded_numbers restored same kept_is = λ tells legal.
       subst (λ (list : List Entry). HasNumbers list (numbers_in restored)) (sym (kept_is tells)) (summary_numbers restored x.start (same tells))
 
-  unloaded : (untold : Type 0) (e : LoadError) → has_read [] → untold → (x.keeper_tells → (n : Numbers) → e ≡ loading.KeeperRefused n → HasNumbers kept n) → Stops x has_read kept untold (unloaded_by e) (unloaded_numbers e)
+  unloaded : (untold : Type 0) (e : LoadError) → has_read [] → untold → (x.keeper_tells → (n : Numbers) → e ≡ loading.KeeperRefused n → HasNumbers kept n) → Stops ran kept untold (unloaded_by e) (unloaded_numbers e)
   unloaded untold loading.KeeperFault read same numbers = (tt, read, same)
   unloaded untold (loading.KeeperRefused n) read same numbers = (read, λ tells. numbers tells n refl)
   unloaded untold loading.NoMemory read same numbers = (tt, read, same)
 
   -- where the list wasn't loaded, or no session may go on from it
   pub unloaded_stops : (untold : Type 0) (e : LoadError) (refused : Refused) → refused.error ≡ unloaded_by e → refused.numbers ≡ unloaded_numbers e → has_read [] → untold
-      → (x.keeper_tells → (n : Numbers) → e ≡ loading.KeeperRefused n → HasNumbers kept n) → Stops x has_read kept untold refused.error refused.numbers
+      → (x.keeper_tells → (n : Numbers) → e ≡ loading.KeeperRefused n → HasNumbers kept n) → Stops ran kept untold refused.error refused.numbers
   unloaded_stops untold e refused error_is numbers_are read same numbers =
-      subst (λ (error : RunError). Stops x has_read kept untold error refused.numbers) (sym error_is)
-      (subst (λ (known : Option Numbers). Stops x has_read kept untold (unloaded_by e) known) (sym numbers_are) (unloaded untold e read same numbers))
+      subst (λ (error : RunError). Stops ran kept untold error refused.numbers) (sym error_is)
+      (subst (λ (known : Option Numbers). Stops ran kept untold (unloaded_by e) known) (sym numbers_are) (unloaded untold e read same numbers))
 
   -- with numbers
-  pub stops_with : (untold : Type 0) (error : RunError) (known : Option Numbers) (numbers : Numbers) → known ≡ Some numbers → AreNumbersFor error x has_read kept numbers → Stops x has_read kept untold error known
-  stops_with untold error known numbers is are = subst (λ (known : Option Numbers). Stops x has_read kept untold error known) (sym is) are
+  pub stops_with : (untold : Type 0) (error : RunError) (known : Option Numbers) (numbers : Numbers) → known ≡ Some numbers → AreNumbersFor error ran kept numbers → Stops ran kept untold error known
+  stops_with untold error known numbers is are = subst (λ (known : Option Numbers). Stops ran kept untold error known) (sym is) are
 
   -- those of the list, where neither the keeper failed nor its values were refused
-  pub numbers_for : (e : RunError) (numbers : Numbers) → e ≢ run.KeeperFault → e ≢ run.KeeperRefused → AreNumbersOf x kept numbers → AreNumbersFor e x has_read kept numbers
+  pub numbers_for : (e : RunError) (numbers : Numbers) → e ≢ run.KeeperFault → e ≢ run.KeeperRefused → AreNumbersOf x kept numbers → AreNumbersFor e ran kept numbers
   numbers_for run.KeeperFault numbers kept_well loaded are = absurd (kept_well refl)
   numbers_for run.KeeperRefused numbers kept_well loaded are = absurd (loaded refl)
   numbers_for (run.MomentTooLarge moment) numbers kept_well loaded are = are
@@ -62,7 +65,7 @@ module _ (x : Fixed) (has_read : List ℕ → Type 0) (kept : List Entry) where
   numbers_for run.NoMemory numbers kept_well loaded are = are
 
   -- between two ticks
-  pub numbers_between : (late : ℕ → Type 0) (sink : Type 0) (e : RunError) (numbers : Numbers) → IsBetween late sink e → AreNumbersOf x kept numbers → AreNumbersFor e x has_read kept numbers
+  pub numbers_between : (late : ℕ → Type 0) (sink : Type 0) (e : RunError) (numbers : Numbers) → IsBetween late sink e → AreNumbersOf x kept numbers → AreNumbersFor e ran kept numbers
   numbers_between late sink run.KeeperFault numbers is are = absurd is
   numbers_between late sink run.KeeperRefused numbers is are = absurd is
   numbers_between late sink (run.MomentTooLarge moment) numbers is are = are
@@ -73,8 +76,8 @@ module _ (x : Fixed) (has_read : List ℕ → Type 0) (kept : List Entry) where
   numbers_between late sink run.NoMemory numbers is are = are
 
   -- in a tick
-  pub numbers_in_tick : (e : RunError) (sealed : Numbers) (new : Kept) → e ≢ run.KeeperRefused → (e ≡ run.KeeperFault → AreSealed x has_read kept sealed) → (e ≡ run.SinkFault → AreNumbersOf x kept (numbers_of new))
-      → (e ≢ run.KeeperFault → e ≢ run.SinkFault → AreNumbersOf x kept sealed) → AreNumbersFor e x has_read kept (tick_numbers e sealed new)
+  pub numbers_in_tick : (e : RunError) (sealed : Numbers) (new : Kept) → e ≢ run.KeeperRefused → (e ≡ run.KeeperFault → AreSealed ran kept sealed) → (e ≡ run.SinkFault → AreNumbersOf x kept (numbers_of new))
+      → (e ≢ run.KeeperFault → e ≢ run.SinkFault → AreNumbersOf x kept sealed) → AreNumbersFor e ran kept (tick_numbers e sealed new)
   numbers_in_tick run.KeeperFault sealed new loaded before behind none = before refl
   numbers_in_tick run.KeeperRefused sealed new loaded before behind none = absurd (loaded refl)
   numbers_in_tick (run.MomentTooLarge moment) sealed new loaded before behind none = none (λ h. cc) (λ h. cc)
@@ -86,9 +89,9 @@ module _ (x : Fixed) (has_read : List ℕ → Type 0) (kept : List Entry) where
 
   -- the same of a refusal that is answered so
   pub tick_stops : (untold : Type 0) (refused answered : Refused) (sealed : Numbers) (new : Kept) → answered ≡ refused → refused.numbers ≡ Some (tick_numbers refused.error sealed new) → refused.error ≢ run.KeeperRefused
-      → (refused.error ≡ run.KeeperFault → AreSealed x has_read kept sealed)
+      → (refused.error ≡ run.KeeperFault → AreSealed ran kept sealed)
       → (refused.error ≡ run.SinkFault → AreNumbersOf x kept (numbers_of new))
-      → (refused.error ≢ run.KeeperFault → refused.error ≢ run.SinkFault → AreNumbersOf x kept sealed) → Stops x has_read kept untold answered.error answered.numbers
+      → (refused.error ≢ run.KeeperFault → refused.error ≢ run.SinkFault → AreNumbersOf x kept sealed) → Stops ran kept untold answered.error answered.numbers
   tick_stops untold refused answered sealed new same numbers loaded before behind none =
-      subst (λ (r : Refused). Stops x has_read kept untold r.error r.numbers) (sym same)
+      subst (λ (r : Refused). Stops ran kept untold r.error r.numbers) (sym same)
       (stops_with untold refused.error refused.numbers (tick_numbers refused.error sealed new) numbers (numbers_in_tick refused.error sealed new loaded before behind none))

@@ -1,7 +1,11 @@
 -- What stays the same in a session.
 use Rattle.std.specs.Prelude.{ℕ, List}
 use Rattle.osq_config.specs.declared.config.Config.{Config}
+use Rattle.osq_outside.specs.declared.sink.Sink as sink_trait
+use Rattle.osq_outside.specs.declared.source.Source as source_trait
+use Rattle.config_files.specs.declared.configured.Configured.{Configured}
 use Rattle.entry_model.specs.declared.entry.Entry.{Entry}
+use Rattle.batch_keeper.specs.declared.keeper.Keeper as keeper_trait
 use Rattle.session_model.specs.Given.{Given}
 use Rattle.daemon_rounds.specs.declared.setup.Setup.{Setup}
 use Rattle.replay_rounds.specs.Sources.{sources_of}
@@ -15,14 +19,19 @@ pub record Fixed : Type 1 where
   pub start : List Entry
   pub written : List ℕ
 
+-- A run of a session: what stays the same in it, and which readings its clock gave, one after another.
+pub record Run : Type 1 where
+  pub fixed : Fixed
+  pub has_read : List ℕ → Type 0
+
 -- a session of this setup is given this configuration, and of each source what its object has left
 abbrev pub given_of : {S : Type 0} → Setup → Config → List (List ℕ) → (S → List ℕ) → List S → Given
 given_of setup config documents left objects =
     record { host = setup.host; documents = documents; config = config; sources = sources_of left setup.sources objects; records = setup.records }
 
--- what stays the same in a session over these objects
-abbrev pub fixed_of : {S : Type 0} (keeper_tells sink_tells source_tells : Type 0) → (S → List ℕ) → Setup → Config → List (List ℕ) → List S → List Entry → List ℕ → Fixed
-fixed_of keeper_tells sink_tells source_tells left setup config documents objects start written =
+-- what stays the same in a session over objects of which it is known what they tell
+abbrev pub fixed_with : {S : Type 0} (keeper_tells sink_tells source_tells : Type 0) → (S → List ℕ) → Setup → Config → List (List ℕ) → List S → List Entry → List ℕ → Fixed
+fixed_with keeper_tells sink_tells source_tells left setup config documents objects start written =
     record {
       keeper_tells = keeper_tells;
       sink_tells = sink_tells;
@@ -31,3 +40,8 @@ fixed_of keeper_tells sink_tells source_tells left setup config documents object
       start = start;
       written = written;
     }
+
+-- what stays the same in a session over these objects
+abbrev pub fixed_of : {K O S : Type 0} → keeper_trait.Ghosts K → sink_trait.Ghosts O → source_trait.Ghosts S → Setup → Configured → List S → K → O → Fixed
+fixed_of keeper sink source setup configured objects before results =
+    fixed_with keeper.tells sink.tells source.tells source.left setup configured.config configured.documents objects (keeper.kept before) (sink.written results)

@@ -1,5 +1,10 @@
 -- What a run of a session leaves.
 use Rattle.std.specs.Prelude.{◌≡◌, ℕ, ◌≤◌, true, false, All, None, List, [], ◌∷◌, ◌++◌, length, take}
+use Rattle.osq_outside.specs.declared.clock.Clock as clock_trait
+use Rattle.osq_outside.specs.declared.sink.Sink as sink_trait
+use Rattle.osq_outside.specs.declared.source.Source as source_trait
+use Rattle.config_files.specs.declared.configured.Configured.{Configured}
+use Rattle.batch_keeper.specs.declared.keeper.Keeper as keeper_trait
 use Rattle.entry_model.specs.Covered.{Covered}
 use Rattle.entry_model.specs.declared.entry.Entry.{Entry}
 use Rattle.entry_model.specs.declared.entry.Entry.TheVariants.{Ticked}
@@ -12,7 +17,8 @@ use Rattle.session_model.specs.Sessions.{IsSession}
 use Rattle.session_model.specs.Taking.{IsReadWhole}
 use Rattle.session_model.specs.Ticking.{Ticks}
 use Rattle.daemon_rounds.specs.Telling.{AreLinesOf}
-use Rattle.replay_rounds.specs.Fixed.{Fixed}
+use Rattle.daemon_rounds.specs.declared.setup.Setup.{Setup}
+use Rattle.replay_rounds.specs.Fixed.{Fixed, Run, fixed_of}
 use Rattle.replay_rounds.specs.OneTick.{HasOneTick}
 use Rattle.replay_rounds.specs.Sources.{HasFullStep, IsUnended}
 use Rattle.replay_rounds.specs.declared.running.Ended.{Ended}
@@ -21,6 +27,15 @@ use Rattle.replay_rounds.specs.declared.running.Ended.{Ended}
 abbrev pub ReadsAll : {C : Type 0} → (C → ℕ → C → Type 0) → C → List ℕ → C → Type 0
 ReadsAll reads before [] after = after ≡ before
 ReadsAll reads before (reading ∷ rest) after = (between : _) × reads before reading between × ReadsAll reads between rest after
+
+-- the run in which this stays the same, and in which the clock came from one state to another
+abbrev pub run_by : {C : Type 0} → Fixed → (C → ℕ → C → Type 0) → C → C → Run
+run_by x reads clock now = record { fixed = x; has_read = λ readings. ReadsAll reads clock readings now }
+
+-- the run of a session over these objects
+abbrev pub run_of : {K O S C : Type 0} → keeper_trait.Ghosts K → sink_trait.Ghosts O → source_trait.Ghosts S → clock_trait.Ghosts C → Setup → Configured → List S → K → O → C → C → Run
+run_of keeper sink source clock setup configured objects before results first last =
+    run_by (fixed_of keeper sink source setup configured objects before results) clock.reads first last
 
 -- what a run adds at these readings: nothing before the first of them, and else a session; `tells` says whether the sources tell their bytes
 abbrev pub AddsAt : Type 0 → Given → List Entry → List ℕ → List Entry → Type 0
@@ -33,15 +48,14 @@ pub record Grows (x : Fixed) (kept : List Entry) (readings : List ℕ) (entries 
   pub grown : x.keeper_tells → kept ≡ x.start ++ entries
   pub adds : x.keeper_tells → Legal x.start → AddsAt x.source_tells x.given x.start readings entries
 
--- However a run ends, the kept list has grown by a session at the readings of the clock, which may have been read once more. `has_read` says
--- which readings it gave.
-pub record IsKept (x : Fixed) (has_read : List ℕ → Type 0) (kept : List Entry) : Type 0 where
+-- However a run ends, the kept list has grown by a session at the readings of the clock, which may have been read once more.
+pub record IsKept (run : Run) (kept : List Entry) : Type 0 where
   pub readings : List ℕ
   pub more : List ℕ
   pub entries : List Entry
-  pub read : has_read (readings ++ more)
+  pub read : run.has_read (readings ++ more)
   pub few : length more ≤ 1
-  pub grows : Grows x kept readings entries
+  pub grows : Grows run.fixed kept readings entries
 
 -- However it ends, the results have grown by all lines of the entries by which the list has grown up to its last tick, and maybe of that tick too, and
 -- behind them by a front part of the lines of that tick.
@@ -68,19 +82,19 @@ pub record HasMore (x : Fixed) (ticks : ℕ) (kept : List Entry) : Type 0 where
 
 -- All ticks were run: the list has grown by a session of as many, and the results by its lines; nothing is due, and nothing is to expire. Each
 -- source had the bytes that earlier sessions took of it, and either every source was read to behind its last line feed, or one of them had more in the last tick.
-pub record HasRun (x : Fixed) (has_read : List ℕ → Type 0) (ticks : ℕ) (kept : List Entry) (written : List ℕ) (ended : Ended) : Type 0 where
+pub record HasRun (run : Run) (ticks : ℕ) (kept : List Entry) (written : List ℕ) (ended : Ended) : Type 0 where
   pub readings : List ℕ
   pub entries : List Entry
-  pub read : has_read readings
+  pub read : run.has_read readings
   pub count : length readings ≡ ticks
-  pub grows : Grows x kept readings entries
-  pub told : x.sink_tells → (lines : List ℕ) × AreLinesOf x.given.host.identifier form.Event entries lines × (written ≡ x.written ++ lines)
-  pub covered : x.keeper_tells → Legal x.start → Covered kept
-  pub answered : x.keeper_tells → Legal x.start → due_queries kept ≡ []
-  pub settled : x.keeper_tells → Legal x.start → (table : ℕ) → is_evented_table table ≡ true → owed_floor kept table ≡ None
-  pub events : x.keeper_tells → Legal x.start → ended.numbers.events ≡ last_number kept
-  pub batches : x.keeper_tells → Legal x.start → ended.numbers.batches ≡ length (commits kept)
-  pub acknowledged : x.keeper_tells → Legal x.start → ended.numbers.acknowledged ≡ acked_upto kept
-  pub present : x.keeper_tells → x.source_tells → All (λ (source : Source). taken_from x.start source.name ≤ length source.bytes) x.given.sources
-  pub whole : x.keeper_tells → x.source_tells → Legal x.start → ended.is_end ≡ true → All (IsReadWhole x.start kept) x.given.sources
-  pub more : x.keeper_tells → x.source_tells → Legal x.start → ended.is_end ≡ false → HasMore x ticks kept
+  pub grows : Grows run.fixed kept readings entries
+  pub told : run.fixed.sink_tells → (lines : List ℕ) × AreLinesOf run.fixed.given.host.identifier form.Event entries lines × (written ≡ run.fixed.written ++ lines)
+  pub covered : run.fixed.keeper_tells → Legal run.fixed.start → Covered kept
+  pub answered : run.fixed.keeper_tells → Legal run.fixed.start → due_queries kept ≡ []
+  pub settled : run.fixed.keeper_tells → Legal run.fixed.start → (table : ℕ) → is_evented_table table ≡ true → owed_floor kept table ≡ None
+  pub events : run.fixed.keeper_tells → Legal run.fixed.start → ended.numbers.events ≡ last_number kept
+  pub batches : run.fixed.keeper_tells → Legal run.fixed.start → ended.numbers.batches ≡ length (commits kept)
+  pub acknowledged : run.fixed.keeper_tells → Legal run.fixed.start → ended.numbers.acknowledged ≡ acked_upto kept
+  pub present : run.fixed.keeper_tells → run.fixed.source_tells → All (λ (source : Source). taken_from run.fixed.start source.name ≤ length source.bytes) run.fixed.given.sources
+  pub whole : run.fixed.keeper_tells → run.fixed.source_tells → Legal run.fixed.start → ended.is_end ≡ true → All (IsReadWhole run.fixed.start kept) run.fixed.given.sources
+  pub more : run.fixed.keeper_tells → run.fixed.source_tells → Legal run.fixed.start → ended.is_end ≡ false → HasMore run.fixed ticks kept

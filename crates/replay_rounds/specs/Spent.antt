@@ -11,7 +11,7 @@ use Rattle.session_model.specs.Given.{Given, Source}
 use Rattle.session_model.specs.Sessions.{Opens}
 use Rattle.session_model.specs.Taking.{TakesStep, TakesSteps}
 use Rattle.session_model.specs.Ticking.{Answers}
-use Rattle.replay_rounds.specs.Fixed.{Fixed}
+use Rattle.replay_rounds.specs.Fixed.{Run}
 use Rattle.replay_rounds.specs.Running.{Grows}
 
 -- A step of the source behind this list gives these entries, and then one whose events would have numbers beyond 2^62.
@@ -63,12 +63,12 @@ SpendsAt tells given kept (before ∷ readings) reading entries =
 
 -- The list has grown by the ticks at these readings of the clock, and at the next reading a number was spent: behind the list there would be
 -- these entries, up to the place at which no number is left.
-pub record RanOutOfNumbers (x : Fixed) (has_read : List ℕ → Type 0) (kept : List Entry) : Type 0 where
+pub record RanOutOfNumbers (run : Run) (kept : List Entry) : Type 0 where
   pub readings : List ℕ
   pub reading : ℕ
-  pub read : has_read (readings ++ reading ∷ [])
+  pub read : run.has_read (readings ++ reading ∷ [])
   pub added : List Entry
-  pub grows : Grows x kept readings added
+  pub grows : Grows run.fixed kept readings added
   pub entries : List Entry
-  pub legal : x.keeper_tells → Legal x.start → Legal (kept ++ entries)
-  pub spends : x.keeper_tells → x.source_tells → Legal x.start → SpendsAt x.source_tells x.given kept readings reading entries
+  pub legal : run.fixed.keeper_tells → Legal run.fixed.start → Legal (kept ++ entries)
+  pub spends : run.fixed.keeper_tells → run.fixed.source_tells → Legal run.fixed.start → SpendsAt run.fixed.source_tells run.fixed.given kept readings reading entries

@@ -18,7 +18,7 @@ ghost use Rattle.daemon_rounds.specs.Configuring.{found_now};
 ghost use Rattle.replay_rounds.specs.Noting.{HasTold, HasToldSome, IsBetween, IsGrown, IsNotedAgain, skipped_lines};
 ghost use Rattle.daemon_rounds.specs.Ticking.{asks_again};
 ghost use Rattle.replay_rounds.specs.Refusals.{numbers_of};
-ghost use Rattle.replay_rounds.specs.Running.{HasRun, IsKept, IsWritten, ReadsAll};
+ghost use Rattle.replay_rounds.specs.Running.{HasRun, IsKept, IsWritten, ReadsAll, run_of};
 ghost use Rattle.replay_rounds.specs.Sources.{all_over};
 ghost use Rattle.replay_rounds.specs.Spent.{RanOutOfNumbers};
 ghost use Rattle.replay_rounds.specs.Stopping.{Stops};
@@ -142,21 +142,21 @@ pub fn run_session<S: Source, K: Keeper, O: Sink, C: Clock>(
     requires paired { length sources.old ≡ length setup.now.sources }
     requires distinct { IsDistinct bytes_eq (source_names setup.now.sources) }
     requires ticks { 1 ≤ setup.now.ticks }
-    ensures done { IfOk result (λ ended. HasRun (fixed_of K.tells O.tells S.tells S.left setup.now configured.now.config configured.now.documents sources.old (K.kept keeper.old) (O.written results.old)) (λ readings. ReadsAll C.reads clock.old readings clock.new) setup.now.ticks (K.kept keeper.new) (O.written results.new) ended) }
+    ensures done { IfOk result (λ ended. HasRun (run_of K.Keeper O.Sink S.Source C.Clock setup.now configured.now sources.old keeper.old results.old clock.old clock.new) setup.now.ticks (K.kept keeper.new) (O.written results.new) ended) }
     ensures fit { K.tells → IfOk result (λ ended. Fits (summary (K.kept keeper.old))) }
-    ensures stops { IfErr result (λ refused. Stops (fixed_of K.tells O.tells S.tells S.left setup.now configured.now.config configured.now.documents sources.old (K.kept keeper.old) (O.written results.old)) (λ readings. ReadsAll C.reads clock.old readings clock.new) (K.kept keeper.new) (status.new ≡ status.old) refused.error refused.numbers) }
-    ensures kept { K.tells → IsKept (fixed_of K.tells O.tells S.tells S.left setup.now configured.now.config configured.now.documents sources.old (K.kept keeper.old) (O.written results.old)) (λ readings. ReadsAll C.reads clock.old readings clock.new) (K.kept keeper.new) }
-    ensures written { O.tells → IsWritten (fixed_of K.tells O.tells S.tells S.left setup.now configured.now.config configured.now.documents sources.old (K.kept keeper.old) (O.written results.old)) (K.kept keeper.new) (O.written results.new) }
+    ensures stops { IfErr result (λ refused. Stops (run_of K.Keeper O.Sink S.Source C.Clock setup.now configured.now sources.old keeper.old results.old clock.old clock.new) (K.kept keeper.new) (status.new ≡ status.old) refused.error refused.numbers) }
+    ensures kept { K.tells → IsKept (run_of K.Keeper O.Sink S.Source C.Clock setup.now configured.now sources.old keeper.old results.old clock.old clock.new) (K.kept keeper.new) }
+    ensures written { O.tells → IsWritten (fixed_of K.Keeper O.Sink S.Source setup.now configured.now sources.old keeper.old results.old) (K.kept keeper.new) (O.written results.new) }
     ensures keeper_cause { (refused : Refused) → result ≡ Err refused → refused.error ≡ RunError.KeeperFault → Rose (K.faults keeper.old) (K.faults keeper.new) }
     ensures refused { K.tells → (refused : Refused) → result ≡ Err refused → refused.error ≡ RunError.KeeperRefused → ¬ Fits (summary (K.kept keeper.old)) }
     ensures illegal { K.tells → (refused : Refused) → result ≡ Err refused → refused.error ≡ RunError.KeeperRefused → ¬ Legal (K.kept keeper.old) }
     ensures moment { (refused : Refused) (moment : ℕ) → result ≡ Err refused → refused.error ≡ RunError.MomentTooLarge moment → (LAST_MOMENT < moment) × ((readings : List ℕ) × ReadsAll C.reads clock.old (readings ++ moment ∷ []) clock.new) }
     ensures fault { (refused : Refused) (place : ℕ) → result ≡ Err refused → refused.error ≡ RunError.SourceFault place → FailsAt S.faults place sources.old sources.new }
     ensures shrank { (refused : Refused) (place kept found : ℕ) → result ≡ Err refused → refused.error ≡ RunError.SourceShrank place kept found → (taken : List Taken) × (K.tells → taken ≡ (summary (K.kept keeper.old)).taken) × HasShrunk S.tells S.left taken setup.now.sources place kept found sources.old }
-    ensures spent { (refused : Refused) → result ≡ Err refused → refused.error ≡ RunError.NumbersSpent → RanOutOfNumbers (fixed_of K.tells O.tells S.tells S.left setup.now configured.now.config configured.now.documents sources.old (K.kept keeper.old) (O.written results.old)) (λ readings. ReadsAll C.reads clock.old readings clock.new) (K.kept keeper.new) }
+    ensures spent { (refused : Refused) → result ≡ Err refused → refused.error ≡ RunError.NumbersSpent → RanOutOfNumbers (run_of K.Keeper O.Sink S.Source C.Clock setup.now configured.now sources.old keeper.old results.old clock.old clock.new) (K.kept keeper.new) }
     ensures sink_cause { (refused : Refused) → result ≡ Err refused → refused.error ≡ RunError.SinkFault → Rose (O.faults results.old) (O.faults results.new) ⊎ Rose (O.faults status.old) (O.faults status.new) }
-    ensures told { O.tells → IfOk result (λ ended. HasTold (fixed_of K.tells O.tells S.tells S.left setup.now configured.now.config configured.now.documents sources.old (K.kept keeper.old) (O.written results.old)) (K.kept keeper.new) configured.now.notes (O.written status.old) (O.written status.new)) }
-    ensures stops_telling { O.tells → IfErr result (λ refused. HasToldSome (fixed_of K.tells O.tells S.tells S.left setup.now configured.now.config configured.now.documents sources.old (K.kept keeper.old) (O.written results.old)) (K.kept keeper.new) configured.now.notes (O.written status.old) (O.written status.new) ⊎ Rose (O.faults status.old) (O.faults status.new)) }
+    ensures told { O.tells → IfOk result (λ ended. HasTold (fixed_of K.Keeper O.Sink S.Source setup.now configured.now sources.old keeper.old results.old) (K.kept keeper.new) configured.now.notes (O.written status.old) (O.written status.new)) }
+    ensures stops_telling { O.tells → IfErr result (λ refused. HasToldSome (fixed_of K.Keeper O.Sink S.Source setup.now configured.now sources.old keeper.old results.old) (K.kept keeper.new) configured.now.notes (O.written status.old) (O.written status.new) ⊎ Rose (O.faults status.old) (O.faults status.new)) }
     ensures notes { O.tells → IsGrown (O.written status.old) (O.written status.new) }
     ensures later { (K.faults keeper.old ≤ K.faults keeper.new) × (O.faults results.old ≤ O.faults results.new) × (O.faults status.old ≤ O.faults status.new) }
 {

@@ -12,7 +12,7 @@ use Rattle.session_laws.proofs.Ended.{is_end}
 use Rattle.osq_program.specs.declared.status.Status.{Status}
 use Rattle.osq_program.specs.Answers.{IsUsageStatus}
 use Rattle.osq_program.specs.Observed.{Observed}
-use Rattle.osq_program.specs.Replaying.{IsReplay, Ran, causes_of, fixed}
+use Rattle.osq_program.specs.Replaying.{IsReplay, Ran, causes_of, run_in}
 use Rattle.osq_program.specs.Setups.{sources_named}
 use Rattle.run_laws.specs.Laws.{IsComplete}
 use Rattle.run_laws.specs.Ready.{IsReplayReady, NoneFails}
@@ -53,7 +53,7 @@ module _ (words : ReplayWords) (seen : Observed) (bounds : RunBounds words.start
       let some : 1 ≤ ran.given.records = subst (λ (n : ℕ). 1 ≤ n) (sym ran.is.records) bounds.some_records in
       let enough = subst (λ (n : ℕ). All (AreEnough n seen.kept_before words.ticks) ran.given.sources) (sym ran.is.records)
       (subst (All (AreEnough words.records seen.kept_before words.ticks)) (sym sources) ready.ready.enough) in
-      let end = is_end (fixed seen ran.given) seen.has_read words.ticks seen.kept_after seen.results_after ran.ended ran.run ready.ready.keeper_tells ready.ready.source_tells ready.ready.legal some enough in
+      let end = is_end (run_in seen ran.given) words.ticks seen.kept_after seen.results_after ran.ended ran.run ready.ready.keeper_tells ready.ready.source_tells ready.ready.legal some enough in
       true≢false (sym end ∙ ran.end_is)
 
   pub replayed : (status : Status) → IsReplay words seen status → ¬ IsUsageStatus status → IsComplete status

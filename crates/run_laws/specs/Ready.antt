@@ -22,7 +22,7 @@ use Rattle.collect_rounds.specs.Runs.{STEP_BYTES}
 use Rattle.osq_program.specs.Collecting.{stream}
 use Rattle.osq_program.specs.Observed.{Observed}
 use Rattle.osq_program.specs.Querying.{IsPosed, IsQueryGiven}
-use Rattle.osq_program.specs.Replaying.{IsAccepted, IsReplayGiven, fixed}
+use Rattle.osq_program.specs.Replaying.{IsAccepted, IsReplayGiven, run_in}
 use Rattle.osq_program.specs.Setups.{sources_named}
 
 -- no count of an object of the outside rises; that of the link is no matter
@@ -53,7 +53,7 @@ pub record IsReplayReady (words : ReplayWords) (seen : Observed) : Type 0 where
   pub accepted : IsAccepted words seen
   pub ready : AreReady seen words.sources words.records words.ticks
   pub early : (readings : List ℕ) → seen.has_read readings → All (λ (reading : ℕ). reading ≤ LAST_MOMENT) readings
-  pub numbers : (given : Given) → IsReplayGiven words seen given → ¬ RanOutOfNumbers (fixed seen given) seen.has_read seen.kept_after
+  pub numbers : (given : Given) → IsReplayGiven words seen given → ¬ RanOutOfNumbers (run_in seen given) seen.kept_after
 
 -- a question: so are its text and the configuration that it names, if it names one
 pub record IsQueryReady (words : QueryWords) (seen : Observed) : Type 0 where

@@ -14,8 +14,8 @@ use Rattle.entry_model.specs.declared.entry.Entry.TheVariants.{Ticked}
 use Rattle.entry_model.specs.Legal.{Legal}
 use Rattle.entry_model.specs.Values.{taken_from}
 use Rattle.session_model.specs.Given.{Given, Source}
-use Rattle.replay_rounds.specs.Fixed.{Fixed}
-use Rattle.replay_rounds.specs.Running.{HasMore, HasRun, ReadsAll}
+use Rattle.replay_rounds.specs.Fixed.{Fixed, Run}
+use Rattle.replay_rounds.specs.Running.{HasMore, HasRun, run_by}
 use Rattle.replay_rounds.specs.Sources.{HadFullSteps, HasFullStep, IsUnended}
 use Rattle.replay_rounds.specs.declared.running.Ended.{Ended}
 use Rattle.replay_rounds.proofs.Pieces.{few_pieces}
@@ -64,16 +64,16 @@ few_ticks tells given start kept ticks written some more =
     had_few (fixed_by (Unit {0}) (Unit {0}) tells given start written) ticks kept some more
 
 -- a run that isn't at the ends of its sources had too few ticks for one of them
-pub is_end : (x : Fixed) (has_read : List ℕ → Type 0) (ticks : ℕ) (kept : List Entry) (written : List ℕ) (ended : Ended) → HasRun x has_read ticks kept written ended → x.keeper_tells → x.source_tells → Legal x.start → 1 ≤ x.given.records → All (AreEnough x.given.records x.start ticks) x.given.sources → ended.is_end ≡ true
-is_end x has_read ticks kept written ended run kept_told told legal some enough = by_end ended.is_end refl where
+pub is_end : (ran : Run) (ticks : ℕ) (kept : List Entry) (written : List ℕ) (ended : Ended) → HasRun ran ticks kept written ended → ran.fixed.keeper_tells → ran.fixed.source_tells → Legal ran.fixed.start → 1 ≤ ran.fixed.given.records → All (AreEnough ran.fixed.given.records ran.fixed.start ticks) ran.fixed.given.sources → ended.is_end ≡ true
+is_end ran ticks kept written ended run kept_told told legal some enough = by_end ended.is_end refl where
   by_end : (end : Bool) → ended.is_end ≡ end → end ≡ true
   by_end true is = refl
   by_end false is =
-      let had = had_few x ticks kept some (run.more kept_told told legal is) in
+      let had = had_few ran.fixed ticks kept some (run.more kept_told told legal is) in
       let few = had.few in
-      let many = All-contains (AreEnough x.given.records x.start ticks) x.given.sources had.source enough had.among in
+      let many = All-contains (AreEnough ran.fixed.given.records ran.fixed.start ticks) ran.fixed.given.sources had.source enough had.among in
       absurd (omega (arith, few, many))
 
 pub reads_whole : {C : Type 0} (keeper_tells sink_tells source_tells : Type 0) (reads : C → ℕ → C → Type 0) → ReadsWhole keeper_tells sink_tells source_tells reads
 reads_whole keeper_tells sink_tells source_tells reads given start kept before after clock now ticks ended kept_told told legal some run enough =
-    is_end (fixed_by keeper_tells sink_tells source_tells given start before) (λ readings. ReadsAll reads clock readings now) ticks kept after ended run kept_told told legal some enough
+    is_end (run_by (fixed_by keeper_tells sink_tells source_tells given start before) reads clock now) ticks kept after ended run kept_told told legal some enough

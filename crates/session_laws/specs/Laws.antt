@@ -4,7 +4,7 @@ use Rattle.entry_model.specs.declared.entry.Entry.{Entry}
 use Rattle.entry_model.specs.Legal.{Legal}
 use Rattle.session_model.specs.Given.{Given, Source}
 use Rattle.replay_rounds.specs.Fixed.{Fixed}
-use Rattle.replay_rounds.specs.Running.{HasMore, HasRun, ReadsAll}
+use Rattle.replay_rounds.specs.Running.{HasMore, HasRun, run_by}
 use Rattle.replay_rounds.specs.declared.running.Ended.{Ended}
 use Rattle.session_laws.specs.Enough.{AreEnough, enough_for}
 
@@ -27,4 +27,4 @@ FewTicks tells =
 abbrev pub ReadsWhole : {C : Type 0} → Type 0 → Type 0 → Type 0 → (C → ℕ → C → Type 0) → Type 0
 ReadsWhole {C} keeper_tells sink_tells source_tells reads =
     (given : Given) (start kept : List Entry) (before after : List ℕ) (clock now : C) (ticks : ℕ) (ended : Ended) → keeper_tells → source_tells → Legal start → 1 ≤ given.records
-    → HasRun (fixed_by keeper_tells sink_tells source_tells given start before) (λ readings. ReadsAll reads clock readings now) ticks kept after ended → All (AreEnough given.records start ticks) given.sources → ended.is_end ≡ true
+    → HasRun (run_by (fixed_by keeper_tells sink_tells source_tells given start before) reads clock now) ticks kept after ended → All (AreEnough given.records start ticks) given.sources → ended.is_end ≡ true

@@ -51,7 +51,7 @@ returns-in-Ok-run_session-clause-does g c =
     let left = g.S.Source.left in
     let bytes = sym (ap (map left) c.as_mut_slice.ensures.value) in
     let is = given_is left _ _ c.in-Ok-setup_of.setup c.in-Ok.configured.config c.in-Ok.configured.documents c.in-Ok.configured.notes _ c.in-Ok-setup_of.ensures bytes c.in-Ok.ensures.config in
-    ran _ _ _ _ is c.in-Ok-run_session.ended (for_ticks c.in-Ok-setup_of.setup c.args.words.now _ _ _ _ _ c.in-Ok-setup_of.ensures s.done) _ s.told s.fit _
+    ran _ _ _ _ is c.in-Ok-run_session.ended (for_ticks c.in-Ok-setup_of.setup c.args.words.now _ _ _ _ c.in-Ok-setup_of.ensures s.done) _ s.told s.fit _
     (rose_behind _ _ _ s.later.2) c.finish.ensures.done c.finish.ensures.spent c.finish.ensures.cause s.kept s.written
 
 pub answer_to-status-requires-clause-fault : goal.answer_to-status-requires-clause-fault

@@ -12,7 +12,7 @@ use Rattle.daemon_rounds.proofs.Laters.{fails_since}
 use Rattle.replay_rounds.specs.Fixed.{fixed_of}
 use Rattle.replay_rounds.specs.Noting.{IsBetween, places_of}
 use Rattle.replay_rounds.specs.Refusals.{numbers_in, numbers_of}
-use Rattle.replay_rounds.specs.Running.{IsWritten, ReadsAll}
+use Rattle.replay_rounds.specs.Running.{IsWritten, ReadsAll, run_of}
 use Rattle.replay_rounds.specs.Sources.{sources_of}
 use Rattle.replay_rounds.specs.Stopping.{AreNumbersOf, AreSealed, HasNumbers, Stops}
 use Rattle.replay_rounds.specs.declared.refused.Numbers.{Numbers}
@@ -161,7 +161,7 @@ loop-init g c =
       results_later = results_first;
       status_later = c.open_noted.ensures.later;
       noted = c.open_noted.ensures.grown;
-      told = λ tells. noted_so (fixed_of g.K.Keeper.tells g.O.Sink.tells g.S.Source.tells g.S.Source.left c.args.setup.now c.args.configured.now.config c.args.configured.now.documents c.args.sources.now (g.K.Keeper.kept c.args.keeper.now) (g.O.Sink.written c.args.results.now)) c.args.configured.now.notes (g.O.Sink.written c.args.status.now) ((record { list = (g.K.Keeper.kept c.args.keeper.now) ++ (Opened opens.0.number ∷ opens.0.tables); moment = c.in-Ok-open_noted.session.configured_at }) ∷ []) _ _ (counted_first _ _ _ _ _ _ _ _ _ _ _ _ _ c.open_noted.new.clock (g.K.Keeper.kept c.load_values.new.keeper) (g.K.Keeper.kept c.take_tick.new.keeper) (g.O.Sink.written c.take_tick.new.results) c.as_mut_slice-feeds.result.now c.take_tick.new.feeds c.open_noted.new.sources c.take_tick.new.sources c.in-Ok-open_noted.session.configured_at c.in-Ok-open_noted.session.state c.args.configured.now.notes c.requires.configuration opens.0 going kept_is c.in-Ok-take_tick.last c.take_tick.new.state c.in-Ok-take_tick.ensures.done opens.1) (noted_first (fixed_of g.K.Keeper.tells g.O.Sink.tells g.S.Source.tells g.S.Source.left c.args.setup.now c.args.configured.now.config c.args.configured.now.documents c.args.sources.now (g.K.Keeper.kept c.args.keeper.now) (g.O.Sink.written c.args.results.now)) c.args.configured.now.notes (g.O.Sink.written c.args.status.now) (record { list = (g.K.Keeper.kept c.args.keeper.now) ++ (Opened opens.0.number ∷ opens.0.tables); moment = c.in-Ok-open_noted.session.configured_at }) c.in-Ok-open_noted.session.found.items (g.O.Sink.written c.open_noted.new.status) (found_first _ _ _ _ g.S.Source.faults c.args.setup.now _ _ _ _ _ _ _ c.open_noted.new.clock (g.K.Keeper.kept c.load_values.new.keeper) (g.K.Keeper.kept c.take_tick.new.keeper) (g.O.Sink.written c.take_tick.new.results) c.as_mut_slice-feeds.result.now c.take_tick.new.feeds c.open_noted.new.sources c.take_tick.new.sources c.in-Ok-open_noted.session.configured_at c.in-Ok-open_noted.session.state c.args.configured.now.notes c.requires.configuration opens.0 going kept_is c.in-Ok.restored c.in-Ok-open_noted.session.found.items c.in-Ok.ensures.value c.in-Ok-open_noted.ensures.found) (c.in-Ok-open_noted.ensures.noted tells));
+      told = λ tells. noted_so (fixed_of g.K.Keeper g.O.Sink g.S.Source c.args.setup.now c.args.configured.now c.args.sources.now c.args.keeper.now c.args.results.now) c.args.configured.now.notes (g.O.Sink.written c.args.status.now) ((record { list = (g.K.Keeper.kept c.args.keeper.now) ++ (Opened opens.0.number ∷ opens.0.tables); moment = c.in-Ok-open_noted.session.configured_at }) ∷ []) _ _ (counted_first _ _ _ _ _ _ _ _ _ _ _ _ _ c.open_noted.new.clock (g.K.Keeper.kept c.load_values.new.keeper) (g.K.Keeper.kept c.take_tick.new.keeper) (g.O.Sink.written c.take_tick.new.results) c.as_mut_slice-feeds.result.now c.take_tick.new.feeds c.open_noted.new.sources c.take_tick.new.sources c.in-Ok-open_noted.session.configured_at c.in-Ok-open_noted.session.state c.args.configured.now.notes c.requires.configuration opens.0 going kept_is c.in-Ok-take_tick.last c.take_tick.new.state c.in-Ok-take_tick.ensures.done opens.1) (noted_first (fixed_of g.K.Keeper g.O.Sink g.S.Source c.args.setup.now c.args.configured.now c.args.sources.now c.args.keeper.now c.args.results.now) c.args.configured.now.notes (g.O.Sink.written c.args.status.now) (record { list = (g.K.Keeper.kept c.args.keeper.now) ++ (Opened opens.0.number ∷ opens.0.tables); moment = c.in-Ok-open_noted.session.configured_at }) c.in-Ok-open_noted.session.found.items (g.O.Sink.written c.open_noted.new.status) (found_first _ _ _ _ g.S.Source.faults c.args.setup.now _ _ _ _ _ _ _ c.open_noted.new.clock (g.K.Keeper.kept c.load_values.new.keeper) (g.K.Keeper.kept c.take_tick.new.keeper) (g.O.Sink.written c.take_tick.new.results) c.as_mut_slice-feeds.result.now c.take_tick.new.feeds c.open_noted.new.sources c.take_tick.new.sources c.in-Ok-open_noted.session.configured_at c.in-Ok-open_noted.session.state c.args.configured.now.notes c.requires.configuration opens.0 going kept_is c.in-Ok.restored c.in-Ok-open_noted.session.found.items c.in-Ok.ensures.value c.in-Ok-open_noted.ensures.found) (c.in-Ok-open_noted.ensures.noted tells));
     }
 
 pub returns-in-Err-next_moment-clause-kept : goal.returns-in-Err-next_moment-clause-kept
@@ -328,7 +328,7 @@ loop-preserved g c =
       results_later = omega (arith, r, r2);
       status_later = omega (arith, s, noted);
       noted = λ tells. grown_then _ _ _ (c.loop.invariant.noted tells) (c.next_moment.ensures.grown tells);
-      told = λ tells. noted_so (fixed_of g.K.Keeper.tells g.O.Sink.tells g.S.Source.tells g.S.Source.left c.args.setup.now c.args.configured.now.config c.args.configured.now.documents c.args.sources.now (g.K.Keeper.kept c.args.keeper.now) (g.O.Sink.written c.args.results.now)) c.args.configured.now.notes (g.O.Sink.written c.args.status.now) ((places_of (g.K.Keeper.kept c.args.keeper.now) c.loop.invariant.looping.running.added.entries) ++ again_places (asks_again c.args.configured.now.config c.loop.last c.in-Ok-next_moment.moment) (tick_place ((g.K.Keeper.kept c.args.keeper.now) ++ c.loop.invariant.looping.running.added.entries) c.in-Ok-next_moment.moment)) _ _ (counted_on _ _ _ _ _ _ _ _ _ _ _ _ _ c.loop.clock c.next_moment.new.clock c.loop.counter (g.K.Keeper.kept c.loop.keeper) (g.K.Keeper.kept c.take_tick-in-loop.new.keeper) (g.O.Sink.written c.loop.results) c.loop.feeds c.take_tick-in-loop.new.feeds c.loop.sources c.take_tick-in-loop.new.sources c.loop.last c.in-Ok-next_moment.moment c.loop.state c.loop.invariant.looping c.loop.invariant.ready.going c.in-Ok-next_moment.ensures.read (g.O.Sink.written c.take_tick-in-loop.new.results) c.in-Ok-take_tick-2.last c.take_tick-in-loop.new.state c.in-Ok-take_tick-2.ensures.done) (noted_on (fixed_of g.K.Keeper.tells g.O.Sink.tells g.S.Source.tells g.S.Source.left c.args.setup.now c.args.configured.now.config c.args.configured.now.documents c.args.sources.now (g.K.Keeper.kept c.args.keeper.now) (g.O.Sink.written c.args.results.now)) c.args.configured.now.notes (g.O.Sink.written c.args.status.now) (asks_again c.args.configured.now.config c.loop.last c.in-Ok-next_moment.moment) (places_of (g.K.Keeper.kept c.args.keeper.now) c.loop.invariant.looping.running.added.entries) (tick_place ((g.K.Keeper.kept c.args.keeper.now) ++ c.loop.invariant.looping.running.added.entries) c.in-Ok-next_moment.moment) (found_now c.args.configured.now.config c.loop.state c.in-Ok-next_moment.moment) (g.O.Sink.written c.loop.status) (g.O.Sink.written c.next_moment.new.status) (found_on _ _ _ _ _ _ _ _ _ _ _ _ _ c.loop.clock c.next_moment.new.clock c.loop.counter (g.K.Keeper.kept c.loop.keeper) (g.K.Keeper.kept c.take_tick-in-loop.new.keeper) (g.O.Sink.written c.loop.results) c.loop.feeds c.take_tick-in-loop.new.feeds c.loop.sources c.take_tick-in-loop.new.sources c.loop.last c.in-Ok-next_moment.moment c.loop.state c.loop.invariant.looping c.loop.invariant.ready.going c.in-Ok-next_moment.ensures.read c.next_moment.ensures.is) (c.loop.invariant.told tells) (c.in-Ok-next_moment.ensures.noted tells));
+      told = λ tells. noted_so (fixed_of g.K.Keeper g.O.Sink g.S.Source c.args.setup.now c.args.configured.now c.args.sources.now c.args.keeper.now c.args.results.now) c.args.configured.now.notes (g.O.Sink.written c.args.status.now) ((places_of (g.K.Keeper.kept c.args.keeper.now) c.loop.invariant.looping.running.added.entries) ++ again_places (asks_again c.args.configured.now.config c.loop.last c.in-Ok-next_moment.moment) (tick_place ((g.K.Keeper.kept c.args.keeper.now) ++ c.loop.invariant.looping.running.added.entries) c.in-Ok-next_moment.moment)) _ _ (counted_on _ _ _ _ _ _ _ _ _ _ _ _ _ c.loop.clock c.next_moment.new.clock c.loop.counter (g.K.Keeper.kept c.loop.keeper) (g.K.Keeper.kept c.take_tick-in-loop.new.keeper) (g.O.Sink.written c.loop.results) c.loop.feeds c.take_tick-in-loop.new.feeds c.loop.sources c.take_tick-in-loop.new.sources c.loop.last c.in-Ok-next_moment.moment c.loop.state c.loop.invariant.looping c.loop.invariant.ready.going c.in-Ok-next_moment.ensures.read (g.O.Sink.written c.take_tick-in-loop.new.results) c.in-Ok-take_tick-2.last c.take_tick-in-loop.new.state c.in-Ok-take_tick-2.ensures.done) (noted_on (fixed_of g.K.Keeper g.O.Sink g.S.Source c.args.setup.now c.args.configured.now c.args.sources.now c.args.keeper.now c.args.results.now) c.args.configured.now.notes (g.O.Sink.written c.args.status.now) (asks_again c.args.configured.now.config c.loop.last c.in-Ok-next_moment.moment) (places_of (g.K.Keeper.kept c.args.keeper.now) c.loop.invariant.looping.running.added.entries) (tick_place ((g.K.Keeper.kept c.args.keeper.now) ++ c.loop.invariant.looping.running.added.entries) c.in-Ok-next_moment.moment) (found_now c.args.configured.now.config c.loop.state c.in-Ok-next_moment.moment) (g.O.Sink.written c.loop.status) (g.O.Sink.written c.next_moment.new.status) (found_on _ _ _ _ _ _ _ _ _ _ _ _ _ c.loop.clock c.next_moment.new.clock c.loop.counter (g.K.Keeper.kept c.loop.keeper) (g.K.Keeper.kept c.take_tick-in-loop.new.keeper) (g.O.Sink.written c.loop.results) c.loop.feeds c.take_tick-in-loop.new.feeds c.loop.sources c.take_tick-in-loop.new.sources c.loop.last c.in-Ok-next_moment.moment c.loop.state c.loop.invariant.looping c.loop.invariant.ready.going c.in-Ok-next_moment.ensures.read c.next_moment.ensures.is) (c.loop.invariant.told tells) (c.in-Ok-next_moment.ensures.noted tells));
     }
 
 pub returns-clause-done : goal.returns-clause-done
@@ -418,7 +418,7 @@ returns-in-Err-clause-stops_telling g c tells =
       places = [];
       configured = λ told. places_still (g.K.Keeper.kept c.args.keeper.now) (g.K.Keeper.kept c.load_values.new.keeper) (c.in-Err.ensures.same told);
       between = g.O.Sink.written c.args.status.now;
-      noted = noted_none (fixed_of g.K.Keeper.tells g.O.Sink.tells g.S.Source.tells g.S.Source.left c.args.setup.now c.args.configured.now.config c.args.configured.now.documents c.args.sources.now (g.K.Keeper.kept c.args.keeper.now) (g.O.Sink.written c.args.results.now)) c.args.configured.now.notes (g.O.Sink.written c.args.status.now);
+      noted = noted_none (fixed_of g.K.Keeper g.O.Sink g.S.Source c.args.setup.now c.args.configured.now c.args.sources.now c.args.keeper.now c.args.results.now) c.args.configured.now.notes (g.O.Sink.written c.args.status.now);
       skipped = inl refl;
     })
 
@@ -428,7 +428,7 @@ returns-in-Err-open_noted-clause-stops g c =
     let loaded = c.in-Err-open_noted.ensures.loaded in
     stops_with _ (λ readings. ReadsAll g.C.Clock.reads c.args.clock.now readings c.open_noted.new.clock) (g.K.Keeper.kept c.load_values.new.keeper) (c.open_noted.new.status ≡ c.args.status.now) refused.error refused.numbers (numbers_in c.in-Ok.restored) c.in-Err-open_noted.ensures.numbers
     (numbers_for _ (λ readings. ReadsAll g.C.Clock.reads c.args.clock.now readings c.open_noted.new.clock) (g.K.Keeper.kept c.load_values.new.keeper) refused.error (numbers_in c.in-Ok.restored) loaded.0 loaded.1
-    (loaded_numbers (fixed_of g.K.Keeper.tells g.O.Sink.tells g.S.Source.tells g.S.Source.left c.args.setup.now c.args.configured.now.config c.args.configured.now.documents c.args.sources.now (g.K.Keeper.kept c.args.keeper.now) (g.O.Sink.written c.args.results.now)) (λ readings. ReadsAll g.C.Clock.reads c.args.clock.now readings c.open_noted.new.clock) (g.K.Keeper.kept c.load_values.new.keeper) c.in-Ok.restored c.in-Ok.ensures.value c.in-Ok.ensures.same))
+    (loaded_numbers (fixed_of g.K.Keeper g.O.Sink g.S.Source c.args.setup.now c.args.configured.now c.args.sources.now c.args.keeper.now c.args.results.now) (λ readings. ReadsAll g.C.Clock.reads c.args.clock.now readings c.open_noted.new.clock) (g.K.Keeper.kept c.load_values.new.keeper) c.in-Ok.restored c.in-Ok.ensures.value c.in-Ok.ensures.same))
 
 pub returns-in-Err-open_noted-clause-stops_telling : goal.returns-in-Err-open_noted-clause-stops_telling
 returns-in-Err-open_noted-clause-stops_telling g c tells =
@@ -442,13 +442,13 @@ returns-in-Err-take_tick-clause-stops g c =
     let going = subst (λ (feeds : List Feeding). AreGoing c.in-Ok-open_noted.session.state.counts.taken feeds) (sym c.as_mut_slice-feeds.ensures.value) c.in-Ok-open_noted.ensures.going in
     let refused = c.in-Err-take_tick.refused in
     let same : c.numbers_in-sealed.result ≡ numbers_in c.in-Ok.restored = c.numbers_in-sealed.ensures in
-    let loaded = loaded_numbers (fixed_of g.K.Keeper.tells g.O.Sink.tells g.S.Source.tells g.S.Source.left c.args.setup.now c.args.configured.now.config c.args.configured.now.documents c.args.sources.now (g.K.Keeper.kept c.args.keeper.now) (g.O.Sink.written c.args.results.now)) (λ readings. ReadsAll g.C.Clock.reads c.args.clock.now readings c.open_noted.new.clock) (g.K.Keeper.kept c.take_tick.new.keeper) c.in-Ok.restored c.in-Ok.ensures.value in
+    let loaded = loaded_numbers (fixed_of g.K.Keeper g.O.Sink g.S.Source c.args.setup.now c.args.configured.now c.args.sources.now c.args.keeper.now c.args.results.now) (λ readings. ReadsAll g.C.Clock.reads c.args.clock.now readings c.open_noted.new.clock) (g.K.Keeper.kept c.take_tick.new.keeper) c.in-Ok.restored c.in-Ok.ensures.value in
     tick_stops _ (λ readings. ReadsAll g.C.Clock.reads c.args.clock.now readings c.open_noted.new.clock) (g.K.Keeper.kept c.take_tick.new.keeper) (c.told.new.status ≡ c.args.status.now) refused c.told.result c.numbers_in-sealed.result c.take_tick.new.state c.told.ensures.same c.in-Err-take_tick.ensures.numbers
     (c.take_tick.ensures.opened refused c.in-Err-take_tick.is).0
     (λ is. sealed_first _ _ _ _ _ _ _ _ _ _ _ _ _ c.open_noted.new.clock (g.K.Keeper.kept c.load_values.new.keeper) (g.K.Keeper.kept c.take_tick.new.keeper) (g.O.Sink.written c.take_tick.new.results) c.as_mut_slice-feeds.result.now c.take_tick.new.feeds c.open_noted.new.sources c.take_tick.new.sources c.in-Ok-open_noted.session.configured_at c.in-Ok-open_noted.session.state c.args.configured.now.notes c.requires.configuration opens.0 going kept_is c.numbers_in-sealed.result
-    (subst (λ (numbers : Numbers). AreNumbersOf (fixed_of g.K.Keeper.tells g.O.Sink.tells g.S.Source.tells g.S.Source.left c.args.setup.now c.args.configured.now.config c.args.configured.now.documents c.args.sources.now (g.K.Keeper.kept c.args.keeper.now) (g.O.Sink.written c.args.results.now)) (g.K.Keeper.kept c.args.keeper.now) numbers) (sym same) (loaded_numbers (fixed_of g.K.Keeper.tells g.O.Sink.tells g.S.Source.tells g.S.Source.left c.args.setup.now c.args.configured.now.config c.args.configured.now.documents c.args.sources.now (g.K.Keeper.kept c.args.keeper.now) (g.O.Sink.written c.args.results.now)) (λ readings. ReadsAll g.C.Clock.reads c.args.clock.now readings c.open_noted.new.clock) (g.K.Keeper.kept c.args.keeper.now) c.in-Ok.restored c.in-Ok.ensures.value (λ tells. refl))) c.in-Err-take_tick.ensures.kept)
+    (subst (λ (numbers : Numbers). AreNumbersOf (fixed_of g.K.Keeper g.O.Sink g.S.Source c.args.setup.now c.args.configured.now c.args.sources.now c.args.keeper.now c.args.results.now) (g.K.Keeper.kept c.args.keeper.now) numbers) (sym same) (loaded_numbers (fixed_of g.K.Keeper g.O.Sink g.S.Source c.args.setup.now c.args.configured.now c.args.sources.now c.args.keeper.now c.args.results.now) (λ readings. ReadsAll g.C.Clock.reads c.args.clock.now readings c.open_noted.new.clock) (g.K.Keeper.kept c.args.keeper.now) c.in-Ok.restored c.in-Ok.ensures.value (λ tells. refl))) c.in-Err-take_tick.ensures.kept)
     (λ is. numbers_first _ _ _ _ _ _ _ _ _ _ _ _ _ c.open_noted.new.clock (g.K.Keeper.kept c.load_values.new.keeper) (g.K.Keeper.kept c.take_tick.new.keeper) (g.O.Sink.written c.take_tick.new.results) c.as_mut_slice-feeds.result.now c.take_tick.new.feeds c.open_noted.new.sources c.take_tick.new.sources c.in-Ok-open_noted.session.configured_at c.in-Ok-open_noted.session.state c.args.configured.now.notes c.requires.configuration opens.0 going kept_is c.take_tick.new.state (c.take_tick.ensures.sealed refused c.in-Err-take_tick.is is))
-    (λ not_keeper not_sink. subst (λ (numbers : Numbers). AreNumbersOf (fixed_of g.K.Keeper.tells g.O.Sink.tells g.S.Source.tells g.S.Source.left c.args.setup.now c.args.configured.now.config c.args.configured.now.documents c.args.sources.now (g.K.Keeper.kept c.args.keeper.now) (g.O.Sink.written c.args.results.now)) (g.K.Keeper.kept c.take_tick.new.keeper) numbers) (sym same)
+    (λ not_keeper not_sink. subst (λ (numbers : Numbers). AreNumbersOf (fixed_of g.K.Keeper g.O.Sink g.S.Source c.args.setup.now c.args.configured.now c.args.sources.now c.args.keeper.now c.args.results.now) (g.K.Keeper.kept c.take_tick.new.keeper) numbers) (sym same)
     (loaded (λ tells. c.take_tick.ensures.unkept tells refused c.in-Err-take_tick.is not_keeper not_sink ∙ kept_is tells)))
 
 pub returns-in-Err-take_tick-clause-stops_telling : goal.returns-in-Err-take_tick-clause-stops_telling
@@ -458,15 +458,15 @@ returns-in-Err-take_tick-clause-stops_telling g c tells =
     let going = subst (λ (feeds : List Feeding). AreGoing c.in-Ok-open_noted.session.state.counts.taken feeds) (sym c.as_mut_slice-feeds.ensures.value) c.in-Ok-open_noted.ensures.going in
     told_some _ (g.K.Keeper.kept c.take_tick.new.keeper) c.args.configured.now.notes (g.O.Sink.written c.args.status.now) (g.O.Sink.written c.open_noted.new.status) (g.O.Sink.written c.told.new.status) (g.O.Sink.faults c.args.status.now) (g.O.Sink.faults c.open_noted.new.status) (g.O.Sink.faults c.told.new.status)
     ((record { list = (g.K.Keeper.kept c.args.keeper.now) ++ (Opened opens.0.number ∷ opens.0.tables); moment = c.in-Ok-open_noted.session.configured_at }) ∷ []) c.take_tick.new.feeds (counts_first g.S.Source.left _ _ (g.K.Keeper.kept c.take_tick.new.keeper) c.as_mut_slice-feeds.result.now c.take_tick.new.feeds c.open_noted.new.sources (λ told. rest_first _ _ _ _ _ _ _ _ _ _ _ _ _ c.open_noted.new.clock (g.K.Keeper.kept c.load_values.new.keeper) (g.K.Keeper.kept c.take_tick.new.keeper) (g.O.Sink.written c.take_tick.new.results) c.as_mut_slice-feeds.result.now c.take_tick.new.feeds c.open_noted.new.sources c.take_tick.new.sources c.in-Ok-open_noted.session.configured_at c.in-Ok-open_noted.session.state c.args.configured.now.notes c.requires.configuration opens.0 going kept_is (c.in-Err-take_tick.ensures.kept told) told) opens.0.standing.fed c.take_tick.ensures.counts)
-    (λ told. counted_in_first _ _ _ _ _ _ _ _ _ _ _ _ _ c.open_noted.new.clock (g.K.Keeper.kept c.load_values.new.keeper) (g.K.Keeper.kept c.take_tick.new.keeper) (g.O.Sink.written c.take_tick.new.results) c.as_mut_slice-feeds.result.now c.take_tick.new.feeds c.open_noted.new.sources c.take_tick.new.sources c.in-Ok-open_noted.session.configured_at c.in-Ok-open_noted.session.state c.args.configured.now.notes c.requires.configuration opens.0 going kept_is (c.in-Err-take_tick.ensures.kept told) told) (noted_first (fixed_of g.K.Keeper.tells g.O.Sink.tells g.S.Source.tells g.S.Source.left c.args.setup.now c.args.configured.now.config c.args.configured.now.documents c.args.sources.now (g.K.Keeper.kept c.args.keeper.now) (g.O.Sink.written c.args.results.now)) c.args.configured.now.notes (g.O.Sink.written c.args.status.now) (record { list = (g.K.Keeper.kept c.args.keeper.now) ++ (Opened opens.0.number ∷ opens.0.tables); moment = c.in-Ok-open_noted.session.configured_at }) c.in-Ok-open_noted.session.found.items (g.O.Sink.written c.open_noted.new.status) (found_first _ _ _ _ g.S.Source.faults c.args.setup.now _ _ _ _ _ _ _ c.open_noted.new.clock (g.K.Keeper.kept c.load_values.new.keeper) (g.K.Keeper.kept c.take_tick.new.keeper) (g.O.Sink.written c.take_tick.new.results) c.as_mut_slice-feeds.result.now c.take_tick.new.feeds c.open_noted.new.sources c.take_tick.new.sources c.in-Ok-open_noted.session.configured_at c.in-Ok-open_noted.session.state c.args.configured.now.notes c.requires.configuration opens.0 going kept_is c.in-Ok.restored c.in-Ok-open_noted.session.found.items c.in-Ok.ensures.value c.in-Ok-open_noted.ensures.found) (c.in-Ok-open_noted.ensures.noted tells)) (c.told.ensures.skipped tells) c.open_noted.ensures.later
+    (λ told. counted_in_first _ _ _ _ _ _ _ _ _ _ _ _ _ c.open_noted.new.clock (g.K.Keeper.kept c.load_values.new.keeper) (g.K.Keeper.kept c.take_tick.new.keeper) (g.O.Sink.written c.take_tick.new.results) c.as_mut_slice-feeds.result.now c.take_tick.new.feeds c.open_noted.new.sources c.take_tick.new.sources c.in-Ok-open_noted.session.configured_at c.in-Ok-open_noted.session.state c.args.configured.now.notes c.requires.configuration opens.0 going kept_is (c.in-Err-take_tick.ensures.kept told) told) (noted_first (fixed_of g.K.Keeper g.O.Sink g.S.Source c.args.setup.now c.args.configured.now c.args.sources.now c.args.keeper.now c.args.results.now) c.args.configured.now.notes (g.O.Sink.written c.args.status.now) (record { list = (g.K.Keeper.kept c.args.keeper.now) ++ (Opened opens.0.number ∷ opens.0.tables); moment = c.in-Ok-open_noted.session.configured_at }) c.in-Ok-open_noted.session.found.items (g.O.Sink.written c.open_noted.new.status) (found_first _ _ _ _ g.S.Source.faults c.args.setup.now _ _ _ _ _ _ _ c.open_noted.new.clock (g.K.Keeper.kept c.load_values.new.keeper) (g.K.Keeper.kept c.take_tick.new.keeper) (g.O.Sink.written c.take_tick.new.results) c.as_mut_slice-feeds.result.now c.take_tick.new.feeds c.open_noted.new.sources c.take_tick.new.sources c.in-Ok-open_noted.session.configured_at c.in-Ok-open_noted.session.state c.args.configured.now.notes c.requires.configuration opens.0 going kept_is c.in-Ok.restored c.in-Ok-open_noted.session.found.items c.in-Ok.ensures.value c.in-Ok-open_noted.ensures.found) (c.in-Ok-open_noted.ensures.noted tells)) (c.told.ensures.skipped tells) c.open_noted.ensures.later
 
 pub returns-in-Err-next_moment-clause-stops : goal.returns-in-Err-next_moment-clause-stops
 returns-in-Err-next_moment-clause-stops g c =
     let refused = c.in-Err-next_moment.refused in
     let r = c.loop.invariant.looping.running.added in
-    subst (λ (r : Refused). Stops (fixed_of g.K.Keeper.tells g.O.Sink.tells g.S.Source.tells g.S.Source.left c.args.setup.now c.args.configured.now.config c.args.configured.now.documents c.args.sources.now (g.K.Keeper.kept c.args.keeper.now) (g.O.Sink.written c.args.results.now)) (λ readings. ReadsAll g.C.Clock.reads c.args.clock.now readings c.next_moment.new.clock) (g.K.Keeper.kept c.loop.keeper) (c.told-in-Err-next_moment.new.status ≡ c.args.status.now) r.error r.numbers) (sym c.told-in-Err-next_moment.ensures.same)
+    subst (λ (r : Refused). Stops (run_of g.K.Keeper g.O.Sink g.S.Source g.C.Clock c.args.setup.now c.args.configured.now c.args.sources.now c.args.keeper.now c.args.results.now c.args.clock.now c.next_moment.new.clock) (g.K.Keeper.kept c.loop.keeper) (c.told-in-Err-next_moment.new.status ≡ c.args.status.now) r.error r.numbers) (sym c.told-in-Err-next_moment.ensures.same)
     (stops_with _ (λ readings. ReadsAll g.C.Clock.reads c.args.clock.now readings c.next_moment.new.clock) (g.K.Keeper.kept c.loop.keeper) (c.told-in-Err-next_moment.new.status ≡ c.args.status.now) refused.error refused.numbers (numbers_of c.loop.state) c.in-Err-next_moment.ensures.numbers
-    (numbers_between (fixed_of g.K.Keeper.tells g.O.Sink.tells g.S.Source.tells g.S.Source.left c.args.setup.now c.args.configured.now.config c.args.configured.now.documents c.args.sources.now (g.K.Keeper.kept c.args.keeper.now) (g.O.Sink.written c.args.results.now)) (λ readings. ReadsAll g.C.Clock.reads c.args.clock.now readings c.next_moment.new.clock) (g.K.Keeper.kept c.loop.keeper) _ _ refused.error (numbers_of c.loop.state) c.in-Err-next_moment.ensures.cause
+    (numbers_between (fixed_of g.K.Keeper g.O.Sink g.S.Source c.args.setup.now c.args.configured.now c.args.sources.now c.args.keeper.now c.args.results.now) (λ readings. ReadsAll g.C.Clock.reads c.args.clock.now readings c.next_moment.new.clock) (g.K.Keeper.kept c.loop.keeper) _ _ refused.error (numbers_of c.loop.state) c.in-Err-next_moment.ensures.cause
     (numbers_are g.S.Source.left _ r.entries (g.K.Keeper.kept c.loop.keeper) c.loop.feeds c.loop.sources c.loop.last c.loop.state r.standing r.empty)))
 
 pub returns-in-Err-next_moment-clause-stops_telling : goal.returns-in-Err-next_moment-clause-stops_telling
@@ -482,9 +482,9 @@ returns-in-Err-take_tick-2-clause-stops g c =
     let same : c.numbers_of-sealed.result ≡ numbers_of c.loop.state = c.numbers_of-sealed.ensures in
     tick_stops _ (λ readings. ReadsAll g.C.Clock.reads c.args.clock.now readings c.next_moment.new.clock) (g.K.Keeper.kept c.take_tick-in-loop.new.keeper) (c.told-in-Err-take_tick-2.new.status ≡ c.args.status.now) refused c.told-in-Err-take_tick-2.result c.numbers_of-sealed.result c.take_tick-in-loop.new.state c.told-in-Err-take_tick-2.ensures.same c.in-Err-take_tick-2.ensures.numbers
     (c.take_tick-in-loop.ensures.opened refused c.in-Err-take_tick-2.is).0
-    (λ is. subst (λ (numbers : Numbers). AreSealed (fixed_of g.K.Keeper.tells g.O.Sink.tells g.S.Source.tells g.S.Source.left c.args.setup.now c.args.configured.now.config c.args.configured.now.documents c.args.sources.now (g.K.Keeper.kept c.args.keeper.now) (g.O.Sink.written c.args.results.now)) (λ readings. ReadsAll g.C.Clock.reads c.args.clock.now readings c.next_moment.new.clock) (g.K.Keeper.kept c.take_tick-in-loop.new.keeper) numbers) (sym same) (sealed_on _ _ _ _ _ _ _ _ _ _ _ _ _ c.loop.clock c.next_moment.new.clock c.loop.counter (g.K.Keeper.kept c.loop.keeper) (g.K.Keeper.kept c.take_tick-in-loop.new.keeper) (g.O.Sink.written c.loop.results) c.loop.feeds c.take_tick-in-loop.new.feeds c.loop.sources c.take_tick-in-loop.new.sources c.loop.last c.in-Ok-next_moment.moment c.loop.state c.loop.invariant.looping c.loop.invariant.ready.going c.in-Ok-next_moment.ensures.read c.in-Err-take_tick-2.ensures.kept))
+    (λ is. subst (λ (numbers : Numbers). AreSealed (run_of g.K.Keeper g.O.Sink g.S.Source g.C.Clock c.args.setup.now c.args.configured.now c.args.sources.now c.args.keeper.now c.args.results.now c.args.clock.now c.next_moment.new.clock) (g.K.Keeper.kept c.take_tick-in-loop.new.keeper) numbers) (sym same) (sealed_on _ _ _ _ _ _ _ _ _ _ _ _ _ c.loop.clock c.next_moment.new.clock c.loop.counter (g.K.Keeper.kept c.loop.keeper) (g.K.Keeper.kept c.take_tick-in-loop.new.keeper) (g.O.Sink.written c.loop.results) c.loop.feeds c.take_tick-in-loop.new.feeds c.loop.sources c.take_tick-in-loop.new.sources c.loop.last c.in-Ok-next_moment.moment c.loop.state c.loop.invariant.looping c.loop.invariant.ready.going c.in-Ok-next_moment.ensures.read c.in-Err-take_tick-2.ensures.kept))
     (λ is. numbers_on _ _ _ _ _ _ _ _ _ _ _ _ _ c.loop.clock c.next_moment.new.clock c.loop.counter (g.K.Keeper.kept c.loop.keeper) (g.K.Keeper.kept c.take_tick-in-loop.new.keeper) (g.O.Sink.written c.loop.results) c.loop.feeds c.take_tick-in-loop.new.feeds c.loop.sources c.take_tick-in-loop.new.sources c.loop.last c.in-Ok-next_moment.moment c.loop.state c.loop.invariant.looping c.loop.invariant.ready.going c.in-Ok-next_moment.ensures.read c.take_tick-in-loop.new.state (c.take_tick-in-loop.ensures.sealed refused c.in-Err-take_tick-2.is is))
-    (λ not_keeper not_sink. subst (λ (numbers : Numbers). AreNumbersOf (fixed_of g.K.Keeper.tells g.O.Sink.tells g.S.Source.tells g.S.Source.left c.args.setup.now c.args.configured.now.config c.args.configured.now.documents c.args.sources.now (g.K.Keeper.kept c.args.keeper.now) (g.O.Sink.written c.args.results.now)) (g.K.Keeper.kept c.take_tick-in-loop.new.keeper) numbers) (sym same)
+    (λ not_keeper not_sink. subst (λ (numbers : Numbers). AreNumbersOf (fixed_of g.K.Keeper g.O.Sink g.S.Source c.args.setup.now c.args.configured.now c.args.sources.now c.args.keeper.now c.args.results.now) (g.K.Keeper.kept c.take_tick-in-loop.new.keeper) numbers) (sym same)
     (numbers_same _ _ _ _ _ _ _ _ _ _ _ _ _ c.loop.clock c.next_moment.new.clock c.loop.counter (g.K.Keeper.kept c.loop.keeper) (g.K.Keeper.kept c.take_tick-in-loop.new.keeper) (g.O.Sink.written c.loop.results) c.loop.feeds c.take_tick-in-loop.new.feeds c.loop.sources c.take_tick-in-loop.new.sources c.loop.last c.in-Ok-next_moment.moment c.loop.state c.loop.invariant.looping c.loop.invariant.ready.going c.in-Ok-next_moment.ensures.read (λ tells. c.take_tick-in-loop.ensures.unkept tells refused c.in-Err-take_tick-2.is not_keeper not_sink)))
 
 pub returns-in-Err-take_tick-2-clause-stops_telling : goal.returns-in-Err-take_tick-2-clause-stops_telling
@@ -494,7 +494,7 @@ returns-in-Err-take_tick-2-clause-stops_telling g c tells =
     let noted = c.next_moment.ensures.later in
     told_some _ (g.K.Keeper.kept c.take_tick-in-loop.new.keeper) c.args.configured.now.notes (g.O.Sink.written c.args.status.now) (g.O.Sink.written c.next_moment.new.status) (g.O.Sink.written c.told-in-Err-take_tick-2.new.status) (g.O.Sink.faults c.args.status.now) (g.O.Sink.faults c.next_moment.new.status) (g.O.Sink.faults c.told-in-Err-take_tick-2.new.status)
     ((places_of (g.K.Keeper.kept c.args.keeper.now) c.loop.invariant.looping.running.added.entries) ++ again_places (asks_again c.args.configured.now.config c.loop.last c.in-Ok-next_moment.moment) (tick_place ((g.K.Keeper.kept c.args.keeper.now) ++ c.loop.invariant.looping.running.added.entries) c.in-Ok-next_moment.moment)) c.take_tick-in-loop.new.feeds (counts_on g.S.Source.left _ r.entries (g.K.Keeper.kept c.take_tick-in-loop.new.keeper) c.loop.feeds c.take_tick-in-loop.new.feeds c.loop.sources (λ told. more_kept _ _ _ _ _ _ _ _ _ _ _ _ _ c.loop.clock c.next_moment.new.clock c.loop.counter (g.K.Keeper.kept c.loop.keeper) (g.K.Keeper.kept c.take_tick-in-loop.new.keeper) (g.O.Sink.written c.loop.results) c.loop.feeds c.take_tick-in-loop.new.feeds c.loop.sources c.take_tick-in-loop.new.sources c.loop.last c.in-Ok-next_moment.moment c.loop.state c.loop.invariant.looping c.loop.invariant.ready.going c.in-Ok-next_moment.ensures.read (c.in-Err-take_tick-2.ensures.kept told) told) r.standing.fed c.take_tick-in-loop.ensures.counts)
-    (λ told. counted_in _ _ _ _ _ _ _ _ _ _ _ _ _ c.loop.clock c.next_moment.new.clock c.loop.counter (g.K.Keeper.kept c.loop.keeper) (g.K.Keeper.kept c.take_tick-in-loop.new.keeper) (g.O.Sink.written c.loop.results) c.loop.feeds c.take_tick-in-loop.new.feeds c.loop.sources c.take_tick-in-loop.new.sources c.loop.last c.in-Ok-next_moment.moment c.loop.state c.loop.invariant.looping c.loop.invariant.ready.going c.in-Ok-next_moment.ensures.read (c.in-Err-take_tick-2.ensures.kept told) told) (noted_on (fixed_of g.K.Keeper.tells g.O.Sink.tells g.S.Source.tells g.S.Source.left c.args.setup.now c.args.configured.now.config c.args.configured.now.documents c.args.sources.now (g.K.Keeper.kept c.args.keeper.now) (g.O.Sink.written c.args.results.now)) c.args.configured.now.notes (g.O.Sink.written c.args.status.now) (asks_again c.args.configured.now.config c.loop.last c.in-Ok-next_moment.moment) (places_of (g.K.Keeper.kept c.args.keeper.now) c.loop.invariant.looping.running.added.entries) (tick_place ((g.K.Keeper.kept c.args.keeper.now) ++ c.loop.invariant.looping.running.added.entries) c.in-Ok-next_moment.moment) (found_now c.args.configured.now.config c.loop.state c.in-Ok-next_moment.moment) (g.O.Sink.written c.loop.status) (g.O.Sink.written c.next_moment.new.status) (found_on _ _ _ _ _ _ _ _ _ _ _ _ _ c.loop.clock c.next_moment.new.clock c.loop.counter (g.K.Keeper.kept c.loop.keeper) (g.K.Keeper.kept c.take_tick-in-loop.new.keeper) (g.O.Sink.written c.loop.results) c.loop.feeds c.take_tick-in-loop.new.feeds c.loop.sources c.take_tick-in-loop.new.sources c.loop.last c.in-Ok-next_moment.moment c.loop.state c.loop.invariant.looping c.loop.invariant.ready.going c.in-Ok-next_moment.ensures.read c.next_moment.ensures.is) (c.loop.invariant.told tells) (c.in-Ok-next_moment.ensures.noted tells)) (c.told-in-Err-take_tick-2.ensures.skipped tells) (omega (arith, before, noted))
+    (λ told. counted_in _ _ _ _ _ _ _ _ _ _ _ _ _ c.loop.clock c.next_moment.new.clock c.loop.counter (g.K.Keeper.kept c.loop.keeper) (g.K.Keeper.kept c.take_tick-in-loop.new.keeper) (g.O.Sink.written c.loop.results) c.loop.feeds c.take_tick-in-loop.new.feeds c.loop.sources c.take_tick-in-loop.new.sources c.loop.last c.in-Ok-next_moment.moment c.loop.state c.loop.invariant.looping c.loop.invariant.ready.going c.in-Ok-next_moment.ensures.read (c.in-Err-take_tick-2.ensures.kept told) told) (noted_on (fixed_of g.K.Keeper g.O.Sink g.S.Source c.args.setup.now c.args.configured.now c.args.sources.now c.args.keeper.now c.args.results.now) c.args.configured.now.notes (g.O.Sink.written c.args.status.now) (asks_again c.args.configured.now.config c.loop.last c.in-Ok-next_moment.moment) (places_of (g.K.Keeper.kept c.args.keeper.now) c.loop.invariant.looping.running.added.entries) (tick_place ((g.K.Keeper.kept c.args.keeper.now) ++ c.loop.invariant.looping.running.added.entries) c.in-Ok-next_moment.moment) (found_now c.args.configured.now.config c.loop.state c.in-Ok-next_moment.moment) (g.O.Sink.written c.loop.status) (g.O.Sink.written c.next_moment.new.status) (found_on _ _ _ _ _ _ _ _ _ _ _ _ _ c.loop.clock c.next_moment.new.clock c.loop.counter (g.K.Keeper.kept c.loop.keeper) (g.K.Keeper.kept c.take_tick-in-loop.new.keeper) (g.O.Sink.written c.loop.results) c.loop.feeds c.take_tick-in-loop.new.feeds c.loop.sources c.take_tick-in-loop.new.sources c.loop.last c.in-Ok-next_moment.moment c.loop.state c.loop.invariant.looping c.loop.invariant.ready.going c.in-Ok-next_moment.ensures.read c.next_moment.ensures.is) (c.loop.invariant.told tells) (c.in-Ok-next_moment.ensures.noted tells)) (c.told-in-Err-take_tick-2.ensures.skipped tells) (omega (arith, before, noted))
 
 pub returns-clause-stops : goal.returns-clause-stops
 returns-clause-stops g c =

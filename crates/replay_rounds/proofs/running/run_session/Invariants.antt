@@ -16,5 +16,5 @@ invariant-loop g l = record {
   results_later : g.O.Sink.faults l.fn.results ≤ g.O.Sink.faults l.results;
   status_later : g.O.Sink.faults l.fn.status ≤ g.O.Sink.faults l.status;
   noted : g.O.Sink.tells → IsGrown (g.O.Sink.written l.fn.status) (g.O.Sink.written l.status);
-  told : g.O.Sink.tells → HasNoted (fixed_of g.K.Keeper.tells g.O.Sink.tells g.S.Source.tells g.S.Source.left l.setup l.configured.config l.configured.documents l.fn.sources (g.K.Keeper.kept l.fn.keeper) (g.O.Sink.written l.fn.results)) l.configured.notes (places_of (g.K.Keeper.kept l.fn.keeper) looping.running.added.entries) (g.O.Sink.written l.fn.status) (g.O.Sink.written l.status);
+  told : g.O.Sink.tells → HasNoted (fixed_of g.K.Keeper g.O.Sink g.S.Source l.setup l.configured l.fn.sources l.fn.keeper l.fn.results) l.configured.notes (places_of (g.K.Keeper.kept l.fn.keeper) looping.running.added.entries) (g.O.Sink.written l.fn.status) (g.O.Sink.written l.status);
 }
