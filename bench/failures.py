@@ -7,7 +7,7 @@ and writes of one byte. A case is a command over a state of files; its unbroken 
 there are and which statuses came how often; for each run of which something doesn't hold, what. Status 1 where there is one.
 
 What holds of each run: it ends by itself with a status of docs/COMMANDS.md, at want of memory that of the unbroken run or 20, at a short read or write
-that of the unbroken run; at the status of the unbroken run it writes what that one wrote, at every other a front part of it; a status other than that of
+that of the unbroken run, and at one of a store's files maybe 4; at the status of the unbroken run it writes what that one wrote, at every other a front part of it; a status other than that of
 the unbroken run stands in the last lines of standard error, where they could be written. Of a store: it has what the unbroken run's first ticks left in
 it, as `report` says, the results have the lines of all these ticks but the last one's, at least, and no others; and another run takes the rest. Of
 a ledger: it is a front part of that of the unbroken run, each answer stands behind its line, and the same stream given again leaves that run's ledger.
@@ -155,7 +155,8 @@ def cases(bench: Bench):
 def wrong(case: Case, kind: str, ran: Ran) -> str:
     """What doesn't hold of this run, where a call of this kind failed."""
     own = case.whole.status
-    allowed = {own} if kind.startswith("short") else {own, OUT_OF_MEMORY} if kind == "alloc" else {own, *FAULTS}
+    shortened = {own, KEEPER_FAULT} if kind == "short_read" and "--store" in case.words else {own}
+    allowed = shortened if kind.startswith("short") else {own, OUT_OF_MEMORY} if kind == "alloc" else {own, *FAULTS}
     if ran.status not in allowed:
         return f"status {ran.status}: {ran.err[-300:]}"
     if not case.whole.out.startswith(ran.out) or (ran.status == own and ran.out != case.whole.out):
