@@ -25,10 +25,7 @@ fn answered<F: Fn(Global, &mut String, &Json) -> Result<(), NoMemory>>(
 /// Prints each row of standard input behind `> `, and then what `push_answer` writes of it. A row is a line of JSON, as `json_of_line` takes it.
 ///
 /// OutOfMemory where memory is wanting; else what reading or printing is refused with.
-pub fn print_answers<
-    R: Input + Print,
-    F: Fn(Global, &mut String, &Json) -> Result<(), NoMemory>,
->(
+pub fn print_answers<R: Input + Print, F: Fn(Global, &mut String, &Json) -> Result<(), NoMemory>>(
     rt: &R,
     alloc: Global,
     push_answer: F,
