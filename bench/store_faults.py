@@ -1,5 +1,5 @@
 #!/usr/bin/env python3
-"""Runs over stores that can't be opened, read or written, and over one store twice at once.
+"""Runs over stores that can't be opened, read or written or that another hand has changed, and over one store twice at once.
 
 Usage: bench/store_faults.py [PROGRAM], by the built program (default crates/osqd/out/osqd). It asks for the right to mount and to be another user. For each
 case it prints what it is and what came of it; status 1 where something else comes than stands here.
@@ -15,6 +15,7 @@ import tempfile
 TOP = pathlib.Path(__file__).resolve().parent.parent
 CONFIG = '{"schedule":{"all":{"query":"SELECT target_path FROM file_events","interval":60}},"file_paths":{"etc":["/etc/%%"]}}'
 KEEPER_FAULT = 4
+KEEPER_REFUSED = 5
 NOBODY = 65534
 
 
@@ -36,12 +37,12 @@ class Bench:
         run = subprocess.run([self.program, "report", "--store", store], cwd=self.room, capture_output=True, text=True, user=user)
         return run.returncode, run.stdout
 
-    def refused(self, what: str, store: pathlib.Path, user: int | None = None) -> None:
-        """Both commands end with KeeperFault, and the file is as before."""
+    def refused(self, what: str, store: pathlib.Path, user: int | None = None, status: int = KEEPER_FAULT) -> None:
+        """Both commands end with this status, and the file is as before."""
         before = store.read_bytes() if store.is_file() else None
         statuses = (self.replay(store, user=user), self.report(store, user)[0])
         after = store.read_bytes() if store.is_file() else None
-        tell(what, statuses == (KEEPER_FAULT, KEEPER_FAULT) and after == before, f"replay and report end with {statuses}")
+        tell(what, statuses == (status, status) and after == before, f"replay and report end with {statuses}")
 
 
 def tell(what: str, holds: bool, how: str) -> None:
@@ -77,6 +78,24 @@ def unopened(bench: Bench) -> None:
         db.execute("UPDATE kept SET layout = 3")
     db.close()
     bench.refused("a store of another layout", whole)
+
+
+def changed(bench: Bench) -> None:
+    """A store that another hand has changed: what can't be read is a fault, and what no session may go on from is refused."""
+    for what, statement, status in (
+        ("its one row is gone", "DELETE FROM kept", KEEPER_FAULT),
+        ("a list that is cut off", "UPDATE live SET rows = substr(rows, 2)", KEEPER_FAULT),
+        ("an event above the last number", "UPDATE kept SET last = 1", KEEPER_REFUSED),
+        ("fewer batches than a query's last", "UPDATE kept SET batches = 0", KEEPER_REFUSED),
+    ):
+        store = bench.room / "changed.db"
+        for end in ("", "-wal"):
+            pathlib.Path(f"{store}{end}").unlink(missing_ok=True)
+        bench.replay(store)
+        with sqlite3.connect(store) as db:
+            db.execute(statement)
+        db.close()
+        bench.refused(f"changed by another hand: {what}", store, status=status)
 
 
 def without_rights(bench: Bench) -> None:
@@ -137,6 +156,7 @@ def main() -> None:
     with tempfile.TemporaryDirectory() as made:
         bench = Bench(pathlib.Path(made), program)
         unopened(bench)
+        changed(bench)
         without_rights(bench)
         two_runs(bench)
         full_disk(bench)
