@@ -10,4 +10,5 @@ pub mod Reads
 pub mod Rows
 pub mod Sealing
 pub mod Shows
+pub mod Statements
 pub mod Worked

@@ -3,6 +3,7 @@
 ghost use Rattle.std.specs.Prelude.{◌≡◌, [], ◌∷◌, ◌++◌, map, pos, IfOk, OnOk};
 ghost use Rattle.kept_tables.specs.declared.changes.Parameter.TheVariants as given;
 ghost use Rattle.kept_tables.specs.Edits.{change, number};
+ghost use Rattle.kept_tables.specs.Statements.{text_of};
 
 use crate::layout;
 use osq_value::{Bytes, NoMemory, Sequence, Str};
@@ -48,7 +49,9 @@ pub enum Statement {
 
 impl Statement {
     /// Its text.
-    pub fn text(self) -> &'static str {
+    pub fn text(self) -> &'static str
+        ensures { result.now ≡ text_of self }
+    {
         match self {
             Statement::WriteCounts => layout::WRITE_COUNTS,
             Statement::AddConfigured => layout::ADD_CONFIGURED,

@@ -1,6 +1,6 @@
 //! The recorded tables that parts of them make.
 
-ghost use Rattle.std.specs.Prelude.{◌≡◌, ◌++◌, ◌==◌, filter_map, flat_map, option_map, IfOk, OnOk};
+ghost use Rattle.std.specs.Prelude.{◌≡◌, ◌++◌, ◌==◌, flat_map, option_map, IfOk, OnOk};
 ghost use Rattle.std.specs.List.{list_any};
 ghost use Rattle.std.specs.Option.{option_to_list};
 ghost use Rattle.entry_model.specs.Summary.{set_table};
@@ -12,19 +12,6 @@ use crate::values::{byte_at, list_at};
 use entry_model::restored::{SetTable, SetTableList};
 use osq_value::{Copied, NoMemory, Row, RowList, Sequence, TableId};
 use std::alloc::Global;
-
-/// The tables that a source sets whole, in the order of the catalogue.
-const RECORDED: [u8; 9] = [
-    TableId::USERS.0,
-    TableId::GROUPS.0,
-    TableId::USER_GROUPS.0,
-    TableId::PROCESSES.0,
-    TableId::LISTENING_PORTS.0,
-    TableId::SYSTEM_INFO.0,
-    TableId::OS_VERSION.0,
-    TableId::DEB_PACKAGES.0,
-    TableId::LOGGED_IN_USERS.0,
-];
 
 /// A row has some rows of a table.
 impl Shown for SetTable {
@@ -55,22 +42,16 @@ fn recorded_at(row: &Row) -> Option<TableId>
     }
 }
 
-/// The tables that these parts make: each has the rows of its parts, one part behind another.
+/// The tables that these parts make: each has the rows of its parts, one part behind another. The recorded tables lie behind one another in
+/// the catalogue, before the computed ones.
 pub(crate) fn tables_of(alloc: Global, parts: &SetTableList) -> Result<SetTableList, NoMemory>
     ensures { IfOk result (λ tables. tables ≡ tables_in parts.now) }
 {
-    set_among(alloc, &RECORDED, parts.as_slice())
-}
-
-/// Those of these tables that have a part.
-fn set_among(alloc: Global, tables: &[u8], parts: &[SetTable]) -> Result<SetTableList, NoMemory>
-    ensures { IfOk result (λ made. made ≡ filter_map (λ table. set_table table (rows_in table parts.now)) tables.now) }
-{
-    let mut made = Sequence::new(alloc);
-    for table in tables {
-        add_set(alloc, &mut made, *table, parts)?;
+    let mut tables = Sequence::new(alloc);
+    for table in TableId::USERS.0..TableId::TIME.0 {
+        add_set(alloc, &mut tables, table, parts.as_slice())?;
     }
-    Ok(made)
+    Ok(tables)
 }
 
 /// Adds a table, if it has a part.
