@@ -18,6 +18,13 @@ pub(crate) enum Stop {
 }
 
 impl From<Error> for Stop {
+    ghost use Rattle.std.specs.Prelude.{◌≡◌, ◌↔◌};
+    ghost use Rattle.sqlite.specs.declared.error.Error.TheVariants.{SqliteFailure};
+    ghost use Rattle.sqlite.specs.declared.error.ErrorCode.TheVariants as code;
+    ghost use Rattle.keeper_sqlite.specs.declared.stop.Stop.TheVariants as stop;
+
+    ghost from_gives = { λ error why. (why ≡ stop.NoMemory) ↔ (error ≡ SqliteFailure code.OutOfMemory) };
+
     fn from(error: Error) -> Self {
         match error {
             Error::SqliteFailure(ErrorCode::OutOfMemory) => Stop::NoMemory,
@@ -27,6 +34,12 @@ impl From<Error> for Stop {
 }
 
 impl From<TableError> for Stop {
+    ghost use Rattle.std.specs.Prelude.{◌≡◌, ◌↔◌};
+    ghost use Rattle.kept_tables.specs.declared.error.TableError.TheVariants as fault;
+    ghost use Rattle.keeper_sqlite.specs.declared.stop.Stop.TheVariants as stop;
+
+    ghost from_gives = { λ error why. (why ≡ stop.NoMemory) ↔ (error ≡ fault.NoMemory) };
+
     fn from(error: TableError) -> Self {
         match error {
             TableError::NoMemory => Stop::NoMemory,
@@ -36,6 +49,12 @@ impl From<TableError> for Stop {
 }
 
 impl From<KeeperError> for Stop {
+    ghost use Rattle.std.specs.Prelude.{◌≡◌, ◌↔◌};
+    ghost use Rattle.batch_keeper.specs.declared.keeper.KeeperError.TheVariants as refused;
+    ghost use Rattle.keeper_sqlite.specs.declared.stop.Stop.TheVariants as stop;
+
+    ghost from_gives = { λ error why. (why ≡ stop.NoMemory) ↔ (error ≡ refused.NoMemory) };
+
     fn from(error: KeeperError) -> Self {
         match error {
             KeeperError::NoMemory => Stop::NoMemory,
@@ -45,18 +64,33 @@ impl From<KeeperError> for Stop {
 }
 
 impl From<NoMemory> for Stop {
+    ghost use Rattle.std.specs.Prelude.{◌≡◌};
+    ghost use Rattle.keeper_sqlite.specs.declared.stop.Stop.TheVariants as stop;
+
+    ghost from_gives = { λ _ why. why ≡ stop.NoMemory };
+
     fn from(_error: NoMemory) -> Self {
         Stop::NoMemory
     }
 }
 
 impl From<AllocError> for Stop {
+    ghost use Rattle.std.specs.Prelude.{◌≡◌};
+    ghost use Rattle.keeper_sqlite.specs.declared.stop.Stop.TheVariants as stop;
+
+    ghost from_gives = { λ _ why. why ≡ stop.NoMemory };
+
     fn from(_error: AllocError) -> Self {
         Stop::NoMemory
     }
 }
 
 impl<T: Drop> From<AllocFailed<T>> for Stop {
+    ghost use Rattle.std.specs.Prelude.{◌≡◌};
+    ghost use Rattle.keeper_sqlite.specs.declared.stop.Stop.TheVariants as stop;
+
+    ghost from_gives = { λ _ why. why ≡ stop.NoMemory };
+
     fn from(_refused: AllocFailed<T>) -> Self {
         Stop::NoMemory
     }
