@@ -82,14 +82,20 @@ pub fn key_of(alloc: Global, name: &str) -> Result<QueryKey, NoMemory> {
 }
 
 /// A batch without rows of the query of this name.
-fn committed(alloc: Global, name: &str, number: u64, hi: u64) -> Result<Entry, NoMemory> {
+fn committed(
+    alloc: Global,
+    name: &str,
+    number: u64,
+    hi: u64,
+    moment: u64,
+) -> Result<Entry, NoMemory> {
     let batch = Batch {
         number,
         query: key_of(alloc, name)?,
         lo: 0,
         hi,
         cut: 3,
-        moment: 1000,
+        moment,
         rows: RowList::new(alloc),
     };
     Ok(Entry::Committed { batch })
@@ -133,8 +139,9 @@ fn entry_of(alloc: Global, word: &str, at: u64) -> Result<Option<Entry>, NoMemor
         "expired1" => expired(1),
         "expired3" => expired(3),
         "expired2000" => expired(2000),
-        "committed" => committed(alloc, "q", at, 3)?,
-        "answered" => committed(alloc, "r", at, 5)?,
+        "committed" => committed(alloc, "q", at, 3, 1000)?,
+        "recommitted" => committed(alloc, "q", at, 6, 1060)?,
+        "answered" => committed(alloc, "r", at, 5, 1000)?,
         "acked" => Entry::Acked { upto: 1 },
         _ => return Ok(None),
     }))
