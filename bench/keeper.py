@@ -9,6 +9,7 @@ where FOLDER has none it is only written, and nothing is measured.
 """
 
 import math
+import os
 import pathlib
 import shutil
 import subprocess
@@ -18,10 +19,15 @@ import tempfile
 TOP = pathlib.Path(__file__).resolve().parent.parent
 NAME = "keeper_bench"
 USES = "osq_value pack_rules entry_model batch_keeper keeper_sqlite"
+# How the names of a database's files end.
+ENDS = ("", "-wal", "-shm")
+# How many seals are made to tell the time of one.
+SEALS = 500
 
 PROGRAM = """\
 //! Makes seals, `keeper_bench PATH SEALS EVENTS BATCHES ROWS IS_ACKED`: so many, each of so many events and batches of so many rows. Where
-//! IS_ACKED is 1, each acknowledges the batches of those before. It loads first, and prints how many batches and live events it loads.
+//! IS_ACKED is 1, each acknowledges the batches of those before. It loads first, prints how many batches and live events it loads, and begins
+//! with the seals once standard input has ended.
 #![tactic(auto)]
 
 use batch_keeper::{Keeper, KeeperError};
@@ -103,20 +109,27 @@ fn tick(alloc: Global, before: u64, words: &[u64; 5]) -> Result<EntryList, NoMem
     Ok(entries)
 }
 
-/// Loads, makes the seals, and answers how many batches and live events it loaded.
-fn run(
+/// Makes the seals behind so many batches.
+fn seal_all(
     alloc: Global,
     keeper: &mut SqliteKeeper,
+    batches: u64,
     words: &[u64; 5],
-) -> Result<(u64, usize), KeeperError> {
-    let restored = keeper.load(alloc)?;
-    let mut before = restored.batches;
+) -> Result<(), KeeperError> {
+    let mut before = batches;
     for _ in 0..words[0] {
         let entries = tick(alloc, before, words)?;
         keeper.seal(alloc, &entries)?;
         before = before.saturating_add(words[2]);
     }
-    Ok((restored.batches, restored.live.len()))
+    Ok(())
+}
+
+fn wait(rt: &HostRuntime, alloc: Global) -> io::Result<()> {
+    for line in rt.lines(alloc) {
+        line?;
+    }
+    Ok(())
 }
 
 fn main(rt: HostRuntime) -> io::Result<()> {
@@ -136,9 +149,15 @@ fn main(rt: HostRuntime) -> io::Result<()> {
         Err(_) => return Err(io::Error::from(ErrorKind::OutOfMemory)),
     };
     let mut keeper = SqliteKeeper::new(rt, path);
-    match run(alloc, &mut keeper, &words) {
-        Ok((batches, live)) => println!(&rt; "{batches} {live}"),
-        Err(_) => Err(io::Error::other("the keeper refused")),
+    let (batches, live) = match keeper.load(alloc) {
+        Ok(restored) => (restored.batches, restored.live.len()),
+        Err(_) => return Err(io::Error::other("no load")),
+    };
+    println!(&rt; "{batches} {live}")?;
+    wait(&rt, alloc)?;
+    match seal_all(alloc, &mut keeper, batches, &words) {
+        Ok(()) => Ok(()),
+        Err(_) => Err(io::Error::other("no seal")),
     }
 }
 """
@@ -172,7 +191,8 @@ for table, at, numbers, texts in db.execute(sql("LIVE")):
     live += zip(json.loads(numbers), json.loads(texts))
 for name in ("TAKEN", "SET", "RUNS"):
     db.execute(sql(name)).fetchall()
-print(made, len(live))
+print(made, len(live), flush=True)
+sys.stdin.read()
 for _ in range(seals):
     before = made
     db.execute("BEGIN IMMEDIATE")
@@ -246,29 +266,47 @@ class Bench:
         same.write_text(SAME)
         layout = TOP / "crates" / "kept_tables" / "src" / "layout.rt"
         self.commands = {"ours": [program], "python": [sys.executable, str(same), str(layout)]}
-        self.idle = {who: self.timed(who, self.path(who, "idle"), (0, 0, 0, 0, 0)) for who in self.commands}
+        self.idle = {who: sum(self.timed(who, self.path(who, "idle"), (0, 0, 0, 0, 0))) for who in self.commands}
 
     def path(self, who: str, name: str) -> pathlib.Path:
         return self.folder / f"{who}-{name}.db"
 
-    def timed(self, who: str, path: pathlib.Path, words: tuple) -> float:
-        """The processor time of one run."""
-        told = self.folder / "time"
+    def timed(self, who: str, path: pathlib.Path, words: tuple) -> tuple[float, float]:
+        """The processor time of one run until it has loaded, and of its seals."""
         command = [*self.commands[who], str(path), *(str(word) for word in words)]
-        subprocess.run(["/usr/bin/time", "-o", str(told), "-f", "%U %S", *command], check=True, stdout=subprocess.DEVNULL)
-        return sum(float(word) for word in told.read_text().split())
+        run = subprocess.Popen(command, stdin=subprocess.PIPE, stdout=subprocess.PIPE)
+        run.stdout.readline()
+        # It waits now for its input to end.
+        load = int(pathlib.Path(f"/proc/{run.pid}/schedstat").read_text().split()[0]) / 1e9
+        run.stdin.close()
+        _, status, used = os.wait4(run.pid, 0)
+        if status != 0:
+            sys.exit(f"{command} ends with {status}")
+        return load, used.ru_utime + used.ru_stime - load
 
     def least(self, who: str, name: str, words: tuple, setup: list[tuple]) -> float:
         """The least time of some runs, each over files that were set up anew."""
         least = float("inf")
         for _ in range(self.rounds):
             path = self.path(who, name)
-            for end in ("", "-wal", "-shm"):
+            for end in ENDS:
                 pathlib.Path(f"{path}{end}").unlink(missing_ok=True)
             for words_before in setup:
                 self.timed(who, path, words_before)
-            least = min(least, self.timed(who, path, words))
+            least = min(least, sum(self.timed(who, path, words)))
         return max(least - self.idle[who], 0.001)
+
+    def seal_behind(self, batches: int) -> float:
+        """The time of a seal of one batch behind so many, over copies of one file."""
+        grown, copy = self.path("ours", f"behind-{batches}"), self.path("ours", "copy")
+        self.timed("ours", grown, (batches // 1000, 0, 1000, 5, 0))
+        least = float("inf")
+        for _ in range(self.rounds):
+            for end in ENDS:
+                if (whole := pathlib.Path(f"{grown}{end}")).exists():
+                    shutil.copy(whole, f"{copy}{end}")
+            least = min(least, self.timed("ours", copy, (SEALS, 0, 1, 5, 0))[1])
+        return least / SEALS
 
     def compare(self, what: str, words: tuple, setup: list[tuple], goal: str) -> float:
         ours = self.least("ours", "file", words, setup)
@@ -288,12 +326,9 @@ def measure_all(folder: pathlib.Path, rounds: int, program: str) -> None:
     bench.compare("the same, acknowledged", acked, [], "")
     bench.compare("a start, 50000 live, 10^5 acknowledged", (0, 0, 0, 0, 0), [live, acked], "goal: ours at most 0.5 s")
     bench.compare("a start, 10^5 batches not acknowledged", (0, 0, 0, 0, 0), [kept], "goal: ours at most 2 s")
-    seals = (20, 0, 10, 5, 0)
-    start = (0, 0, 0, 0, 0)
-    small = bench.least("ours", "file", seals, [(1, 0, 1000, 5, 0)]) - bench.least("ours", "file", start, [(1, 0, 1000, 5, 0)])
-    large = bench.least("ours", "file", seals, [kept]) - bench.least("ours", "file", start, [kept])
-    exponent = math.log(max(large, 0.001) / max(small, 0.001)) / math.log(100)
-    print(f"20 seals of 10 batches behind 10^3 and 10^5  {small:.3f} s and {large:.3f} s: exponent {exponent:.2f} (goal: at most 0.1)")
+    small, large = (bench.seal_behind(batches) for batches in (1000, 100000))
+    exponent = math.log(large / small) / math.log(100)
+    print(f"a seal of a batch behind 10^3 and 10^5        {small * 1000:.3f} ms and {large * 1000:.3f} ms: exponent {exponent:.2f} (goal: at most 0.1)")
 
 
 def main() -> None:
