@@ -253,7 +253,8 @@ def write_program(folder: pathlib.Path) -> pathlib.Path:
 def build(folder: pathlib.Path) -> str:
     """Proves and builds the program, which runs once."""
     program = write_program(folder)
-    built = subprocess.run(["rt", "run", "--", str(folder / "built.db")], cwd=program, capture_output=True, text=True)
+    words = ["rt", "run", "--", str(folder / "built.db")]
+    built = subprocess.run(words, cwd=program, stdin=subprocess.DEVNULL, capture_output=True, text=True)
     if built.returncode != 0:
         sys.exit(built.stdout + built.stderr)
     return str(program / "out" / NAME)
