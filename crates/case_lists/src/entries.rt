@@ -38,7 +38,7 @@ fn many(alloc: Global, count: u64) -> Result<Entry, NoMemory> {
         events.push(long_event(alloc, table)?)?;
     }
     Ok(Entry::Appended {
-        source: Str::of(alloc, "changes")?,
+        source: Str::of(alloc, "audit")?,
         taken: 90,
         events,
         skipped: 0,
@@ -58,11 +58,18 @@ fn long_event(alloc: Global, table: u8) -> Result<Event, NoMemory> {
     })
 }
 
-/// A table is set to so many rows, each without values.
-fn table_set(alloc: Global, table: TableId, count: u64) -> Result<Entry, NoMemory> {
+/// A row of this number alone.
+fn numbered(alloc: Global, number: u32) -> Result<Row, NoMemory> {
+    let mut row = Row::new(alloc);
+    row.push(Value::Int(i64::from(number)))?;
+    Ok(row)
+}
+
+/// A table is set to so many rows, which are numbered.
+fn table_set(alloc: Global, table: TableId, count: u32) -> Result<Entry, NoMemory> {
     let mut rows = RowList::new(alloc);
-    for _ in 0..count {
-        rows.push(Row::new(alloc))?;
+    for number in 0..count {
+        rows.push(numbered(alloc, number)?)?;
     }
     Ok(Entry::TableSet {
         source: Str::of(alloc, "tables")?,
@@ -101,10 +108,10 @@ fn committed(
     Ok(Entry::Committed { batch })
 }
 
-/// Events of files expire up to a number.
-fn expired(floor: u64) -> Entry {
+/// Events of a table expire up to a number.
+fn expired(table: TableId, floor: u64) -> Entry {
     Entry::Expired {
-        table: TableId::FILE_EVENTS,
+        table,
         floor,
         moment: 1000,
     }
@@ -136,9 +143,11 @@ fn entry_of(alloc: Global, word: &str, at: u64) -> Result<Option<Entry>, NoMemor
         "reset" => table_set(alloc, TableId::USERS, 2)?,
         "emptied" => table_set(alloc, TableId::USERS, 0)?,
         "larger" => table_set(alloc, TableId::PROCESSES, 22000)?,
-        "expired1" => expired(1),
-        "expired3" => expired(3),
-        "expired2000" => expired(2000),
+        "expired1" => expired(TableId::FILE_EVENTS, 1),
+        "expired3" => expired(TableId::FILE_EVENTS, 3),
+        "expired2000" => expired(TableId::FILE_EVENTS, 2000),
+        "processes2" => expired(TableId::PROCESS_EVENTS, 2),
+        "sockets1" => expired(TableId::SOCKET_EVENTS, 1),
         "committed" => committed(alloc, "q", at, 3, 1000)?,
         "recommitted" => committed(alloc, "q", at, 6, 1060)?,
         "answered" => committed(alloc, "r", at, 5, 1000)?,
