@@ -16,7 +16,7 @@ use crate::stop::{refuse_unconfigured, starve, stop};
 use batch_keeper::Keeper;
 use osq_outside::{Clock, Files, Sink, Source};
 use program_words::ReplayWords;
-use replay_rounds::run_session;
+use replay_rounds::{Basis, run_session};
 use std::alloc::Global;
 
 /// Runs the session that the words ask for, and tells on the status stream what the session tells, and how it ended.
@@ -41,10 +41,13 @@ pub(crate) fn run_replay<S: Source, O: Sink, F: Files, C: Clock, K: Keeper, L: L
     let Ok(setup) = setup_of(alloc, words) else {
         return starve(&mut outside.status);
     };
-    match run_session(
+    let basis = Basis {
         alloc,
-        &setup,
-        &configured,
+        setup,
+        configured,
+    };
+    match run_session(
+        &basis,
         &mut outside.clock,
         outside.sources.as_mut_slice(),
         &mut outside.keeper,

@@ -13,13 +13,15 @@ use Rattle.entry_model.specs.Fits.{IsDistinct}
 use Rattle.entry_model.specs.Summary.{summary}
 use Rattle.entry_model.specs.Values.{taken_from}
 use Rattle.session_model.specs.Given.{Source}
+use Rattle.session_state.specs.Kept.{Kept}
 use Rattle.daemon_rounds.specs.Rounding.{AllCount}
+use Rattle.daemon_rounds.specs.Session.{IsOpen}
 use Rattle.daemon_rounds.specs.Starting.{source_names}
 use Rattle.daemon_rounds.specs.Turns.{StillCounts}
 use Rattle.daemon_rounds.specs.declared.setup.Setup.{Setup}
 use Rattle.daemon_rounds.proofs.Counting.{all_count}
 use Rattle.replay_rounds.specs.Fixed.{Fixed, fixed_with}
-use Rattle.replay_rounds.specs.Noting.{CountsTo, HasCounted, HasToldSome, HaveCounted, TellsOpened}
+use Rattle.replay_rounds.specs.Noting.{CountsTo, HasCounted, HasToldSome, HaveCounted, skipped_lines}
 use Rattle.replay_rounds.specs.Sources.{AreFed, IsFed}
 use Rattle.replay_rounds.proofs.Feeds.{fed_lengths}
 use Rattle.replay_rounds.proofs.Looping.{opens_here}
@@ -112,7 +114,7 @@ counts_now left x entries list feeds objects is fed = record {
 -- what a session told that ends before its first tick
 pub told_opening : {S C : Type 0} (keeper_tells sink_tells tells : Type 0) (left : S → List ℕ) (faults : S → ℕ) (setup : Setup) (config : Config) (documents : List (List ℕ)) (sources : List S) (start : List Entry) (before : List ℕ) (reads : C → ℕ → C → Type 0) (clock now : C) (restored : Restored) (kept : List Entry) (rests : List S)
     → (keeper_tells → restored ≡ summary start) → (keeper_tells → kept ≡ start) → IsDistinct bytes_eq (source_names setup.sources) → (left_out was is : List ℕ) (first second : ℕ)
-    → TellsOpened tells left faults reads setup config documents restored clock now sources rests was is ⊎ Rose first second
+    → ((is ≡ was) ⊎ ((moment : ℕ) × (feeds : List Feeding) × (state : Kept) × IsOpen tells left faults reads setup config documents restored clock now sources rests moment feeds state × (is ≡ was ++ skipped_lines feeds))) ⊎ Rose first second
     → HasToldSome (fixed_with keeper_tells sink_tells tells left setup config documents sources start before) kept left_out was is ⊎ Rose first second
 told_opening keeper_tells sink_tells tells left faults setup config documents sources start before reads clock now restored kept rests same kept_is distinct left_out was is first second (inl (inl none)) =
     told_none (fixed_with keeper_tells sink_tells tells left setup config documents sources start before) kept left_out was was is first first second [] (λ told. places_still start kept (kept_is told)) (noted_none (fixed_with keeper_tells sink_tells tells left setup config documents sources start before) left_out was) (inl none) (omega arith)

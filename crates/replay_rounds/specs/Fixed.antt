@@ -3,12 +3,12 @@ use Rattle.std.specs.Prelude.{ℕ, List}
 use Rattle.osq_config.specs.declared.config.Config.{Config}
 use Rattle.osq_outside.specs.declared.sink.Sink as sink_trait
 use Rattle.osq_outside.specs.declared.source.Source as source_trait
-use Rattle.config_files.specs.declared.configured.Configured.{Configured}
 use Rattle.entry_model.specs.declared.entry.Entry.{Entry}
 use Rattle.batch_keeper.specs.declared.keeper.Keeper as keeper_trait
 use Rattle.session_model.specs.Given.{Given}
 use Rattle.daemon_rounds.specs.declared.setup.Setup.{Setup}
 use Rattle.replay_rounds.specs.Sources.{sources_of}
+use Rattle.replay_rounds.specs.declared.basis.Basis.{Basis}
 
 -- Whether the keeper, the sink and the sources tell what they hold; what the session is given; and the kept list and the results before it.
 pub record Fixed : Type 1 where
@@ -42,6 +42,6 @@ fixed_with keeper_tells sink_tells source_tells left setup config documents obje
     }
 
 -- what stays the same in a session over these objects
-abbrev pub fixed_of : {K O S : Type 0} → keeper_trait.Ghosts K → sink_trait.Ghosts O → source_trait.Ghosts S → Setup → Configured → List S → K → O → Fixed
-fixed_of keeper sink source setup configured objects before results =
-    fixed_with keeper.tells sink.tells source.tells source.left setup configured.config configured.documents objects (keeper.kept before) (sink.written results)
+abbrev pub fixed_of : {K O S : Type 0} → keeper_trait.Ghosts K → sink_trait.Ghosts O → source_trait.Ghosts S → Basis → List S → K → O → Fixed
+fixed_of keeper sink source basis objects before results =
+    fixed_with keeper.tells sink.tells source.tells source.left basis.setup basis.configured.config basis.configured.documents objects (keeper.kept before) (sink.written results)

@@ -4,6 +4,8 @@ use Rattle.std.specs.List.{cons_option}
 use Rattle.std.specs.Fmt.{decimal}
 use Rattle.control_escapes.specs.Escapes.{escaped_controls}
 use Rattle.osq_config.specs.declared.config.Config.{Config}
+use Rattle.osq_outside.specs.declared.clock.Clock as clock_trait
+use Rattle.osq_outside.specs.declared.source.Source as source_trait
 use Rattle.pack_rules.specs.declared.host.Host.{Host}
 use Rattle.entry_model.specs.declared.entry.Entry.{Entry}
 use Rattle.schedule_notes.specs.Notes.{AreNotes}
@@ -11,8 +13,9 @@ use Rattle.entry_model.specs.Legal.{Legal}
 use Rattle.session_model.specs.Configuring.{configured_in, found_behind}
 use Rattle.session_state.specs.Kept.{Kept}
 use Rattle.entry_model.specs.declared.restored.Restored.{Restored}
+use Rattle.daemon_rounds.specs.Configuring.{found_now}
 use Rattle.daemon_rounds.specs.Session.{IsOpen}
-use Rattle.daemon_rounds.specs.declared.setup.Setup.{Setup}
+use Rattle.daemon_rounds.specs.Ticking.{asks_again}
 use Rattle.source_feeds.specs.Feeding.{Feeding}
 use Rattle.source_feeds.specs.Stepping.{Counts}
 use Rattle.entry_model.specs.Values.{taken_from}
@@ -21,6 +24,7 @@ use Rattle.osq_value.specs.declared.reading.Category.{Category}
 use Rattle.replay_rounds.specs.Fixed.{Fixed}
 use Rattle.replay_rounds.specs.OneTick.{HasOneTick}
 use Rattle.replay_rounds.specs.Sources.{AreFed}
+use Rattle.replay_rounds.specs.declared.basis.Basis.{Basis}
 use Rattle.replay_rounds.specs.declared.refused.RunError.{RunError}
 use Rattle.replay_rounds.specs.declared.refused.RunError.TheVariants as run
 
@@ -36,6 +40,11 @@ IsNoted config host found left_out before after = (lines : List ℕ) × AreNotes
 abbrev pub IsNotedAgain : Bool → Config → Host → List Bool → List ℕ → List ℕ → List ℕ → Type 0
 IsNotedAgain true config host found left_out before after = IsNoted config host found left_out before after
 IsNotedAgain false config host found left_out before after = after ≡ before
+
+-- they were written where the tick at this moment, before which the state is this one, begins with a configuration
+abbrev pub IsNotedAt : Basis → (configured_at moment : ℕ) → Kept → List ℕ → List ℕ → Type 0
+IsNotedAt basis configured_at moment state before after =
+    IsNotedAgain (asks_again basis.configured.config configured_at moment) basis.configured.config basis.setup.host (found_now basis.configured.config state moment) basis.configured.notes before after
 
 -- where a session is configured: the list before it, and the moment
 pub record Place : Type 0 where
@@ -143,8 +152,13 @@ IsBetween late sink run.NumbersSpent = ⊥
 IsBetween late sink run.SinkFault = sink
 IsBetween late sink run.NoMemory = Unit {0}
 
+-- the session of these opened
+abbrev pub IsOpenBy : {S C : Type 0} → source_trait.Ghosts S → clock_trait.Ghosts C → (basis : Basis) (restored : Restored) (first last : C) (sources rests : List S) (moment : ℕ) (feeds : List Feeding) (state : Kept) → Type 0
+IsOpenBy source clock basis restored first last sources rests moment feeds state =
+    IsOpen source.tells source.left source.faults clock.reads basis.setup basis.configured.config basis.configured.documents restored first last sources rests moment feeds state
+
 -- nothing was written, or what the feeds of a session skipped that opened
-abbrev pub TellsOpened : {S C : Type 0} (tells : Type 0) (left : S → List ℕ) (faults : S → ℕ) (reads : C → ℕ → C → Type 0) (setup : Setup) (config : Config) (documents : List (List ℕ)) (restored : Restored) (clock now : C) (sources rests : List S) (before after : List ℕ) → Type 0
-TellsOpened tells left faults reads setup config documents restored clock now sources rests before after =
+abbrev pub TellsOpened : {S C : Type 0} → source_trait.Ghosts S → clock_trait.Ghosts C → (basis : Basis) (restored : Restored) (first last : C) (sources rests : List S) (before after : List ℕ) → Type 0
+TellsOpened source clock basis restored first last sources rests before after =
     (after ≡ before)
-    ⊎ ((moment : ℕ) × (feeds : List Feeding) × (state : Kept) × IsOpen tells left faults reads setup config documents restored clock now sources rests moment feeds state × (after ≡ before ++ skipped_lines feeds))
+    ⊎ ((moment : ℕ) × (feeds : List Feeding) × (state : Kept) × IsOpenBy source clock basis restored first last sources rests moment feeds state × (after ≡ before ++ skipped_lines feeds))

@@ -3,7 +3,6 @@ use Rattle.std.specs.Prelude.{◌≡◌, ℕ, ◌≤◌, true, false, All, None,
 use Rattle.osq_outside.specs.declared.clock.Clock as clock_trait
 use Rattle.osq_outside.specs.declared.sink.Sink as sink_trait
 use Rattle.osq_outside.specs.declared.source.Source as source_trait
-use Rattle.config_files.specs.declared.configured.Configured.{Configured}
 use Rattle.batch_keeper.specs.declared.keeper.Keeper as keeper_trait
 use Rattle.entry_model.specs.Covered.{Covered}
 use Rattle.entry_model.specs.declared.entry.Entry.{Entry}
@@ -17,10 +16,10 @@ use Rattle.session_model.specs.Sessions.{IsSession}
 use Rattle.session_model.specs.Taking.{IsReadWhole}
 use Rattle.session_model.specs.Ticking.{Ticks}
 use Rattle.daemon_rounds.specs.Telling.{AreLinesOf}
-use Rattle.daemon_rounds.specs.declared.setup.Setup.{Setup}
 use Rattle.replay_rounds.specs.Fixed.{Fixed, Run, fixed_of}
 use Rattle.replay_rounds.specs.OneTick.{HasOneTick}
 use Rattle.replay_rounds.specs.Sources.{HasFullStep, IsUnended}
+use Rattle.replay_rounds.specs.declared.basis.Basis.{Basis}
 use Rattle.replay_rounds.specs.declared.running.Ended.{Ended}
 
 -- the clock was read for each of these readings, one after another
@@ -33,9 +32,9 @@ abbrev pub run_by : {C : Type 0} → Fixed → (C → ℕ → C → Type 0) → 
 run_by x reads clock now = record { fixed = x; has_read = λ readings. ReadsAll reads clock readings now }
 
 -- the run of a session over these objects
-abbrev pub run_of : {K O S C : Type 0} → keeper_trait.Ghosts K → sink_trait.Ghosts O → source_trait.Ghosts S → clock_trait.Ghosts C → Setup → Configured → List S → K → O → C → C → Run
-run_of keeper sink source clock setup configured objects before results first last =
-    run_by (fixed_of keeper sink source setup configured objects before results) clock.reads first last
+abbrev pub run_of : {K O S C : Type 0} → keeper_trait.Ghosts K → sink_trait.Ghosts O → source_trait.Ghosts S → clock_trait.Ghosts C → Basis → List S → K → O → C → C → Run
+run_of keeper sink source clock basis objects before results first last =
+    run_by (fixed_of keeper sink source basis objects before results) clock.reads first last
 
 -- what a run adds at these readings: nothing before the first of them, and else a session; `tells` says whether the sources tell their bytes
 abbrev pub AddsAt : Type 0 → Given → List Entry → List ℕ → List Entry → Type 0

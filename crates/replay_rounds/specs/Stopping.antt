@@ -1,10 +1,16 @@
 -- What a session that ended early knows of its kept list.
 use Rattle.std.specs.Prelude.{◌≡◌, ℕ, List, [], ◌∷◌, ◌++◌, length, Option, None, Some}
+use Rattle.osq_outside.specs.declared.source.Source as source_trait
+use Rattle.batch_keeper.specs.declared.keeper.Keeper as keeper_trait
 use Rattle.entry_model.specs.declared.entry.Entry.{Entry}
+use Rattle.entry_model.specs.declared.restored.Taken.{Taken}
 use Rattle.entry_model.specs.Legal.{Legal}
+use Rattle.entry_model.specs.Summary.{summary}
 use Rattle.entry_model.specs.Values.{acked_upto, commits, last_number}
+use Rattle.daemon_rounds.specs.Starting.{HasShrunk}
 use Rattle.replay_rounds.specs.Fixed.{Fixed, Run}
 use Rattle.replay_rounds.specs.Running.{Grows}
+use Rattle.replay_rounds.specs.declared.basis.Basis.{Basis}
 use Rattle.replay_rounds.specs.declared.refused.Numbers.{Numbers}
 use Rattle.replay_rounds.specs.declared.refused.RunError.{RunError}
 use Rattle.replay_rounds.specs.declared.refused.RunError.TheVariants as running
@@ -55,3 +61,8 @@ IsUnloaded error = ⊥
 abbrev pub Stops : Run → List Entry → (untold : Type 0) → RunError → Option Numbers → Type 0
 Stops run kept untold error None = IsUnloaded error × run.has_read [] × untold
 Stops run kept untold error (Some numbers) = AreNumbersFor error run kept numbers
+
+-- The source at this place ended after `found` bytes, before the `kept` bytes that the list behind which the session opens has of it.
+abbrev pub HasShrunkFor : {K S : Type 0} → keeper_trait.Ghosts K → source_trait.Ghosts S → Basis → K → (place kept found : ℕ) → List S → Type 0
+HasShrunkFor keeper source basis before place kept found objects =
+    (taken : List Taken) × (keeper.tells → taken ≡ (summary (keeper.kept before)).taken) × HasShrunk source.tells source.left taken basis.setup.sources place kept found objects

@@ -1,10 +1,13 @@
 -- A whole tick, by the state and by the list.
 use Rattle.std.specs.Prelude.{◌≡◌, ◌⊎◌, ℕ, List, [], ◌∷◌, ◌++◌, take}
 use Rattle.osq_config.specs.declared.config.Config.{Config}
+use Rattle.osq_outside.specs.declared.sink.Sink as sink_trait
+use Rattle.osq_outside.specs.declared.source.Source as source_trait
 use Rattle.source_feeds.specs.Feeding.{Feeding}
 use Rattle.entry_model.specs.declared.entry.Entry.{Entry}
 use Rattle.entry_model.specs.declared.entry.Entry.TheVariants.{Ticked}
 use Rattle.entry_model.specs.Legal.{Legal}
+use Rattle.batch_keeper.specs.declared.keeper.Keeper as keeper_trait
 use Rattle.session_model.specs.Given.{Given}
 use Rattle.session_model.specs.Ticking.{Ticks}
 use Rattle.session_state.specs.Kept.{Kept}
@@ -17,6 +20,8 @@ use Rattle.replay_rounds.specs.Fixed.{Fixed}
 use Rattle.replay_rounds.specs.OneTick.{IsOneTick}
 use Rattle.replay_rounds.specs.Sources.{AreFullSteps}
 use Rattle.replay_rounds.specs.Standing.{Standing}
+use Rattle.replay_rounds.specs.declared.basis.Basis.{Basis}
+use Rattle.replay_rounds.specs.declared.ticking.Tick.{Tick}
 
 -- a tick at this moment, up to its seal: it is filled, each due query is answered, and what is owed expires
 pub record TickDone {S : Type 0} (tells : Type 0) (left : S → List ℕ) (faults : S → ℕ) (setup : Setup) (config : Config) (documents : List (List ℕ)) (configured_at moment : ℕ) (feeds nexts : List Feeding) (objects rests : List S) (old settled : Kept) : Type 0 where
@@ -76,3 +81,24 @@ pub record TakesTick {S : Type 0} (left : S → List ℕ) (x : Fixed) (added kep
   pub one : IsOneTick own
   pub standing : Standing left x (added ++ own) kept nexts rests last settled
   pub tail : settled.tail ≡ old.tail ++ own
+
+-- the same of objects, by what they tell
+abbrev pub IsTickOf : {K O S : Type 0} → keeper_trait.Ghosts K → sink_trait.Ghosts O → source_trait.Ghosts S → Basis → Tick → ℕ → K → K → O → O → List Feeding → List Feeding → List S → List S → Kept → Kept → Type 0
+IsTickOf keeper sink source basis tick last k l o p feeds nexts objects rests old new =
+    IsTick keeper.tells sink.tells source.tells source.left source.faults basis.setup basis.configured.config basis.configured.documents tick.configured_at last tick.moment (keeper.kept k) (keeper.kept l) (sink.written o) (sink.written p) feeds nexts objects rests old new
+
+abbrev pub IsWholeTickOf : {K S : Type 0} → keeper_trait.Ghosts K → source_trait.Ghosts S → Basis → Tick → K → K → List Feeding → List Feeding → List S → List S → Kept → Type 0
+IsWholeTickOf keeper source basis tick k l feeds nexts objects rests old =
+    IsWholeTick source.tells source.left source.faults basis.setup basis.configured.config basis.configured.documents tick.configured_at tick.moment (keeper.kept k) (keeper.kept l) feeds nexts objects rests old
+
+abbrev pub IsSealedTickOf : {K S : Type 0} → keeper_trait.Ghosts K → source_trait.Ghosts S → Basis → Tick → K → K → List Feeding → List Feeding → List S → List S → Kept → Kept → Type 0
+IsSealedTickOf keeper source basis tick k l feeds nexts objects rests old new =
+    IsSealedTick keeper.tells source.tells source.left source.faults basis.setup basis.configured.config basis.configured.documents tick.configured_at tick.moment (keeper.kept k) (keeper.kept l) feeds nexts objects rests old new
+
+abbrev pub IsPartlyToldOf : {K O S : Type 0} → keeper_trait.Ghosts K → sink_trait.Ghosts O → source_trait.Ghosts S → Basis → Tick → K → K → O → O → List Feeding → List Feeding → List S → List S → Kept → Type 0
+IsPartlyToldOf keeper sink source basis tick k l o p feeds nexts objects rests old =
+    IsPartlyTold keeper.tells source.tells source.left source.faults basis.setup basis.configured.config basis.configured.documents tick.configured_at tick.moment (keeper.kept k) (keeper.kept l) (sink.written o) (sink.written p) feeds nexts objects rests old
+
+abbrev pub SpendsTickOf : {S : Type 0} → source_trait.Ghosts S → Basis → Tick → List Feeding → List Feeding → List S → List S → Kept → Kept → Type 0
+SpendsTickOf source basis tick feeds nexts objects rests old new =
+    SpendsTick source.tells source.left source.faults basis.setup basis.configured.config basis.configured.documents tick.configured_at tick.moment feeds nexts objects rests old new

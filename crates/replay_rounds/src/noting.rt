@@ -8,11 +8,10 @@ ghost use Rattle.daemon_rounds.specs.Configuring.{found_now};
 ghost use Rattle.replay_rounds.specs.Noting.{IsGrown, IsNoted, TellsSkipped, skipped_end, skipped_line, skipped_lines, skipped_of};
 ghost use Rattle.replay_rounds.specs.declared.noting.NoteError.{NoteError};
 
+use crate::basis::Basis;
 use crate::refused::Refused;
-use config_files::Configured;
 use control_escapes::push_text;
 use daemon_rounds::discover;
-use daemon_rounds::setup::Setup;
 use osq_outside::{Sink, write_all};
 use osq_value::{Bytes, NoMemory, Str};
 use schedule_notes::schedule_notes;
@@ -42,37 +41,30 @@ fn write_lines<O: Sink>(status: &mut O, lines: &Bytes) -> Result<(), NoteError>
 }
 
 /// The lines that tell of a configuration, of whose packs these are meant for the host.
-fn notes_by(
-    alloc: Global,
-    setup: &Setup,
-    configured: &Configured,
-    found: &[bool],
-    state: &State,
-) -> Result<Bytes, NoMemory>
-    requires { length found.now ≡ length configured.now.config.packs }
-    ensures { IfOk result (AreNotes configured.now.config setup.now.host found.now configured.now.notes) }
+fn notes_by(basis: &Basis, found: &[bool], state: &State) -> Result<Bytes, NoMemory>
+    requires { length found.now ≡ length basis.now.configured.config.packs }
+    ensures { IfOk result (AreNotes basis.now.configured.config basis.now.setup.host found.now basis.now.configured.notes) }
 {
-    let config = &configured.config;
-    let left_out = configured.notes.as_slice();
-    schedule_notes(alloc, config, &setup.host, found, state.queries(), left_out)
+    let config = &basis.configured.config;
+    let host = &basis.setup.host;
+    let left_out = basis.configured.notes.as_slice();
+    schedule_notes(basis.alloc, config, host, found, state.queries(), left_out)
 }
 
 /// Writes the lines that tell of a configuration, of whose packs these are meant for the host.
 pub(crate) fn write_notes<O: Sink>(
-    alloc: Global,
-    setup: &Setup,
-    configured: &Configured,
+    basis: &Basis,
     found: &[bool],
     state: &State,
     status: &mut O,
 ) -> Result<(), NoteError>
-    requires { length found.now ≡ length configured.now.config.packs }
-    ensures noted { O.tells → OnOk result (IsNoted configured.now.config setup.now.host found.now configured.now.notes (O.written status.old) (O.written status.new)) }
+    requires { length found.now ≡ length basis.now.configured.config.packs }
+    ensures noted { O.tells → OnOk result (IsNoted basis.now.configured.config basis.now.setup.host found.now basis.now.configured.notes (O.written status.old) (O.written status.new)) }
     ensures grown { O.tells → IsGrown (O.written status.old) (O.written status.new) }
     ensures unmade { result ≡ Err NoteError.NoMemory → status.new ≡ status.old }
     ensures cause { FaultHasCause NoteError.SinkFault (O.faults status.old) (O.faults status.new) result }
 {
-    let Ok(lines) = notes_by(alloc, setup, configured, found, state) else {
+    let Ok(lines) = notes_by(basis, found, state) else {
         return Err(NoteError::NoMemory);
     };
     write_lines(status, &lines)
@@ -81,23 +73,21 @@ pub(crate) fn write_notes<O: Sink>(
 /// Writes the lines that tell of the configuration which the tick at this moment begins with, before that tick: its Ticked changes no table that discovery
 /// sees.
 pub(crate) fn note_again<O: Sink>(
-    alloc: Global,
-    setup: &Setup,
-    configured: &Configured,
+    basis: &Basis,
     state: &State,
     status: &mut O,
     moment: u64,
 ) -> Result<(), NoteError>
     requires { moment ≤ LAST_MOMENT }
-    ensures noted { O.tells → OnOk result (IsNoted configured.now.config setup.now.host (found_now configured.now.config state.now moment) configured.now.notes (O.written status.old) (O.written status.new)) }
+    ensures noted { O.tells → OnOk result (IsNoted basis.now.configured.config basis.now.setup.host (found_now basis.now.configured.config state.now moment) basis.now.configured.notes (O.written status.old) (O.written status.new)) }
     ensures grown { O.tells → IsGrown (O.written status.old) (O.written status.new) }
     ensures unmade { result ≡ Err NoteError.NoMemory → status.new ≡ status.old }
     ensures cause { FaultHasCause NoteError.SinkFault (O.faults status.old) (O.faults status.new) result }
 {
-    let Ok(found) = discover(alloc, state, &configured.config, moment) else {
+    let Ok(found) = discover(basis.alloc, state, &basis.configured.config, moment) else {
         return Err(NoteError::NoMemory);
     };
-    write_notes(alloc, setup, configured, found.as_slice(), state, status)
+    write_notes(basis, found.as_slice(), state, status)
 }
 
 /// Adds how many lines were skipped.

@@ -5,34 +5,30 @@ ghost use Rattle.osq_value.specs.declared.moment.TheConstants.{LAST_MOMENT};
 ghost use Rattle.config_files.specs.Configurations.{IsConfigOf};
 ghost use Rattle.osq_config.specs.Bounds.{IsBounded};
 ghost use Rattle.osq_outside.specs.Causes.{Rose};
-ghost use Rattle.entry_model.specs.declared.restored.Taken.{Taken};
 ghost use Rattle.entry_model.specs.Fits.{Fits, IsDistinct};
 ghost use Rattle.entry_model.specs.Legal.{Legal};
 ghost use Rattle.entry_model.specs.Summary.{summary};
 ghost use Rattle.session_state.specs.Kept.{IsState};
 ghost use Rattle.daemon_rounds.specs.Moments.{IsRead};
 ghost use Rattle.daemon_rounds.specs.Rounding.{FailsAt};
-ghost use Rattle.daemon_rounds.specs.Starting.{HasShrunk, source_names};
+ghost use Rattle.daemon_rounds.specs.Starting.{source_names};
 ghost use Rattle.replay_rounds.specs.Fixed.{fixed_of};
-ghost use Rattle.daemon_rounds.specs.Configuring.{found_now};
-ghost use Rattle.replay_rounds.specs.Noting.{HasTold, HasToldSome, IsBetween, IsGrown, IsNotedAgain, skipped_lines};
-ghost use Rattle.daemon_rounds.specs.Ticking.{asks_again};
+ghost use Rattle.replay_rounds.specs.Noting.{HasTold, HasToldSome, IsBetween, IsGrown, IsNotedAt, skipped_lines};
 ghost use Rattle.replay_rounds.specs.Refusals.{numbers_of};
 ghost use Rattle.replay_rounds.specs.Running.{HasRun, IsKept, IsWritten, ReadsAll, run_of};
 ghost use Rattle.replay_rounds.specs.Sources.{all_over};
 ghost use Rattle.replay_rounds.specs.Spent.{RanOutOfNumbers};
-ghost use Rattle.replay_rounds.specs.Stopping.{Stops};
+ghost use Rattle.replay_rounds.specs.Stopping.{HasShrunkFor, Stops};
 ghost use Rattle.replay_rounds.specs.declared.refused.Refused.{Refused};
 ghost use Rattle.replay_rounds.specs.declared.refused.RunError.{RunError};
 
+use crate::basis::Basis;
 use crate::loading::load_values;
 use crate::noting::{note_again, told, write_skipped};
 use crate::opening::open_noted;
 use crate::refused::{Numbers, Refused, RunError, numbers_in, numbers_of, unloaded, unnoted};
-use crate::ticking::take_tick;
+use crate::ticking::{Tick, take_tick};
 use batch_keeper::Keeper;
-use config_files::Configured;
-use daemon_rounds::setup::Setup;
 use daemon_rounds::{MomentTooLarge, Session, asks_again, read_moment};
 use entry_model::laws;
 use osq_outside::{Clock, Sink, Source};
@@ -52,9 +48,7 @@ pub struct Ended {
 /// The moment of the next tick: the clock is read once, and it is its reading, or the last moment, whichever is later. Where the session, which
 /// was configured last at `configured_at`, is to be configured again at that moment, what is then to be told is written.
 fn next_moment<C: Clock, O: Sink>(
-    alloc: Global,
-    setup: &Setup,
-    configured: &Configured,
+    basis: &Basis,
     clock: &mut C,
     state: &State,
     status: &mut O,
@@ -64,7 +58,7 @@ fn next_moment<C: Clock, O: Sink>(
     ensures is { IsState state.now }
     ensures read { IfOk result (λ moment. IsRead C.reads clock.old clock.new state.now.counts.moment moment) }
     ensures once { (reading : ℕ) × C.reads clock.old reading clock.new }
-    ensures noted { O.tells → IfOk result (λ moment. IsNotedAgain (asks_again configured.now.config configured_at moment) configured.now.config setup.now.host (found_now configured.now.config state.now moment) configured.now.notes (O.written status.old) (O.written status.new)) }
+    ensures noted { O.tells → IfOk result (λ moment. IsNotedAt basis.now configured_at moment state.now (O.written status.old) (O.written status.new)) }
     ensures cause { IfErr result (λ refused. IsBetween (λ moment. C.reads clock.old moment clock.new × (LAST_MOMENT < moment)) (Rose (O.faults status.old) (O.faults status.new)) refused.error) }
     ensures numbers { IfErr result (λ refused. refused.numbers ≡ Some (numbers_of state.now)) }
     ensures untold { O.tells → IfErr result (λ refused. (O.written status.new ≡ O.written status.old) ⊎ Rose (O.faults status.old) (O.faults status.new)) }
@@ -82,10 +76,10 @@ fn next_moment<C: Clock, O: Sink>(
             });
         }
     };
-    if !asks_again(&configured.config, configured_at, moment) {
+    if !asks_again(&basis.configured.config, configured_at, moment) {
         return Ok(moment);
     }
-    match note_again(alloc, setup, configured, state, status, moment) {
+    match note_again(basis, state, status, moment) {
         Ok(()) => Ok(moment),
         Err(error) => Err(unnoted(error, numbers)),
     }
@@ -128,40 +122,38 @@ fn end_session<O: Sink>(
 /// told. No two sources have one name. On the status stream it tells of each configuration, and at the end of skipped lines.
 /// The error of a refusal is one of the causes that `RunError` lists, with the numbers of the kept list where it was loaded.
 pub fn run_session<S: Source, K: Keeper, O: Sink, C: Clock>(
-    alloc: Global,
-    setup: &Setup,
-    configured: &Configured,
+    basis: &Basis,
     clock: &mut C,
     sources: &mut [S],
     keeper: &mut K,
     results: &mut O,
     status: &mut O,
 ) -> Result<Ended, Refused>
-    requires configuration { IsConfigOf configured.now.documents configured.now.config configured.now.notes }
-    requires bounded { IsBounded configured.now.config }
-    requires paired { length sources.old ≡ length setup.now.sources }
-    requires distinct { IsDistinct bytes_eq (source_names setup.now.sources) }
-    requires ticks { 1 ≤ setup.now.ticks }
-    ensures done { IfOk result (λ ended. HasRun (run_of K.Keeper O.Sink S.Source C.Clock setup.now configured.now sources.old keeper.old results.old clock.old clock.new) setup.now.ticks (K.kept keeper.new) (O.written results.new) ended) }
+    requires configuration { IsConfigOf basis.now.configured.documents basis.now.configured.config basis.now.configured.notes }
+    requires bounded { IsBounded basis.now.configured.config }
+    requires paired { length sources.old ≡ length basis.now.setup.sources }
+    requires distinct { IsDistinct bytes_eq (source_names basis.now.setup.sources) }
+    requires ticks { 1 ≤ basis.now.setup.ticks }
+    ensures done { IfOk result (λ ended. HasRun (run_of K.Keeper O.Sink S.Source C.Clock basis.now sources.old keeper.old results.old clock.old clock.new) basis.now.setup.ticks (K.kept keeper.new) (O.written results.new) ended) }
     ensures fit { K.tells → IfOk result (λ ended. Fits (summary (K.kept keeper.old))) }
-    ensures stops { IfErr result (λ refused. Stops (run_of K.Keeper O.Sink S.Source C.Clock setup.now configured.now sources.old keeper.old results.old clock.old clock.new) (K.kept keeper.new) (status.new ≡ status.old) refused.error refused.numbers) }
-    ensures kept { K.tells → IsKept (run_of K.Keeper O.Sink S.Source C.Clock setup.now configured.now sources.old keeper.old results.old clock.old clock.new) (K.kept keeper.new) }
-    ensures written { O.tells → IsWritten (fixed_of K.Keeper O.Sink S.Source setup.now configured.now sources.old keeper.old results.old) (K.kept keeper.new) (O.written results.new) }
+    ensures stops { IfErr result (λ refused. Stops (run_of K.Keeper O.Sink S.Source C.Clock basis.now sources.old keeper.old results.old clock.old clock.new) (K.kept keeper.new) (status.new ≡ status.old) refused.error refused.numbers) }
+    ensures kept { K.tells → IsKept (run_of K.Keeper O.Sink S.Source C.Clock basis.now sources.old keeper.old results.old clock.old clock.new) (K.kept keeper.new) }
+    ensures written { O.tells → IsWritten (fixed_of K.Keeper O.Sink S.Source basis.now sources.old keeper.old results.old) (K.kept keeper.new) (O.written results.new) }
     ensures keeper_cause { (refused : Refused) → result ≡ Err refused → refused.error ≡ RunError.KeeperFault → Rose (K.faults keeper.old) (K.faults keeper.new) }
     ensures refused { K.tells → (refused : Refused) → result ≡ Err refused → refused.error ≡ RunError.KeeperRefused → ¬ Fits (summary (K.kept keeper.old)) }
     ensures illegal { K.tells → (refused : Refused) → result ≡ Err refused → refused.error ≡ RunError.KeeperRefused → ¬ Legal (K.kept keeper.old) }
     ensures moment { (refused : Refused) (moment : ℕ) → result ≡ Err refused → refused.error ≡ RunError.MomentTooLarge moment → (LAST_MOMENT < moment) × ((readings : List ℕ) × ReadsAll C.reads clock.old (readings ++ moment ∷ []) clock.new) }
     ensures fault { (refused : Refused) (place : ℕ) → result ≡ Err refused → refused.error ≡ RunError.SourceFault place → FailsAt S.faults place sources.old sources.new }
-    ensures shrank { (refused : Refused) (place kept found : ℕ) → result ≡ Err refused → refused.error ≡ RunError.SourceShrank place kept found → (taken : List Taken) × (K.tells → taken ≡ (summary (K.kept keeper.old)).taken) × HasShrunk S.tells S.left taken setup.now.sources place kept found sources.old }
-    ensures spent { (refused : Refused) → result ≡ Err refused → refused.error ≡ RunError.NumbersSpent → RanOutOfNumbers (run_of K.Keeper O.Sink S.Source C.Clock setup.now configured.now sources.old keeper.old results.old clock.old clock.new) (K.kept keeper.new) }
+    ensures shrank { (refused : Refused) (place kept found : ℕ) → result ≡ Err refused → refused.error ≡ RunError.SourceShrank place kept found → HasShrunkFor K.Keeper S.Source basis.now keeper.old place kept found sources.old }
+    ensures spent { (refused : Refused) → result ≡ Err refused → refused.error ≡ RunError.NumbersSpent → RanOutOfNumbers (run_of K.Keeper O.Sink S.Source C.Clock basis.now sources.old keeper.old results.old clock.old clock.new) (K.kept keeper.new) }
     ensures sink_cause { (refused : Refused) → result ≡ Err refused → refused.error ≡ RunError.SinkFault → Rose (O.faults results.old) (O.faults results.new) ⊎ Rose (O.faults status.old) (O.faults status.new) }
-    ensures told { O.tells → IfOk result (λ ended. HasTold (fixed_of K.Keeper O.Sink S.Source setup.now configured.now sources.old keeper.old results.old) (K.kept keeper.new) configured.now.notes (O.written status.old) (O.written status.new)) }
-    ensures stops_telling { O.tells → IfErr result (λ refused. HasToldSome (fixed_of K.Keeper O.Sink S.Source setup.now configured.now sources.old keeper.old results.old) (K.kept keeper.new) configured.now.notes (O.written status.old) (O.written status.new) ⊎ Rose (O.faults status.old) (O.faults status.new)) }
+    ensures told { O.tells → IfOk result (λ ended. HasTold (fixed_of K.Keeper O.Sink S.Source basis.now sources.old keeper.old results.old) (K.kept keeper.new) basis.now.configured.notes (O.written status.old) (O.written status.new)) }
+    ensures stops_telling { O.tells → IfErr result (λ refused. HasToldSome (fixed_of K.Keeper O.Sink S.Source basis.now sources.old keeper.old results.old) (K.kept keeper.new) basis.now.configured.notes (O.written status.old) (O.written status.new) ⊎ Rose (O.faults status.old) (O.faults status.new)) }
     ensures notes { O.tells → IsGrown (O.written status.old) (O.written status.new) }
     ensures later { (K.faults keeper.old ≤ K.faults keeper.new) × (O.faults results.old ≤ O.faults results.new) × (O.faults status.old ≤ O.faults status.new) }
 {
     laws::coverage();
-    let restored = match load_values(alloc, keeper) {
+    let restored = match load_values(basis.alloc, keeper) {
         Ok(restored) => restored,
         Err(error) => return Err(unloaded(error)),
     };
@@ -171,41 +163,36 @@ pub fn run_session<S: Source, K: Keeper, O: Sink, C: Clock>(
         mut feeds,
         configured_at,
         found: _,
-    } = match open_noted(alloc, setup, configured, restored, clock, sources, status) {
+    } = match open_noted(basis, restored, clock, sources, status) {
         Ok(session) => session,
         Err(refused) => return Err(refused),
     };
     let feeds = feeds.as_mut_slice();
-    let mut last = match take_tick(
-        alloc,
-        setup,
-        configured,
-        &mut state,
-        feeds,
-        sources,
-        keeper,
-        results,
+    let first = Tick {
+        moment: configured_at,
+        configured_at,
         sealed,
-        configured_at,
-        configured_at,
-    ) {
-        Ok(last) => last,
-        Err(refused) => return Err(told(alloc, feeds, status, refused)),
     };
-    for _ in 1..setup.ticks {
-        let moment = match next_moment(alloc, setup, configured, clock, &state, status, last) {
+    let mut last = match take_tick(basis, &mut state, feeds, sources, keeper, results, first) {
+        Ok(last) => last,
+        Err(refused) => return Err(told(basis.alloc, feeds, status, refused)),
+    };
+    for _ in 1..basis.setup.ticks {
+        let moment = match next_moment(basis, clock, &state, status, last) {
             Ok(moment) => moment,
-            Err(refused) => return Err(told(alloc, feeds, status, refused)),
+            Err(refused) => return Err(told(basis.alloc, feeds, status, refused)),
         };
         let sealed = numbers_of(&state);
-        last = match take_tick(
-            alloc, setup, configured, &mut state, feeds, sources, keeper, results, sealed, last,
+        let tick = Tick {
             moment,
-        ) {
+            configured_at: last,
+            sealed,
+        };
+        last = match take_tick(basis, &mut state, feeds, sources, keeper, results, tick) {
             Ok(last) => last,
-            Err(refused) => return Err(told(alloc, feeds, status, refused)),
+            Err(refused) => return Err(told(basis.alloc, feeds, status, refused)),
         };
     }
     state.is_state();
-    end_session(alloc, &state, feeds, status)
+    end_session(basis.alloc, &state, feeds, status)
 }

@@ -8,57 +8,62 @@ ghost use Rattle.daemon_rounds.specs.Keeping.{GoesOn};
 ghost use Rattle.daemon_rounds.specs.Rounding.{AllCount, FailsAt};
 ghost use Rattle.replay_rounds.specs.Refusals.{tick_numbers};
 ghost use Rattle.replay_rounds.specs.Standing.{IsReady};
-ghost use Rattle.replay_rounds.specs.Ticked.{IsPartlyTold, IsSealedTick, IsTick, IsWholeTick, SpendsTick};
+ghost use Rattle.replay_rounds.specs.Ticked.{IsPartlyToldOf, IsSealedTickOf, IsTickOf, IsWholeTickOf, SpendsTickOf};
 ghost use Rattle.replay_rounds.specs.declared.refused.Refused.{Refused};
 ghost use Rattle.replay_rounds.specs.declared.refused.RunError.{RunError};
 
+use crate::basis::Basis;
 use crate::refused::{Numbers, Refused, unfilled, unfinished};
 use batch_keeper::Keeper;
-use config_files::Configured;
-use daemon_rounds::setup::Setup;
 use daemon_rounds::{fill_tick, finish_tick};
 use osq_outside::{Sink, Source};
 use session_state::State;
 use source_feeds::Feed;
 use std::alloc::Global;
 
-/// A whole tick at this moment: it begins, the session is configured again where discovery is asked again, each source takes one step, each due
-/// query is answered, what is owed expires, and what the state gained is sealed and then told. `sealed` are the numbers of the keeper's list. It
-/// answers when the session was configured last.
+/// What a tick begins with.
+#[derive(Clone, Copy)]
+pub struct Tick {
+    /// Its moment.
+    pub moment: u64,
+    /// When the session was configured last.
+    pub configured_at: u64,
+    /// The numbers of the keeper's list.
+    pub sealed: Numbers,
+}
+
+/// A whole tick: it begins at its moment, the session is configured again where discovery is asked again, each source takes one step, each due
+/// query is answered, what is owed expires, and what the state gained is sealed and then told. It answers when the session was configured last.
 ///
 /// SourceFault with the place of the source that failed; NumbersSpent where a number would pass 2^62; KeeperFault and SinkFault where the
 /// keeper or a sink failed.
 pub fn take_tick<S: Source, K: Keeper, O: Sink>(
-    alloc: Global,
-    setup: &Setup,
-    configured: &Configured,
+    basis: &Basis,
     state: &mut State,
     feeds: &mut [Feed],
     sources: &mut [S],
     keeper: &mut K,
     results: &mut O,
-    sealed: Numbers,
-    configured_at: u64,
-    moment: u64,
+    tick: Tick,
 ) -> Result<u64, Refused>
-    requires bounded { IsBounded configured.now.config }
-    requires later { state.old.counts.moment ≤ moment }
-    requires calendar { moment ≤ LAST_MOMENT }
+    requires bounded { IsBounded basis.now.configured.config }
+    requires later { state.old.counts.moment ≤ tick.moment }
+    requires calendar { tick.moment ≤ LAST_MOMENT }
     requires paired { length sources.old ≡ length feeds.old }
-    requires ready { IsReady feeds.old configured_at state.old }
+    requires ready { IsReady feeds.old tick.configured_at state.old }
     requires goes_on { GoesOn K.tells (K.kept keeper.old) state.old }
-    ensures done { IfOk result (λ last. IsTick K.tells O.tells S.tells S.left S.faults setup.now configured.now.config configured.now.documents configured_at last moment (K.kept keeper.old) (K.kept keeper.new) (O.written results.old) (O.written results.new) feeds.old feeds.new sources.old sources.new state.old state.new) }
+    ensures done { IfOk result (λ last. IsTickOf K.Keeper O.Sink S.Source basis.now tick last keeper.old keeper.new results.old results.new feeds.old feeds.new sources.old sources.new state.old state.new) }
     ensures ready { IfOk result (λ last. IsReady feeds.new last state.new) }
     ensures goes_on { IfOk result (λ last. GoesOn K.tells (K.kept keeper.new) state.new) }
-    ensures kept { K.tells → OnErr result (IsWholeTick S.tells S.left S.faults setup.now configured.now.config configured.now.documents configured_at moment (K.kept keeper.old) (K.kept keeper.new) feeds.old feeds.new sources.old sources.new state.old) }
-    ensures sealed { (refused : Refused) → result ≡ Err refused → refused.error ≡ RunError.SinkFault → IsSealedTick K.tells S.tells S.left S.faults setup.now configured.now.config configured.now.documents configured_at moment (K.kept keeper.old) (K.kept keeper.new) feeds.old feeds.new sources.old sources.new state.old state.new }
-    ensures partly { O.tells → (refused : Refused) → result ≡ Err refused → refused.error ≡ RunError.SinkFault → IsPartlyTold K.tells S.tells S.left S.faults setup.now configured.now.config configured.now.documents configured_at moment (K.kept keeper.old) (K.kept keeper.new) (O.written results.old) (O.written results.new) feeds.old feeds.new sources.old sources.new state.old }
-    ensures numbers { IfErr result (λ refused. refused.numbers ≡ Some (tick_numbers refused.error sealed state.new)) }
+    ensures kept { K.tells → OnErr result (IsWholeTickOf K.Keeper S.Source basis.now tick keeper.old keeper.new feeds.old feeds.new sources.old sources.new state.old) }
+    ensures sealed { (refused : Refused) → result ≡ Err refused → refused.error ≡ RunError.SinkFault → IsSealedTickOf K.Keeper S.Source basis.now tick keeper.old keeper.new feeds.old feeds.new sources.old sources.new state.old state.new }
+    ensures partly { O.tells → (refused : Refused) → result ≡ Err refused → refused.error ≡ RunError.SinkFault → IsPartlyToldOf K.Keeper O.Sink S.Source basis.now tick keeper.old keeper.new results.old results.new feeds.old feeds.new sources.old sources.new state.old }
+    ensures numbers { IfErr result (λ refused. refused.numbers ≡ Some (tick_numbers refused.error tick.sealed state.new)) }
     ensures counts { AllCount S.tells S.left feeds.old feeds.new sources.old }
     ensures unwritten { IfErr result (λ refused. refused.error ≢ RunError.SinkFault → results.new ≡ results.old) }
     ensures fault { (refused : Refused) (place : ℕ) → result ≡ Err refused → refused.error ≡ RunError.SourceFault place → FailsAt S.faults place sources.old sources.new }
     ensures opened { (refused : Refused) → result ≡ Err refused → (refused.error ≢ RunError.KeeperRefused) × ((moment : ℕ) → refused.error ≢ RunError.MomentTooLarge moment) × ((place kept found : ℕ) → refused.error ≢ RunError.SourceShrank place kept found) }
-    ensures spent { (refused : Refused) → result ≡ Err refused → refused.error ≡ RunError.NumbersSpent → SpendsTick S.tells S.left S.faults setup.now configured.now.config configured.now.documents configured_at moment feeds.old feeds.new sources.old sources.new state.old state.new }
+    ensures spent { (refused : Refused) → result ≡ Err refused → refused.error ≡ RunError.NumbersSpent → SpendsTickOf S.Source basis.now tick feeds.old feeds.new sources.old sources.new state.old state.new }
     ensures unkept { K.tells → (refused : Refused) → result ≡ Err refused → refused.error ≢ RunError.KeeperFault → refused.error ≢ RunError.SinkFault → K.kept keeper.new ≡ K.kept keeper.old }
     ensures keeper_cause { (refused : Refused) → result ≡ Err refused → refused.error ≡ RunError.KeeperFault → Rose (K.faults keeper.old) (K.faults keeper.new) }
     ensures sink_cause { (refused : Refused) → result ≡ Err refused → refused.error ≡ RunError.SinkFault → Rose (O.faults results.old) (O.faults results.new) }
@@ -66,21 +71,21 @@ pub fn take_tick<S: Source, K: Keeper, O: Sink>(
 {
     let form = state.form();
     let last = match fill_tick(
-        alloc,
-        setup,
-        configured,
+        basis.alloc,
+        &basis.setup,
+        &basis.configured,
         state,
         feeds,
         sources,
-        configured_at,
-        moment,
+        tick.configured_at,
+        tick.moment,
     ) {
         Ok(last) => last,
-        Err(error) => return Err(unfilled(error, sealed)),
+        Err(error) => return Err(unfilled(error, tick.sealed)),
     };
-    let host = setup.host.identifier.as_str();
-    match finish_tick(alloc, state, keeper, results, host, form) {
+    let host = basis.setup.host.identifier.as_str();
+    match finish_tick(basis.alloc, state, keeper, results, host, form) {
         Ok(()) => Ok(last),
-        Err(error) => Err(unfinished(error, state, sealed)),
+        Err(error) => Err(unfinished(error, state, tick.sealed)),
     }
 }

@@ -71,14 +71,14 @@ returns-in-Err-open_noted-clause-spent g c refused is error =
 
 pub take_tick-requires-clause-goes_on : goal.take_tick-requires-clause-goes_on
 take_tick-requires-clause-goes_on g c κs within =
-    goes_on_here g.K.Keeper.tells g.S.Source.tells g.S.Source.left g.S.Source.faults c.args.setup.now c.args.configured.now.config c.args.configured.now.documents c.args.sources.now (g.K.Keeper.kept c.args.keeper.now) (g.K.Keeper.kept c.load_values.new.keeper) g.C.Clock.reads c.args.clock.now c.open_noted.new.clock c.in-Ok.restored c.in-Ok-open_noted.session.feeds.items c.open_noted.new.sources c.in-Ok-open_noted.session.configured_at c.in-Ok-open_noted.session.state c.in-Ok.ensures.value c.in-Ok.ensures.same c.in-Ok-open_noted.ensures.opened
+    goes_on_here g.K.Keeper.tells g.S.Source.tells g.S.Source.left g.S.Source.faults c.args.basis.now.setup c.args.basis.now.configured.config c.args.basis.now.configured.documents c.args.sources.now (g.K.Keeper.kept c.args.keeper.now) (g.K.Keeper.kept c.load_values.new.keeper) g.C.Clock.reads c.args.clock.now c.open_noted.new.clock c.in-Ok.restored c.in-Ok-open_noted.session.feeds.items c.open_noted.new.sources c.in-Ok-open_noted.session.configured_at c.in-Ok-open_noted.session.state c.in-Ok.ensures.value c.in-Ok.ensures.same c.in-Ok-open_noted.ensures.opened
 
 pub returns-in-Err-take_tick-clause-kept : goal.returns-in-Err-take_tick-clause-kept
 returns-in-Err-take_tick-clause-kept g c told =
     let kept_is = c.in-Ok.ensures.same in
     let opens = opens_here _ _ _ _ _ _ _ _ _ _ _ _ _ c.open_noted.new.clock c.in-Ok.restored (g.K.Keeper.kept c.load_values.new.keeper) c.in-Ok-open_noted.session.feeds.items c.as_mut_slice-feeds.result.now c.open_noted.new.sources c.in-Ok-open_noted.session.configured_at c.in-Ok-open_noted.session.state c.in-Ok.ensures.value kept_is c.requires.distinct c.in-Ok-open_noted.ensures.opened c.as_mut_slice-feeds.ensures.value in
     let going = subst (λ (feeds : List Feeding). AreGoing c.in-Ok-open_noted.session.state.counts.taken feeds) (sym c.as_mut_slice-feeds.ensures.value) c.in-Ok-open_noted.ensures.going in
-    kept_first _ _ _ _ _ _ _ _ _ _ _ _ _ c.open_noted.new.clock (g.K.Keeper.kept c.load_values.new.keeper) (g.K.Keeper.kept c.take_tick.new.keeper) (g.O.Sink.written c.take_tick.new.results) c.as_mut_slice-feeds.result.now c.take_tick.new.feeds c.open_noted.new.sources c.take_tick.new.sources c.in-Ok-open_noted.session.configured_at c.in-Ok-open_noted.session.state c.args.configured.now.notes c.requires.configuration opens.0 going kept_is (c.in-Err-take_tick.ensures.kept told) told
+    kept_first _ _ _ _ _ _ _ _ _ _ _ _ _ c.open_noted.new.clock (g.K.Keeper.kept c.load_values.new.keeper) (g.K.Keeper.kept c.take_tick.new.keeper) (g.O.Sink.written c.take_tick.new.results) c.as_mut_slice-feeds.result.now c.take_tick.new.feeds c.open_noted.new.sources c.take_tick.new.sources c.in-Ok-open_noted.session.configured_at c.in-Ok-open_noted.session.state c.args.basis.now.configured.notes c.requires.configuration opens.0 going kept_is (c.in-Err-take_tick.ensures.kept told) told
 
 pub returns-in-Err-take_tick-clause-written : goal.returns-in-Err-take_tick-clause-written
 returns-in-Err-take_tick-clause-written g c told =
@@ -86,8 +86,8 @@ returns-in-Err-take_tick-clause-written g c told =
     let opens = opens_here _ _ _ _ _ _ _ _ _ _ _ _ _ c.open_noted.new.clock c.in-Ok.restored (g.K.Keeper.kept c.load_values.new.keeper) c.in-Ok-open_noted.session.feeds.items c.as_mut_slice-feeds.result.now c.open_noted.new.sources c.in-Ok-open_noted.session.configured_at c.in-Ok-open_noted.session.state c.in-Ok.ensures.value kept_is c.requires.distinct c.in-Ok-open_noted.ensures.opened c.as_mut_slice-feeds.ensures.value in
     let going = subst (λ (feeds : List Feeding). AreGoing c.in-Ok-open_noted.session.state.counts.taken feeds) (sym c.as_mut_slice-feeds.ensures.value) c.in-Ok-open_noted.ensures.going in
     by_sink c.in-Err-take_tick.refused.error _ (g.K.Keeper.kept c.take_tick.new.keeper) (g.O.Sink.written c.take_tick.new.results)
-    (λ is. partly_first _ _ _ _ _ _ _ _ _ _ _ _ _ c.open_noted.new.clock (g.K.Keeper.kept c.load_values.new.keeper) (g.K.Keeper.kept c.take_tick.new.keeper) (g.O.Sink.written c.take_tick.new.results) c.as_mut_slice-feeds.result.now c.take_tick.new.feeds c.open_noted.new.sources c.take_tick.new.sources c.in-Ok-open_noted.session.configured_at c.in-Ok-open_noted.session.state c.args.configured.now.notes c.requires.configuration opens.0 going kept_is (c.take_tick.ensures.partly told c.in-Err-take_tick.refused c.in-Err-take_tick.is is))
-    (λ other. unwritten_first _ _ _ _ _ _ _ _ _ _ _ _ _ c.open_noted.new.clock (g.K.Keeper.kept c.load_values.new.keeper) (g.K.Keeper.kept c.take_tick.new.keeper) (g.O.Sink.written c.take_tick.new.results) c.as_mut_slice-feeds.result.now c.take_tick.new.feeds c.open_noted.new.sources c.take_tick.new.sources c.in-Ok-open_noted.session.configured_at c.in-Ok-open_noted.session.state c.args.configured.now.notes c.requires.configuration opens.0 going kept_is c.in-Err-take_tick.ensures.kept (g.O.Sink.written c.take_tick.new.results) (ap g.O.Sink.written (c.in-Err-take_tick.ensures.unwritten other)))
+    (λ is. partly_first _ _ _ _ _ _ _ _ _ _ _ _ _ c.open_noted.new.clock (g.K.Keeper.kept c.load_values.new.keeper) (g.K.Keeper.kept c.take_tick.new.keeper) (g.O.Sink.written c.take_tick.new.results) c.as_mut_slice-feeds.result.now c.take_tick.new.feeds c.open_noted.new.sources c.take_tick.new.sources c.in-Ok-open_noted.session.configured_at c.in-Ok-open_noted.session.state c.args.basis.now.configured.notes c.requires.configuration opens.0 going kept_is (c.take_tick.ensures.partly told c.in-Err-take_tick.refused c.in-Err-take_tick.is is))
+    (λ other. unwritten_first _ _ _ _ _ _ _ _ _ _ _ _ _ c.open_noted.new.clock (g.K.Keeper.kept c.load_values.new.keeper) (g.K.Keeper.kept c.take_tick.new.keeper) (g.O.Sink.written c.take_tick.new.results) c.as_mut_slice-feeds.result.now c.take_tick.new.feeds c.open_noted.new.sources c.take_tick.new.sources c.in-Ok-open_noted.session.configured_at c.in-Ok-open_noted.session.state c.args.basis.now.configured.notes c.requires.configuration opens.0 going kept_is c.in-Err-take_tick.ensures.kept (g.O.Sink.written c.take_tick.new.results) (ap g.O.Sink.written (c.in-Err-take_tick.ensures.unwritten other)))
 
 pub returns-in-Err-take_tick-clause-keeper_cause : goal.returns-in-Err-take_tick-clause-keeper_cause
 returns-in-Err-take_tick-clause-keeper_cause g c refused is error =
@@ -154,14 +154,14 @@ loop-init g c =
     let keeper_first = ticked.0 in
     let results_first = ticked.1 in
     record {
-      looping = looped_first _ _ _ _ _ _ _ _ _ _ _ _ _ c.open_noted.new.clock (g.K.Keeper.kept c.load_values.new.keeper) (g.K.Keeper.kept c.take_tick.new.keeper) (g.O.Sink.written c.take_tick.new.results) c.as_mut_slice-feeds.result.now c.take_tick.new.feeds c.open_noted.new.sources c.take_tick.new.sources c.in-Ok-open_noted.session.configured_at c.in-Ok-open_noted.session.state c.args.configured.now.notes c.requires.configuration opens.0 going kept_is c.in-Ok-take_tick.last c.take_tick.new.state c.in-Ok-take_tick.ensures.done opens.1;
+      looping = looped_first _ _ _ _ _ _ _ _ _ _ _ _ _ c.open_noted.new.clock (g.K.Keeper.kept c.load_values.new.keeper) (g.K.Keeper.kept c.take_tick.new.keeper) (g.O.Sink.written c.take_tick.new.results) c.as_mut_slice-feeds.result.now c.take_tick.new.feeds c.open_noted.new.sources c.take_tick.new.sources c.in-Ok-open_noted.session.configured_at c.in-Ok-open_noted.session.state c.args.basis.now.configured.notes c.requires.configuration opens.0 going kept_is c.in-Ok-take_tick.last c.take_tick.new.state c.in-Ok-take_tick.ensures.done opens.1;
       ready = c.in-Ok-take_tick.ensures.ready;
       goes_on = c.in-Ok-take_tick.ensures.goes_on;
       keeper_later = omega (arith, loaded, keeper_first);
       results_later = results_first;
       status_later = c.open_noted.ensures.later;
       noted = c.open_noted.ensures.grown;
-      told = λ tells. noted_so (fixed_of g.K.Keeper g.O.Sink g.S.Source c.args.setup.now c.args.configured.now c.args.sources.now c.args.keeper.now c.args.results.now) c.args.configured.now.notes (g.O.Sink.written c.args.status.now) ((record { list = (g.K.Keeper.kept c.args.keeper.now) ++ (Opened opens.0.number ∷ opens.0.tables); moment = c.in-Ok-open_noted.session.configured_at }) ∷ []) _ _ (counted_first _ _ _ _ _ _ _ _ _ _ _ _ _ c.open_noted.new.clock (g.K.Keeper.kept c.load_values.new.keeper) (g.K.Keeper.kept c.take_tick.new.keeper) (g.O.Sink.written c.take_tick.new.results) c.as_mut_slice-feeds.result.now c.take_tick.new.feeds c.open_noted.new.sources c.take_tick.new.sources c.in-Ok-open_noted.session.configured_at c.in-Ok-open_noted.session.state c.args.configured.now.notes c.requires.configuration opens.0 going kept_is c.in-Ok-take_tick.last c.take_tick.new.state c.in-Ok-take_tick.ensures.done opens.1) (noted_first (fixed_of g.K.Keeper g.O.Sink g.S.Source c.args.setup.now c.args.configured.now c.args.sources.now c.args.keeper.now c.args.results.now) c.args.configured.now.notes (g.O.Sink.written c.args.status.now) (record { list = (g.K.Keeper.kept c.args.keeper.now) ++ (Opened opens.0.number ∷ opens.0.tables); moment = c.in-Ok-open_noted.session.configured_at }) c.in-Ok-open_noted.session.found.items (g.O.Sink.written c.open_noted.new.status) (found_first _ _ _ _ g.S.Source.faults c.args.setup.now _ _ _ _ _ _ _ c.open_noted.new.clock (g.K.Keeper.kept c.load_values.new.keeper) (g.K.Keeper.kept c.take_tick.new.keeper) (g.O.Sink.written c.take_tick.new.results) c.as_mut_slice-feeds.result.now c.take_tick.new.feeds c.open_noted.new.sources c.take_tick.new.sources c.in-Ok-open_noted.session.configured_at c.in-Ok-open_noted.session.state c.args.configured.now.notes c.requires.configuration opens.0 going kept_is c.in-Ok.restored c.in-Ok-open_noted.session.found.items c.in-Ok.ensures.value c.in-Ok-open_noted.ensures.found) (c.in-Ok-open_noted.ensures.noted tells));
+      told = λ tells. noted_so (fixed_of g.K.Keeper g.O.Sink g.S.Source c.args.basis.now c.args.sources.now c.args.keeper.now c.args.results.now) c.args.basis.now.configured.notes (g.O.Sink.written c.args.status.now) ((record { list = (g.K.Keeper.kept c.args.keeper.now) ++ (Opened opens.0.number ∷ opens.0.tables); moment = c.in-Ok-open_noted.session.configured_at }) ∷ []) _ _ (counted_first _ _ _ _ _ _ _ _ _ _ _ _ _ c.open_noted.new.clock (g.K.Keeper.kept c.load_values.new.keeper) (g.K.Keeper.kept c.take_tick.new.keeper) (g.O.Sink.written c.take_tick.new.results) c.as_mut_slice-feeds.result.now c.take_tick.new.feeds c.open_noted.new.sources c.take_tick.new.sources c.in-Ok-open_noted.session.configured_at c.in-Ok-open_noted.session.state c.args.basis.now.configured.notes c.requires.configuration opens.0 going kept_is c.in-Ok-take_tick.last c.take_tick.new.state c.in-Ok-take_tick.ensures.done opens.1) (noted_first (fixed_of g.K.Keeper g.O.Sink g.S.Source c.args.basis.now c.args.sources.now c.args.keeper.now c.args.results.now) c.args.basis.now.configured.notes (g.O.Sink.written c.args.status.now) (record { list = (g.K.Keeper.kept c.args.keeper.now) ++ (Opened opens.0.number ∷ opens.0.tables); moment = c.in-Ok-open_noted.session.configured_at }) c.in-Ok-open_noted.session.found.items (g.O.Sink.written c.open_noted.new.status) (found_first _ _ _ _ g.S.Source.faults c.args.basis.now.setup _ _ _ _ _ _ _ c.open_noted.new.clock (g.K.Keeper.kept c.load_values.new.keeper) (g.K.Keeper.kept c.take_tick.new.keeper) (g.O.Sink.written c.take_tick.new.results) c.as_mut_slice-feeds.result.now c.take_tick.new.feeds c.open_noted.new.sources c.take_tick.new.sources c.in-Ok-open_noted.session.configured_at c.in-Ok-open_noted.session.state c.args.basis.now.configured.notes c.requires.configuration opens.0 going kept_is c.in-Ok.restored c.in-Ok-open_noted.session.found.items c.in-Ok.ensures.value c.in-Ok-open_noted.ensures.found) (c.in-Ok-open_noted.ensures.noted tells));
     }
 
 pub returns-in-Err-next_moment-clause-kept : goal.returns-in-Err-next_moment-clause-kept
@@ -328,7 +328,7 @@ loop-preserved g c =
       results_later = omega (arith, r, r2);
       status_later = omega (arith, s, noted);
       noted = λ tells. grown_then _ _ _ (c.loop.invariant.noted tells) (c.next_moment.ensures.grown tells);
-      told = λ tells. noted_so (fixed_of g.K.Keeper g.O.Sink g.S.Source c.args.setup.now c.args.configured.now c.args.sources.now c.args.keeper.now c.args.results.now) c.args.configured.now.notes (g.O.Sink.written c.args.status.now) ((places_of (g.K.Keeper.kept c.args.keeper.now) c.loop.invariant.looping.running.added.entries) ++ again_places (asks_again c.args.configured.now.config c.loop.last c.in-Ok-next_moment.moment) (tick_place ((g.K.Keeper.kept c.args.keeper.now) ++ c.loop.invariant.looping.running.added.entries) c.in-Ok-next_moment.moment)) _ _ (counted_on _ _ _ _ _ _ _ _ _ _ _ _ _ c.loop.clock c.next_moment.new.clock c.loop.counter (g.K.Keeper.kept c.loop.keeper) (g.K.Keeper.kept c.take_tick-in-loop.new.keeper) (g.O.Sink.written c.loop.results) c.loop.feeds c.take_tick-in-loop.new.feeds c.loop.sources c.take_tick-in-loop.new.sources c.loop.last c.in-Ok-next_moment.moment c.loop.state c.loop.invariant.looping c.loop.invariant.ready.going c.in-Ok-next_moment.ensures.read (g.O.Sink.written c.take_tick-in-loop.new.results) c.in-Ok-take_tick-2.last c.take_tick-in-loop.new.state c.in-Ok-take_tick-2.ensures.done) (noted_on (fixed_of g.K.Keeper g.O.Sink g.S.Source c.args.setup.now c.args.configured.now c.args.sources.now c.args.keeper.now c.args.results.now) c.args.configured.now.notes (g.O.Sink.written c.args.status.now) (asks_again c.args.configured.now.config c.loop.last c.in-Ok-next_moment.moment) (places_of (g.K.Keeper.kept c.args.keeper.now) c.loop.invariant.looping.running.added.entries) (tick_place ((g.K.Keeper.kept c.args.keeper.now) ++ c.loop.invariant.looping.running.added.entries) c.in-Ok-next_moment.moment) (found_now c.args.configured.now.config c.loop.state c.in-Ok-next_moment.moment) (g.O.Sink.written c.loop.status) (g.O.Sink.written c.next_moment.new.status) (found_on _ _ _ _ _ _ _ _ _ _ _ _ _ c.loop.clock c.next_moment.new.clock c.loop.counter (g.K.Keeper.kept c.loop.keeper) (g.K.Keeper.kept c.take_tick-in-loop.new.keeper) (g.O.Sink.written c.loop.results) c.loop.feeds c.take_tick-in-loop.new.feeds c.loop.sources c.take_tick-in-loop.new.sources c.loop.last c.in-Ok-next_moment.moment c.loop.state c.loop.invariant.looping c.loop.invariant.ready.going c.in-Ok-next_moment.ensures.read c.next_moment.ensures.is) (c.loop.invariant.told tells) (c.in-Ok-next_moment.ensures.noted tells));
+      told = λ tells. noted_so (fixed_of g.K.Keeper g.O.Sink g.S.Source c.args.basis.now c.args.sources.now c.args.keeper.now c.args.results.now) c.args.basis.now.configured.notes (g.O.Sink.written c.args.status.now) ((places_of (g.K.Keeper.kept c.args.keeper.now) c.loop.invariant.looping.running.added.entries) ++ again_places (asks_again c.args.basis.now.configured.config c.loop.last c.in-Ok-next_moment.moment) (tick_place ((g.K.Keeper.kept c.args.keeper.now) ++ c.loop.invariant.looping.running.added.entries) c.in-Ok-next_moment.moment)) _ _ (counted_on _ _ _ _ _ _ _ _ _ _ _ _ _ c.loop.clock c.next_moment.new.clock c.loop.counter (g.K.Keeper.kept c.loop.keeper) (g.K.Keeper.kept c.take_tick-in-loop.new.keeper) (g.O.Sink.written c.loop.results) c.loop.feeds c.take_tick-in-loop.new.feeds c.loop.sources c.take_tick-in-loop.new.sources c.loop.last c.in-Ok-next_moment.moment c.loop.state c.loop.invariant.looping c.loop.invariant.ready.going c.in-Ok-next_moment.ensures.read (g.O.Sink.written c.take_tick-in-loop.new.results) c.in-Ok-take_tick-2.last c.take_tick-in-loop.new.state c.in-Ok-take_tick-2.ensures.done) (noted_on (fixed_of g.K.Keeper g.O.Sink g.S.Source c.args.basis.now c.args.sources.now c.args.keeper.now c.args.results.now) c.args.basis.now.configured.notes (g.O.Sink.written c.args.status.now) (asks_again c.args.basis.now.configured.config c.loop.last c.in-Ok-next_moment.moment) (places_of (g.K.Keeper.kept c.args.keeper.now) c.loop.invariant.looping.running.added.entries) (tick_place ((g.K.Keeper.kept c.args.keeper.now) ++ c.loop.invariant.looping.running.added.entries) c.in-Ok-next_moment.moment) (found_now c.args.basis.now.configured.config c.loop.state c.in-Ok-next_moment.moment) (g.O.Sink.written c.loop.status) (g.O.Sink.written c.next_moment.new.status) (found_on _ _ _ _ _ _ _ _ _ _ _ _ _ c.loop.clock c.next_moment.new.clock c.loop.counter (g.K.Keeper.kept c.loop.keeper) (g.K.Keeper.kept c.take_tick-in-loop.new.keeper) (g.O.Sink.written c.loop.results) c.loop.feeds c.take_tick-in-loop.new.feeds c.loop.sources c.take_tick-in-loop.new.sources c.loop.last c.in-Ok-next_moment.moment c.loop.state c.loop.invariant.looping c.loop.invariant.ready.going c.in-Ok-next_moment.ensures.read c.next_moment.ensures.is) (c.loop.invariant.told tells) (c.in-Ok-next_moment.ensures.noted tells));
     }
 
 pub returns-clause-done : goal.returns-clause-done
@@ -337,9 +337,9 @@ returns-clause-done g c =
     let past = c.loop-test.false in
     let within = c.loop.auto.counter-end in
     let some = c.requires.ticks in
-    let same : c.loop.counter ≡ c.args.setup.now.ticks = omega (arith, past, within, some) in
+    let same : c.loop.counter ≡ c.args.basis.now.setup.ticks = omega (arith, past, within, some) in
     of_value _ _ _ c.end_session.result c.end_session.ensures.is_end c.end_session.ensures.numbers
-    (λ ended is_end numbers. has_run g.S.Source.left _ g.C.Clock.reads c.args.clock.now c.loop.clock (g.K.Keeper.kept c.loop.keeper) (g.O.Sink.written c.loop.results) c.loop.feeds c.loop.sources c.loop.last c.loop.state l.running c.args.setup.now.ticks (λ told. subst (λ (steps : ℕ). HaveSteps g.S.Source.tells g.S.Source.left c.args.setup.now.records steps (g.K.Keeper.kept c.args.keeper.now) (sources_of g.S.Source.left c.args.setup.now.sources c.args.sources.now) c.loop.feeds c.loop.sources) same (l.have told)) c.is_state.ensures c.loop.invariant.ready c.coverage.ensures ended (l.count ∙ same) is_end numbers)
+    (λ ended is_end numbers. has_run g.S.Source.left _ g.C.Clock.reads c.args.clock.now c.loop.clock (g.K.Keeper.kept c.loop.keeper) (g.O.Sink.written c.loop.results) c.loop.feeds c.loop.sources c.loop.last c.loop.state l.running c.args.basis.now.setup.ticks (λ told. subst (λ (steps : ℕ). HaveSteps g.S.Source.tells g.S.Source.left c.args.basis.now.setup.records steps (g.K.Keeper.kept c.args.keeper.now) (sources_of g.S.Source.left c.args.basis.now.setup.sources c.args.sources.now) c.loop.feeds c.loop.sources) same (l.have told)) c.is_state.ensures c.loop.invariant.ready c.coverage.ensures ended (l.count ∙ same) is_end numbers)
 
 pub returns-clause-kept : goal.returns-clause-kept
 returns-clause-kept g c told =
@@ -418,7 +418,7 @@ returns-in-Err-clause-stops_telling g c tells =
       places = [];
       configured = λ told. places_still (g.K.Keeper.kept c.args.keeper.now) (g.K.Keeper.kept c.load_values.new.keeper) (c.in-Err.ensures.same told);
       between = g.O.Sink.written c.args.status.now;
-      noted = noted_none (fixed_of g.K.Keeper g.O.Sink g.S.Source c.args.setup.now c.args.configured.now c.args.sources.now c.args.keeper.now c.args.results.now) c.args.configured.now.notes (g.O.Sink.written c.args.status.now);
+      noted = noted_none (fixed_of g.K.Keeper g.O.Sink g.S.Source c.args.basis.now c.args.sources.now c.args.keeper.now c.args.results.now) c.args.basis.now.configured.notes (g.O.Sink.written c.args.status.now);
       skipped = inl refl;
     })
 
@@ -428,11 +428,11 @@ returns-in-Err-open_noted-clause-stops g c =
     let loaded = c.in-Err-open_noted.ensures.loaded in
     stops_with _ (λ readings. ReadsAll g.C.Clock.reads c.args.clock.now readings c.open_noted.new.clock) (g.K.Keeper.kept c.load_values.new.keeper) (c.open_noted.new.status ≡ c.args.status.now) refused.error refused.numbers (numbers_in c.in-Ok.restored) c.in-Err-open_noted.ensures.numbers
     (numbers_for _ (λ readings. ReadsAll g.C.Clock.reads c.args.clock.now readings c.open_noted.new.clock) (g.K.Keeper.kept c.load_values.new.keeper) refused.error (numbers_in c.in-Ok.restored) loaded.0 loaded.1
-    (loaded_numbers (fixed_of g.K.Keeper g.O.Sink g.S.Source c.args.setup.now c.args.configured.now c.args.sources.now c.args.keeper.now c.args.results.now) (λ readings. ReadsAll g.C.Clock.reads c.args.clock.now readings c.open_noted.new.clock) (g.K.Keeper.kept c.load_values.new.keeper) c.in-Ok.restored c.in-Ok.ensures.value c.in-Ok.ensures.same))
+    (loaded_numbers (fixed_of g.K.Keeper g.O.Sink g.S.Source c.args.basis.now c.args.sources.now c.args.keeper.now c.args.results.now) (λ readings. ReadsAll g.C.Clock.reads c.args.clock.now readings c.open_noted.new.clock) (g.K.Keeper.kept c.load_values.new.keeper) c.in-Ok.restored c.in-Ok.ensures.value c.in-Ok.ensures.same))
 
 pub returns-in-Err-open_noted-clause-stops_telling : goal.returns-in-Err-open_noted-clause-stops_telling
 returns-in-Err-open_noted-clause-stops_telling g c tells =
-    told_opening _ _ _ _ _ _ _ _ _ _ _ _ _ c.open_noted.new.clock c.in-Ok.restored (g.K.Keeper.kept c.load_values.new.keeper) c.open_noted.new.sources c.in-Ok.ensures.value c.in-Ok.ensures.same c.requires.distinct c.args.configured.now.notes (g.O.Sink.written c.args.status.now) (g.O.Sink.written c.open_noted.new.status) (g.O.Sink.faults c.args.status.now) (g.O.Sink.faults c.open_noted.new.status)
+    told_opening _ _ _ _ _ _ _ _ _ _ _ _ _ c.open_noted.new.clock c.in-Ok.restored (g.K.Keeper.kept c.load_values.new.keeper) c.open_noted.new.sources c.in-Ok.ensures.value c.in-Ok.ensures.same c.requires.distinct c.args.basis.now.configured.notes (g.O.Sink.written c.args.status.now) (g.O.Sink.written c.open_noted.new.status) (g.O.Sink.faults c.args.status.now) (g.O.Sink.faults c.open_noted.new.status)
     (c.in-Err-open_noted.ensures.untold tells)
 
 pub returns-in-Err-take_tick-clause-stops : goal.returns-in-Err-take_tick-clause-stops
@@ -442,13 +442,13 @@ returns-in-Err-take_tick-clause-stops g c =
     let going = subst (λ (feeds : List Feeding). AreGoing c.in-Ok-open_noted.session.state.counts.taken feeds) (sym c.as_mut_slice-feeds.ensures.value) c.in-Ok-open_noted.ensures.going in
     let refused = c.in-Err-take_tick.refused in
     let same : c.numbers_in-sealed.result ≡ numbers_in c.in-Ok.restored = c.numbers_in-sealed.ensures in
-    let loaded = loaded_numbers (fixed_of g.K.Keeper g.O.Sink g.S.Source c.args.setup.now c.args.configured.now c.args.sources.now c.args.keeper.now c.args.results.now) (λ readings. ReadsAll g.C.Clock.reads c.args.clock.now readings c.open_noted.new.clock) (g.K.Keeper.kept c.take_tick.new.keeper) c.in-Ok.restored c.in-Ok.ensures.value in
+    let loaded = loaded_numbers (fixed_of g.K.Keeper g.O.Sink g.S.Source c.args.basis.now c.args.sources.now c.args.keeper.now c.args.results.now) (λ readings. ReadsAll g.C.Clock.reads c.args.clock.now readings c.open_noted.new.clock) (g.K.Keeper.kept c.take_tick.new.keeper) c.in-Ok.restored c.in-Ok.ensures.value in
     tick_stops _ (λ readings. ReadsAll g.C.Clock.reads c.args.clock.now readings c.open_noted.new.clock) (g.K.Keeper.kept c.take_tick.new.keeper) (c.told.new.status ≡ c.args.status.now) refused c.told.result c.numbers_in-sealed.result c.take_tick.new.state c.told.ensures.same c.in-Err-take_tick.ensures.numbers
     (c.take_tick.ensures.opened refused c.in-Err-take_tick.is).0
-    (λ is. sealed_first _ _ _ _ _ _ _ _ _ _ _ _ _ c.open_noted.new.clock (g.K.Keeper.kept c.load_values.new.keeper) (g.K.Keeper.kept c.take_tick.new.keeper) (g.O.Sink.written c.take_tick.new.results) c.as_mut_slice-feeds.result.now c.take_tick.new.feeds c.open_noted.new.sources c.take_tick.new.sources c.in-Ok-open_noted.session.configured_at c.in-Ok-open_noted.session.state c.args.configured.now.notes c.requires.configuration opens.0 going kept_is c.numbers_in-sealed.result
-    (subst (λ (numbers : Numbers). AreNumbersOf (fixed_of g.K.Keeper g.O.Sink g.S.Source c.args.setup.now c.args.configured.now c.args.sources.now c.args.keeper.now c.args.results.now) (g.K.Keeper.kept c.args.keeper.now) numbers) (sym same) (loaded_numbers (fixed_of g.K.Keeper g.O.Sink g.S.Source c.args.setup.now c.args.configured.now c.args.sources.now c.args.keeper.now c.args.results.now) (λ readings. ReadsAll g.C.Clock.reads c.args.clock.now readings c.open_noted.new.clock) (g.K.Keeper.kept c.args.keeper.now) c.in-Ok.restored c.in-Ok.ensures.value (λ tells. refl))) c.in-Err-take_tick.ensures.kept)
-    (λ is. numbers_first _ _ _ _ _ _ _ _ _ _ _ _ _ c.open_noted.new.clock (g.K.Keeper.kept c.load_values.new.keeper) (g.K.Keeper.kept c.take_tick.new.keeper) (g.O.Sink.written c.take_tick.new.results) c.as_mut_slice-feeds.result.now c.take_tick.new.feeds c.open_noted.new.sources c.take_tick.new.sources c.in-Ok-open_noted.session.configured_at c.in-Ok-open_noted.session.state c.args.configured.now.notes c.requires.configuration opens.0 going kept_is c.take_tick.new.state (c.take_tick.ensures.sealed refused c.in-Err-take_tick.is is))
-    (λ not_keeper not_sink. subst (λ (numbers : Numbers). AreNumbersOf (fixed_of g.K.Keeper g.O.Sink g.S.Source c.args.setup.now c.args.configured.now c.args.sources.now c.args.keeper.now c.args.results.now) (g.K.Keeper.kept c.take_tick.new.keeper) numbers) (sym same)
+    (λ is. sealed_first _ _ _ _ _ _ _ _ _ _ _ _ _ c.open_noted.new.clock (g.K.Keeper.kept c.load_values.new.keeper) (g.K.Keeper.kept c.take_tick.new.keeper) (g.O.Sink.written c.take_tick.new.results) c.as_mut_slice-feeds.result.now c.take_tick.new.feeds c.open_noted.new.sources c.take_tick.new.sources c.in-Ok-open_noted.session.configured_at c.in-Ok-open_noted.session.state c.args.basis.now.configured.notes c.requires.configuration opens.0 going kept_is c.numbers_in-sealed.result
+    (subst (λ (numbers : Numbers). AreNumbersOf (fixed_of g.K.Keeper g.O.Sink g.S.Source c.args.basis.now c.args.sources.now c.args.keeper.now c.args.results.now) (g.K.Keeper.kept c.args.keeper.now) numbers) (sym same) (loaded_numbers (fixed_of g.K.Keeper g.O.Sink g.S.Source c.args.basis.now c.args.sources.now c.args.keeper.now c.args.results.now) (λ readings. ReadsAll g.C.Clock.reads c.args.clock.now readings c.open_noted.new.clock) (g.K.Keeper.kept c.args.keeper.now) c.in-Ok.restored c.in-Ok.ensures.value (λ tells. refl))) c.in-Err-take_tick.ensures.kept)
+    (λ is. numbers_first _ _ _ _ _ _ _ _ _ _ _ _ _ c.open_noted.new.clock (g.K.Keeper.kept c.load_values.new.keeper) (g.K.Keeper.kept c.take_tick.new.keeper) (g.O.Sink.written c.take_tick.new.results) c.as_mut_slice-feeds.result.now c.take_tick.new.feeds c.open_noted.new.sources c.take_tick.new.sources c.in-Ok-open_noted.session.configured_at c.in-Ok-open_noted.session.state c.args.basis.now.configured.notes c.requires.configuration opens.0 going kept_is c.take_tick.new.state (c.take_tick.ensures.sealed refused c.in-Err-take_tick.is is))
+    (λ not_keeper not_sink. subst (λ (numbers : Numbers). AreNumbersOf (fixed_of g.K.Keeper g.O.Sink g.S.Source c.args.basis.now c.args.sources.now c.args.keeper.now c.args.results.now) (g.K.Keeper.kept c.take_tick.new.keeper) numbers) (sym same)
     (loaded (λ tells. c.take_tick.ensures.unkept tells refused c.in-Err-take_tick.is not_keeper not_sink ∙ kept_is tells)))
 
 pub returns-in-Err-take_tick-clause-stops_telling : goal.returns-in-Err-take_tick-clause-stops_telling
@@ -456,23 +456,23 @@ returns-in-Err-take_tick-clause-stops_telling g c tells =
     let kept_is = c.in-Ok.ensures.same in
     let opens = opens_here _ g.O.Sink.tells _ _ _ _ _ _ _ _ (g.O.Sink.written c.args.results.now) _ _ c.open_noted.new.clock c.in-Ok.restored (g.K.Keeper.kept c.load_values.new.keeper) c.in-Ok-open_noted.session.feeds.items c.as_mut_slice-feeds.result.now c.open_noted.new.sources c.in-Ok-open_noted.session.configured_at c.in-Ok-open_noted.session.state c.in-Ok.ensures.value kept_is c.requires.distinct c.in-Ok-open_noted.ensures.opened c.as_mut_slice-feeds.ensures.value in
     let going = subst (λ (feeds : List Feeding). AreGoing c.in-Ok-open_noted.session.state.counts.taken feeds) (sym c.as_mut_slice-feeds.ensures.value) c.in-Ok-open_noted.ensures.going in
-    told_some _ (g.K.Keeper.kept c.take_tick.new.keeper) c.args.configured.now.notes (g.O.Sink.written c.args.status.now) (g.O.Sink.written c.open_noted.new.status) (g.O.Sink.written c.told.new.status) (g.O.Sink.faults c.args.status.now) (g.O.Sink.faults c.open_noted.new.status) (g.O.Sink.faults c.told.new.status)
-    ((record { list = (g.K.Keeper.kept c.args.keeper.now) ++ (Opened opens.0.number ∷ opens.0.tables); moment = c.in-Ok-open_noted.session.configured_at }) ∷ []) c.take_tick.new.feeds (counts_first g.S.Source.left _ _ (g.K.Keeper.kept c.take_tick.new.keeper) c.as_mut_slice-feeds.result.now c.take_tick.new.feeds c.open_noted.new.sources (λ told. rest_first _ _ _ _ _ _ _ _ _ _ _ _ _ c.open_noted.new.clock (g.K.Keeper.kept c.load_values.new.keeper) (g.K.Keeper.kept c.take_tick.new.keeper) (g.O.Sink.written c.take_tick.new.results) c.as_mut_slice-feeds.result.now c.take_tick.new.feeds c.open_noted.new.sources c.take_tick.new.sources c.in-Ok-open_noted.session.configured_at c.in-Ok-open_noted.session.state c.args.configured.now.notes c.requires.configuration opens.0 going kept_is (c.in-Err-take_tick.ensures.kept told) told) opens.0.standing.fed c.take_tick.ensures.counts)
-    (λ told. counted_in_first _ _ _ _ _ _ _ _ _ _ _ _ _ c.open_noted.new.clock (g.K.Keeper.kept c.load_values.new.keeper) (g.K.Keeper.kept c.take_tick.new.keeper) (g.O.Sink.written c.take_tick.new.results) c.as_mut_slice-feeds.result.now c.take_tick.new.feeds c.open_noted.new.sources c.take_tick.new.sources c.in-Ok-open_noted.session.configured_at c.in-Ok-open_noted.session.state c.args.configured.now.notes c.requires.configuration opens.0 going kept_is (c.in-Err-take_tick.ensures.kept told) told) (noted_first (fixed_of g.K.Keeper g.O.Sink g.S.Source c.args.setup.now c.args.configured.now c.args.sources.now c.args.keeper.now c.args.results.now) c.args.configured.now.notes (g.O.Sink.written c.args.status.now) (record { list = (g.K.Keeper.kept c.args.keeper.now) ++ (Opened opens.0.number ∷ opens.0.tables); moment = c.in-Ok-open_noted.session.configured_at }) c.in-Ok-open_noted.session.found.items (g.O.Sink.written c.open_noted.new.status) (found_first _ _ _ _ g.S.Source.faults c.args.setup.now _ _ _ _ _ _ _ c.open_noted.new.clock (g.K.Keeper.kept c.load_values.new.keeper) (g.K.Keeper.kept c.take_tick.new.keeper) (g.O.Sink.written c.take_tick.new.results) c.as_mut_slice-feeds.result.now c.take_tick.new.feeds c.open_noted.new.sources c.take_tick.new.sources c.in-Ok-open_noted.session.configured_at c.in-Ok-open_noted.session.state c.args.configured.now.notes c.requires.configuration opens.0 going kept_is c.in-Ok.restored c.in-Ok-open_noted.session.found.items c.in-Ok.ensures.value c.in-Ok-open_noted.ensures.found) (c.in-Ok-open_noted.ensures.noted tells)) (c.told.ensures.skipped tells) c.open_noted.ensures.later
+    told_some _ (g.K.Keeper.kept c.take_tick.new.keeper) c.args.basis.now.configured.notes (g.O.Sink.written c.args.status.now) (g.O.Sink.written c.open_noted.new.status) (g.O.Sink.written c.told.new.status) (g.O.Sink.faults c.args.status.now) (g.O.Sink.faults c.open_noted.new.status) (g.O.Sink.faults c.told.new.status)
+    ((record { list = (g.K.Keeper.kept c.args.keeper.now) ++ (Opened opens.0.number ∷ opens.0.tables); moment = c.in-Ok-open_noted.session.configured_at }) ∷ []) c.take_tick.new.feeds (counts_first g.S.Source.left _ _ (g.K.Keeper.kept c.take_tick.new.keeper) c.as_mut_slice-feeds.result.now c.take_tick.new.feeds c.open_noted.new.sources (λ told. rest_first _ _ _ _ _ _ _ _ _ _ _ _ _ c.open_noted.new.clock (g.K.Keeper.kept c.load_values.new.keeper) (g.K.Keeper.kept c.take_tick.new.keeper) (g.O.Sink.written c.take_tick.new.results) c.as_mut_slice-feeds.result.now c.take_tick.new.feeds c.open_noted.new.sources c.take_tick.new.sources c.in-Ok-open_noted.session.configured_at c.in-Ok-open_noted.session.state c.args.basis.now.configured.notes c.requires.configuration opens.0 going kept_is (c.in-Err-take_tick.ensures.kept told) told) opens.0.standing.fed c.take_tick.ensures.counts)
+    (λ told. counted_in_first _ _ _ _ _ _ _ _ _ _ _ _ _ c.open_noted.new.clock (g.K.Keeper.kept c.load_values.new.keeper) (g.K.Keeper.kept c.take_tick.new.keeper) (g.O.Sink.written c.take_tick.new.results) c.as_mut_slice-feeds.result.now c.take_tick.new.feeds c.open_noted.new.sources c.take_tick.new.sources c.in-Ok-open_noted.session.configured_at c.in-Ok-open_noted.session.state c.args.basis.now.configured.notes c.requires.configuration opens.0 going kept_is (c.in-Err-take_tick.ensures.kept told) told) (noted_first (fixed_of g.K.Keeper g.O.Sink g.S.Source c.args.basis.now c.args.sources.now c.args.keeper.now c.args.results.now) c.args.basis.now.configured.notes (g.O.Sink.written c.args.status.now) (record { list = (g.K.Keeper.kept c.args.keeper.now) ++ (Opened opens.0.number ∷ opens.0.tables); moment = c.in-Ok-open_noted.session.configured_at }) c.in-Ok-open_noted.session.found.items (g.O.Sink.written c.open_noted.new.status) (found_first _ _ _ _ g.S.Source.faults c.args.basis.now.setup _ _ _ _ _ _ _ c.open_noted.new.clock (g.K.Keeper.kept c.load_values.new.keeper) (g.K.Keeper.kept c.take_tick.new.keeper) (g.O.Sink.written c.take_tick.new.results) c.as_mut_slice-feeds.result.now c.take_tick.new.feeds c.open_noted.new.sources c.take_tick.new.sources c.in-Ok-open_noted.session.configured_at c.in-Ok-open_noted.session.state c.args.basis.now.configured.notes c.requires.configuration opens.0 going kept_is c.in-Ok.restored c.in-Ok-open_noted.session.found.items c.in-Ok.ensures.value c.in-Ok-open_noted.ensures.found) (c.in-Ok-open_noted.ensures.noted tells)) (c.told.ensures.skipped tells) c.open_noted.ensures.later
 
 pub returns-in-Err-next_moment-clause-stops : goal.returns-in-Err-next_moment-clause-stops
 returns-in-Err-next_moment-clause-stops g c =
     let refused = c.in-Err-next_moment.refused in
     let r = c.loop.invariant.looping.running.added in
-    subst (λ (r : Refused). Stops (run_of g.K.Keeper g.O.Sink g.S.Source g.C.Clock c.args.setup.now c.args.configured.now c.args.sources.now c.args.keeper.now c.args.results.now c.args.clock.now c.next_moment.new.clock) (g.K.Keeper.kept c.loop.keeper) (c.told-in-Err-next_moment.new.status ≡ c.args.status.now) r.error r.numbers) (sym c.told-in-Err-next_moment.ensures.same)
+    subst (λ (r : Refused). Stops (run_of g.K.Keeper g.O.Sink g.S.Source g.C.Clock c.args.basis.now c.args.sources.now c.args.keeper.now c.args.results.now c.args.clock.now c.next_moment.new.clock) (g.K.Keeper.kept c.loop.keeper) (c.told-in-Err-next_moment.new.status ≡ c.args.status.now) r.error r.numbers) (sym c.told-in-Err-next_moment.ensures.same)
     (stops_with _ (λ readings. ReadsAll g.C.Clock.reads c.args.clock.now readings c.next_moment.new.clock) (g.K.Keeper.kept c.loop.keeper) (c.told-in-Err-next_moment.new.status ≡ c.args.status.now) refused.error refused.numbers (numbers_of c.loop.state) c.in-Err-next_moment.ensures.numbers
-    (numbers_between (fixed_of g.K.Keeper g.O.Sink g.S.Source c.args.setup.now c.args.configured.now c.args.sources.now c.args.keeper.now c.args.results.now) (λ readings. ReadsAll g.C.Clock.reads c.args.clock.now readings c.next_moment.new.clock) (g.K.Keeper.kept c.loop.keeper) _ _ refused.error (numbers_of c.loop.state) c.in-Err-next_moment.ensures.cause
+    (numbers_between (fixed_of g.K.Keeper g.O.Sink g.S.Source c.args.basis.now c.args.sources.now c.args.keeper.now c.args.results.now) (λ readings. ReadsAll g.C.Clock.reads c.args.clock.now readings c.next_moment.new.clock) (g.K.Keeper.kept c.loop.keeper) _ _ refused.error (numbers_of c.loop.state) c.in-Err-next_moment.ensures.cause
     (numbers_are g.S.Source.left _ r.entries (g.K.Keeper.kept c.loop.keeper) c.loop.feeds c.loop.sources c.loop.last c.loop.state r.standing r.empty)))
 
 pub returns-in-Err-next_moment-clause-stops_telling : goal.returns-in-Err-next_moment-clause-stops_telling
 returns-in-Err-next_moment-clause-stops_telling g c tells =
     let r = c.loop.invariant.looping.running.added in
-    told_some _ (g.K.Keeper.kept c.loop.keeper) c.args.configured.now.notes (g.O.Sink.written c.args.status.now) (g.O.Sink.written c.loop.status) (g.O.Sink.written c.told-in-Err-next_moment.new.status) (g.O.Sink.faults c.args.status.now) (g.O.Sink.faults c.loop.status) (g.O.Sink.faults c.told-in-Err-next_moment.new.status)
+    told_some _ (g.K.Keeper.kept c.loop.keeper) c.args.basis.now.configured.notes (g.O.Sink.written c.args.status.now) (g.O.Sink.written c.loop.status) (g.O.Sink.written c.told-in-Err-next_moment.new.status) (g.O.Sink.faults c.args.status.now) (g.O.Sink.faults c.loop.status) (g.O.Sink.faults c.told-in-Err-next_moment.new.status)
     (places_of (g.K.Keeper.kept c.args.keeper.now) c.loop.invariant.looping.running.added.entries) c.loop.feeds (counts_now g.S.Source.left _ r.entries (g.K.Keeper.kept c.loop.keeper) c.loop.feeds c.loop.sources (all_kept g.S.Source.left _ r.entries (g.K.Keeper.kept c.loop.keeper) c.loop.feeds c.loop.sources c.loop.last c.loop.state r.standing r.empty) r.standing.fed)
     (λ told. places_now (g.K.Keeper.kept c.args.keeper.now) (g.K.Keeper.kept c.loop.keeper) c.loop.invariant.looping.running.added.entries (counted_now _ _ _ _ _ _ _ _ _ _ _ _ _ c.loop.clock c.loop.counter (g.K.Keeper.kept c.loop.keeper) (g.O.Sink.written c.loop.results) c.loop.feeds c.loop.sources c.loop.last c.loop.state c.loop.invariant.looping told)) (c.loop.invariant.told tells) (skipped_behind c.loop.feeds (g.O.Sink.written c.loop.status) (g.O.Sink.written c.next_moment.new.status) (g.O.Sink.written c.told-in-Err-next_moment.new.status) (g.O.Sink.faults c.loop.status) (g.O.Sink.faults c.next_moment.new.status) (g.O.Sink.faults c.told-in-Err-next_moment.new.status) (c.in-Err-next_moment.ensures.untold tells) (c.told-in-Err-next_moment.ensures.skipped tells) c.next_moment.ensures.later c.told-in-Err-next_moment.ensures.later) c.loop.invariant.status_later
 
@@ -482,9 +482,9 @@ returns-in-Err-take_tick-2-clause-stops g c =
     let same : c.numbers_of-sealed.result ≡ numbers_of c.loop.state = c.numbers_of-sealed.ensures in
     tick_stops _ (λ readings. ReadsAll g.C.Clock.reads c.args.clock.now readings c.next_moment.new.clock) (g.K.Keeper.kept c.take_tick-in-loop.new.keeper) (c.told-in-Err-take_tick-2.new.status ≡ c.args.status.now) refused c.told-in-Err-take_tick-2.result c.numbers_of-sealed.result c.take_tick-in-loop.new.state c.told-in-Err-take_tick-2.ensures.same c.in-Err-take_tick-2.ensures.numbers
     (c.take_tick-in-loop.ensures.opened refused c.in-Err-take_tick-2.is).0
-    (λ is. subst (λ (numbers : Numbers). AreSealed (run_of g.K.Keeper g.O.Sink g.S.Source g.C.Clock c.args.setup.now c.args.configured.now c.args.sources.now c.args.keeper.now c.args.results.now c.args.clock.now c.next_moment.new.clock) (g.K.Keeper.kept c.take_tick-in-loop.new.keeper) numbers) (sym same) (sealed_on _ _ _ _ _ _ _ _ _ _ _ _ _ c.loop.clock c.next_moment.new.clock c.loop.counter (g.K.Keeper.kept c.loop.keeper) (g.K.Keeper.kept c.take_tick-in-loop.new.keeper) (g.O.Sink.written c.loop.results) c.loop.feeds c.take_tick-in-loop.new.feeds c.loop.sources c.take_tick-in-loop.new.sources c.loop.last c.in-Ok-next_moment.moment c.loop.state c.loop.invariant.looping c.loop.invariant.ready.going c.in-Ok-next_moment.ensures.read c.in-Err-take_tick-2.ensures.kept))
+    (λ is. subst (λ (numbers : Numbers). AreSealed (run_of g.K.Keeper g.O.Sink g.S.Source g.C.Clock c.args.basis.now c.args.sources.now c.args.keeper.now c.args.results.now c.args.clock.now c.next_moment.new.clock) (g.K.Keeper.kept c.take_tick-in-loop.new.keeper) numbers) (sym same) (sealed_on _ _ _ _ _ _ _ _ _ _ _ _ _ c.loop.clock c.next_moment.new.clock c.loop.counter (g.K.Keeper.kept c.loop.keeper) (g.K.Keeper.kept c.take_tick-in-loop.new.keeper) (g.O.Sink.written c.loop.results) c.loop.feeds c.take_tick-in-loop.new.feeds c.loop.sources c.take_tick-in-loop.new.sources c.loop.last c.in-Ok-next_moment.moment c.loop.state c.loop.invariant.looping c.loop.invariant.ready.going c.in-Ok-next_moment.ensures.read c.in-Err-take_tick-2.ensures.kept))
     (λ is. numbers_on _ _ _ _ _ _ _ _ _ _ _ _ _ c.loop.clock c.next_moment.new.clock c.loop.counter (g.K.Keeper.kept c.loop.keeper) (g.K.Keeper.kept c.take_tick-in-loop.new.keeper) (g.O.Sink.written c.loop.results) c.loop.feeds c.take_tick-in-loop.new.feeds c.loop.sources c.take_tick-in-loop.new.sources c.loop.last c.in-Ok-next_moment.moment c.loop.state c.loop.invariant.looping c.loop.invariant.ready.going c.in-Ok-next_moment.ensures.read c.take_tick-in-loop.new.state (c.take_tick-in-loop.ensures.sealed refused c.in-Err-take_tick-2.is is))
-    (λ not_keeper not_sink. subst (λ (numbers : Numbers). AreNumbersOf (fixed_of g.K.Keeper g.O.Sink g.S.Source c.args.setup.now c.args.configured.now c.args.sources.now c.args.keeper.now c.args.results.now) (g.K.Keeper.kept c.take_tick-in-loop.new.keeper) numbers) (sym same)
+    (λ not_keeper not_sink. subst (λ (numbers : Numbers). AreNumbersOf (fixed_of g.K.Keeper g.O.Sink g.S.Source c.args.basis.now c.args.sources.now c.args.keeper.now c.args.results.now) (g.K.Keeper.kept c.take_tick-in-loop.new.keeper) numbers) (sym same)
     (numbers_same _ _ _ _ _ _ _ _ _ _ _ _ _ c.loop.clock c.next_moment.new.clock c.loop.counter (g.K.Keeper.kept c.loop.keeper) (g.K.Keeper.kept c.take_tick-in-loop.new.keeper) (g.O.Sink.written c.loop.results) c.loop.feeds c.take_tick-in-loop.new.feeds c.loop.sources c.take_tick-in-loop.new.sources c.loop.last c.in-Ok-next_moment.moment c.loop.state c.loop.invariant.looping c.loop.invariant.ready.going c.in-Ok-next_moment.ensures.read (λ tells. c.take_tick-in-loop.ensures.unkept tells refused c.in-Err-take_tick-2.is not_keeper not_sink)))
 
 pub returns-in-Err-take_tick-2-clause-stops_telling : goal.returns-in-Err-take_tick-2-clause-stops_telling
@@ -492,9 +492,9 @@ returns-in-Err-take_tick-2-clause-stops_telling g c tells =
     let r = c.loop.invariant.looping.running.added in
     let before = c.loop.invariant.status_later in
     let noted = c.next_moment.ensures.later in
-    told_some _ (g.K.Keeper.kept c.take_tick-in-loop.new.keeper) c.args.configured.now.notes (g.O.Sink.written c.args.status.now) (g.O.Sink.written c.next_moment.new.status) (g.O.Sink.written c.told-in-Err-take_tick-2.new.status) (g.O.Sink.faults c.args.status.now) (g.O.Sink.faults c.next_moment.new.status) (g.O.Sink.faults c.told-in-Err-take_tick-2.new.status)
-    ((places_of (g.K.Keeper.kept c.args.keeper.now) c.loop.invariant.looping.running.added.entries) ++ again_places (asks_again c.args.configured.now.config c.loop.last c.in-Ok-next_moment.moment) (tick_place ((g.K.Keeper.kept c.args.keeper.now) ++ c.loop.invariant.looping.running.added.entries) c.in-Ok-next_moment.moment)) c.take_tick-in-loop.new.feeds (counts_on g.S.Source.left _ r.entries (g.K.Keeper.kept c.take_tick-in-loop.new.keeper) c.loop.feeds c.take_tick-in-loop.new.feeds c.loop.sources (λ told. more_kept _ _ _ _ _ _ _ _ _ _ _ _ _ c.loop.clock c.next_moment.new.clock c.loop.counter (g.K.Keeper.kept c.loop.keeper) (g.K.Keeper.kept c.take_tick-in-loop.new.keeper) (g.O.Sink.written c.loop.results) c.loop.feeds c.take_tick-in-loop.new.feeds c.loop.sources c.take_tick-in-loop.new.sources c.loop.last c.in-Ok-next_moment.moment c.loop.state c.loop.invariant.looping c.loop.invariant.ready.going c.in-Ok-next_moment.ensures.read (c.in-Err-take_tick-2.ensures.kept told) told) r.standing.fed c.take_tick-in-loop.ensures.counts)
-    (λ told. counted_in _ _ _ _ _ _ _ _ _ _ _ _ _ c.loop.clock c.next_moment.new.clock c.loop.counter (g.K.Keeper.kept c.loop.keeper) (g.K.Keeper.kept c.take_tick-in-loop.new.keeper) (g.O.Sink.written c.loop.results) c.loop.feeds c.take_tick-in-loop.new.feeds c.loop.sources c.take_tick-in-loop.new.sources c.loop.last c.in-Ok-next_moment.moment c.loop.state c.loop.invariant.looping c.loop.invariant.ready.going c.in-Ok-next_moment.ensures.read (c.in-Err-take_tick-2.ensures.kept told) told) (noted_on (fixed_of g.K.Keeper g.O.Sink g.S.Source c.args.setup.now c.args.configured.now c.args.sources.now c.args.keeper.now c.args.results.now) c.args.configured.now.notes (g.O.Sink.written c.args.status.now) (asks_again c.args.configured.now.config c.loop.last c.in-Ok-next_moment.moment) (places_of (g.K.Keeper.kept c.args.keeper.now) c.loop.invariant.looping.running.added.entries) (tick_place ((g.K.Keeper.kept c.args.keeper.now) ++ c.loop.invariant.looping.running.added.entries) c.in-Ok-next_moment.moment) (found_now c.args.configured.now.config c.loop.state c.in-Ok-next_moment.moment) (g.O.Sink.written c.loop.status) (g.O.Sink.written c.next_moment.new.status) (found_on _ _ _ _ _ _ _ _ _ _ _ _ _ c.loop.clock c.next_moment.new.clock c.loop.counter (g.K.Keeper.kept c.loop.keeper) (g.K.Keeper.kept c.take_tick-in-loop.new.keeper) (g.O.Sink.written c.loop.results) c.loop.feeds c.take_tick-in-loop.new.feeds c.loop.sources c.take_tick-in-loop.new.sources c.loop.last c.in-Ok-next_moment.moment c.loop.state c.loop.invariant.looping c.loop.invariant.ready.going c.in-Ok-next_moment.ensures.read c.next_moment.ensures.is) (c.loop.invariant.told tells) (c.in-Ok-next_moment.ensures.noted tells)) (c.told-in-Err-take_tick-2.ensures.skipped tells) (omega (arith, before, noted))
+    told_some _ (g.K.Keeper.kept c.take_tick-in-loop.new.keeper) c.args.basis.now.configured.notes (g.O.Sink.written c.args.status.now) (g.O.Sink.written c.next_moment.new.status) (g.O.Sink.written c.told-in-Err-take_tick-2.new.status) (g.O.Sink.faults c.args.status.now) (g.O.Sink.faults c.next_moment.new.status) (g.O.Sink.faults c.told-in-Err-take_tick-2.new.status)
+    ((places_of (g.K.Keeper.kept c.args.keeper.now) c.loop.invariant.looping.running.added.entries) ++ again_places (asks_again c.args.basis.now.configured.config c.loop.last c.in-Ok-next_moment.moment) (tick_place ((g.K.Keeper.kept c.args.keeper.now) ++ c.loop.invariant.looping.running.added.entries) c.in-Ok-next_moment.moment)) c.take_tick-in-loop.new.feeds (counts_on g.S.Source.left _ r.entries (g.K.Keeper.kept c.take_tick-in-loop.new.keeper) c.loop.feeds c.take_tick-in-loop.new.feeds c.loop.sources (λ told. more_kept _ _ _ _ _ _ _ _ _ _ _ _ _ c.loop.clock c.next_moment.new.clock c.loop.counter (g.K.Keeper.kept c.loop.keeper) (g.K.Keeper.kept c.take_tick-in-loop.new.keeper) (g.O.Sink.written c.loop.results) c.loop.feeds c.take_tick-in-loop.new.feeds c.loop.sources c.take_tick-in-loop.new.sources c.loop.last c.in-Ok-next_moment.moment c.loop.state c.loop.invariant.looping c.loop.invariant.ready.going c.in-Ok-next_moment.ensures.read (c.in-Err-take_tick-2.ensures.kept told) told) r.standing.fed c.take_tick-in-loop.ensures.counts)
+    (λ told. counted_in _ _ _ _ _ _ _ _ _ _ _ _ _ c.loop.clock c.next_moment.new.clock c.loop.counter (g.K.Keeper.kept c.loop.keeper) (g.K.Keeper.kept c.take_tick-in-loop.new.keeper) (g.O.Sink.written c.loop.results) c.loop.feeds c.take_tick-in-loop.new.feeds c.loop.sources c.take_tick-in-loop.new.sources c.loop.last c.in-Ok-next_moment.moment c.loop.state c.loop.invariant.looping c.loop.invariant.ready.going c.in-Ok-next_moment.ensures.read (c.in-Err-take_tick-2.ensures.kept told) told) (noted_on (fixed_of g.K.Keeper g.O.Sink g.S.Source c.args.basis.now c.args.sources.now c.args.keeper.now c.args.results.now) c.args.basis.now.configured.notes (g.O.Sink.written c.args.status.now) (asks_again c.args.basis.now.configured.config c.loop.last c.in-Ok-next_moment.moment) (places_of (g.K.Keeper.kept c.args.keeper.now) c.loop.invariant.looping.running.added.entries) (tick_place ((g.K.Keeper.kept c.args.keeper.now) ++ c.loop.invariant.looping.running.added.entries) c.in-Ok-next_moment.moment) (found_now c.args.basis.now.configured.config c.loop.state c.in-Ok-next_moment.moment) (g.O.Sink.written c.loop.status) (g.O.Sink.written c.next_moment.new.status) (found_on _ _ _ _ _ _ _ _ _ _ _ _ _ c.loop.clock c.next_moment.new.clock c.loop.counter (g.K.Keeper.kept c.loop.keeper) (g.K.Keeper.kept c.take_tick-in-loop.new.keeper) (g.O.Sink.written c.loop.results) c.loop.feeds c.take_tick-in-loop.new.feeds c.loop.sources c.take_tick-in-loop.new.sources c.loop.last c.in-Ok-next_moment.moment c.loop.state c.loop.invariant.looping c.loop.invariant.ready.going c.in-Ok-next_moment.ensures.read c.next_moment.ensures.is) (c.loop.invariant.told tells) (c.in-Ok-next_moment.ensures.noted tells)) (c.told-in-Err-take_tick-2.ensures.skipped tells) (omega (arith, before, noted))
 
 pub returns-clause-stops : goal.returns-clause-stops
 returns-clause-stops g c =
@@ -508,7 +508,7 @@ pub returns-clause-stops_telling : goal.returns-clause-stops_telling
 returns-clause-stops_telling g c tells =
     let untold = c.end_session.ensures.untold tells in
     of_refusal _ _ _ c.end_session.result untold untold
-    (λ refused is same. told_none _ (g.K.Keeper.kept c.loop.keeper) c.args.configured.now.notes (g.O.Sink.written c.args.status.now) (g.O.Sink.written c.loop.status) (g.O.Sink.written c.end_session.new.status) (g.O.Sink.faults c.args.status.now) (g.O.Sink.faults c.loop.status) (g.O.Sink.faults c.end_session.new.status)
+    (λ refused is same. told_none _ (g.K.Keeper.kept c.loop.keeper) c.args.basis.now.configured.notes (g.O.Sink.written c.args.status.now) (g.O.Sink.written c.loop.status) (g.O.Sink.written c.end_session.new.status) (g.O.Sink.faults c.args.status.now) (g.O.Sink.faults c.loop.status) (g.O.Sink.faults c.end_session.new.status)
     (places_of (g.K.Keeper.kept c.args.keeper.now) c.loop.invariant.looping.running.added.entries) (λ told. places_now (g.K.Keeper.kept c.args.keeper.now) (g.K.Keeper.kept c.loop.keeper) c.loop.invariant.looping.running.added.entries (counted_now _ _ _ _ _ _ _ _ _ _ _ _ _ c.loop.clock c.loop.counter (g.K.Keeper.kept c.loop.keeper) (g.O.Sink.written c.loop.results) c.loop.feeds c.loop.sources c.loop.last c.loop.state c.loop.invariant.looping told)) (c.loop.invariant.told tells) is c.loop.invariant.status_later)
 
 pub returns-clause-fit : goal.returns-clause-fit

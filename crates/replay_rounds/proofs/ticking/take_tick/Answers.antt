@@ -53,11 +53,11 @@ returns-in-Err-clause-sink_cause g c refused is error =
 
 pub finish_tick-requires-clause-goes_on : goal.finish_tick-requires-clause-goes_on
 finish_tick-requires-clause-goes_on g c =
-    filled_on g.S.Source.tells g.S.Source.left g.S.Source.faults c.args.setup.now c.args.configured.now.config c.args.configured.now.documents c.args.configured_at c.args.moment c.args.feeds.now c.fill_tick.new.feeds c.args.sources.now c.fill_tick.new.sources c.args.state.now c.fill_tick.new.state c.in-Ok.ensures.fills g.K.Keeper.tells (g.K.Keeper.kept c.args.keeper.now) c.requires.goes_on
+    filled_on g.S.Source.tells g.S.Source.left g.S.Source.faults c.args.basis.now.setup c.args.basis.now.configured.config c.args.basis.now.configured.documents c.args.tick.configured_at c.args.tick.moment c.args.feeds.now c.fill_tick.new.feeds c.args.sources.now c.fill_tick.new.sources c.args.state.now c.fill_tick.new.state c.in-Ok.ensures.fills g.K.Keeper.tells (g.K.Keeper.kept c.args.keeper.now) c.requires.goes_on
 
 pub finish_tick-requires-clause-tellable : goal.finish_tick-requires-clause-tellable
 finish_tick-requires-clause-tellable g c =
-    filled_tellable g.S.Source.tells g.S.Source.left g.S.Source.faults c.args.setup.now c.args.configured.now.config c.args.configured.now.documents c.args.configured_at c.args.moment c.args.feeds.now c.fill_tick.new.feeds c.args.sources.now c.fill_tick.new.sources c.args.state.now c.fill_tick.new.state c.in-Ok.ensures.fills c.requires.ready.tellable
+    filled_tellable g.S.Source.tells g.S.Source.left g.S.Source.faults c.args.basis.now.setup c.args.basis.now.configured.config c.args.basis.now.configured.documents c.args.tick.configured_at c.args.tick.moment c.args.feeds.now c.fill_tick.new.feeds c.args.sources.now c.fill_tick.new.sources c.args.state.now c.fill_tick.new.state c.in-Ok.ensures.fills c.requires.ready.tellable
 
 pub returns-in-Ok-finish_tick-clause-done : goal.returns-in-Ok-finish_tick-clause-done
 returns-in-Ok-finish_tick-clause-done g c =
@@ -70,7 +70,7 @@ returns-in-Ok-finish_tick-clause-done g c =
       kept = finished.kept;
       told = λ told.
           let (lines, are, is) = finished.told told in
-          (lines, subst (λ (before : Form). AreLinesOf c.args.setup.now.host.identifier before finished.settled.tail lines) c.form-form.ensures (subst (λ (host : List ℕ). AreLinesOf host c.form-form.result finished.settled.tail lines) c.as_str-host.ensures are), is);
+          (lines, subst (λ (before : Form). AreLinesOf c.args.basis.now.setup.host.identifier before finished.settled.tail lines) c.form-form.ensures (subst (λ (host : List ℕ). AreLinesOf host c.form-form.result finished.settled.tail lines) c.as_str-host.ensures are), is);
     }
 
 pub returns-in-Ok-finish_tick-clause-ready : goal.returns-in-Ok-finish_tick-clause-ready
@@ -78,8 +78,8 @@ returns-in-Ok-finish_tick-clause-ready g c =
     let finished = c.in-Ok-finish_tick.ensures.done in
     let before = c.requires.ready.before in
     let later = c.requires.later in
-    ready_behind c.fill_tick.new.feeds (asks_again c.args.configured.now.config c.args.configured_at c.args.moment) c.args.configured_at c.in-Ok.last c.args.moment c.fill_tick.new.state finished.settled c.finish_tick.new.state
-    (filled_moment g.S.Source.tells g.S.Source.left g.S.Source.faults c.args.setup.now c.args.configured.now.config c.args.configured.now.documents c.args.configured_at c.args.moment c.args.feeds.now c.fill_tick.new.feeds c.args.sources.now c.fill_tick.new.sources c.args.state.now c.fill_tick.new.state c.in-Ok.ensures.fills)
+    ready_behind c.fill_tick.new.feeds (asks_again c.args.basis.now.configured.config c.args.tick.configured_at c.args.tick.moment) c.args.tick.configured_at c.in-Ok.last c.args.tick.moment c.fill_tick.new.state finished.settled c.finish_tick.new.state
+    (filled_moment g.S.Source.tells g.S.Source.left g.S.Source.faults c.args.basis.now.setup c.args.basis.now.configured.config c.args.basis.now.configured.documents c.args.tick.configured_at c.args.tick.moment c.args.feeds.now c.fill_tick.new.feeds c.args.sources.now c.fill_tick.new.sources c.args.state.now c.fill_tick.new.state c.in-Ok.ensures.fills)
     c.in-Ok.ensures.going finished.settles finished.taken (omega (arith, before, later)) c.in-Ok.ensures.last
 
 pub returns-in-Err-finish_tick-clause-kept : goal.returns-in-Err-finish_tick-clause-kept
@@ -87,12 +87,12 @@ returns-in-Err-finish_tick-clause-kept g c told =
     let finished = c.finish_tick.ensures in
     by_cause c.in-Err-finish_tick.error refl
   where
-    by_cause : (e : FinishError) → c.in-Err-finish_tick.error ≡ e → IsWholeTick g.S.Source.tells g.S.Source.left g.S.Source.faults c.args.setup.now c.args.configured.now.config c.args.configured.now.documents c.args.configured_at c.args.moment (g.K.Keeper.kept c.args.keeper.now) (g.K.Keeper.kept c.finish_tick.new.keeper) c.args.feeds.now c.fill_tick.new.feeds c.args.sources.now c.fill_tick.new.sources c.args.state.now
+    by_cause : (e : FinishError) → c.in-Err-finish_tick.error ≡ e → IsWholeTick g.S.Source.tells g.S.Source.left g.S.Source.faults c.args.basis.now.setup c.args.basis.now.configured.config c.args.basis.now.configured.documents c.args.tick.configured_at c.args.tick.moment (g.K.Keeper.kept c.args.keeper.now) (g.K.Keeper.kept c.finish_tick.new.keeper) c.args.feeds.now c.fill_tick.new.feeds c.args.sources.now c.fill_tick.new.sources c.args.state.now
     by_cause finish.NumbersSpent e = inl (c.finish_tick.ensures.unkept told (inl (c.in-Err-finish_tick.is ∙ ap Err e)))
     by_cause finish.NoMemory e = inl (c.finish_tick.ensures.unkept told (inr (c.in-Err-finish_tick.is ∙ ap Err e)))
     by_cause finish.KeeperFault e = whole (c.finish_tick.ensures.whole told (c.in-Err-finish_tick.is ∙ ap Err e))
       where
-        whole : IsWhole (g.K.Keeper.kept c.args.keeper.now) (g.K.Keeper.kept c.finish_tick.new.keeper) c.fill_tick.new.state → IsWholeTick g.S.Source.tells g.S.Source.left g.S.Source.faults c.args.setup.now c.args.configured.now.config c.args.configured.now.documents c.args.configured_at c.args.moment (g.K.Keeper.kept c.args.keeper.now) (g.K.Keeper.kept c.finish_tick.new.keeper) c.args.feeds.now c.fill_tick.new.feeds c.args.sources.now c.fill_tick.new.sources c.args.state.now
+        whole : IsWhole (g.K.Keeper.kept c.args.keeper.now) (g.K.Keeper.kept c.finish_tick.new.keeper) c.fill_tick.new.state → IsWholeTick g.S.Source.tells g.S.Source.left g.S.Source.faults c.args.basis.now.setup c.args.basis.now.configured.config c.args.basis.now.configured.documents c.args.tick.configured_at c.args.tick.moment (g.K.Keeper.kept c.args.keeper.now) (g.K.Keeper.kept c.finish_tick.new.keeper) c.args.feeds.now c.fill_tick.new.feeds c.args.sources.now c.fill_tick.new.sources c.args.state.now
         whole (inl same) = inl same
         whole (inr (settled, settles, grown)) = inr (settled, record { filled = c.fill_tick.new.state; fills = c.in-Ok.ensures.fills; settles = settles }, grown)
     by_cause finish.SinkFault e =
@@ -123,7 +123,7 @@ returns-in-Err-finish_tick-clause-partly g c told refused is error =
       kept = partly.kept;
       lines = lines;
       count = count;
-      told = subst (λ (before : Form). AreLinesOf c.args.setup.now.host.identifier before partly.settled.tail lines) c.form-form.ensures (subst (λ (host : List ℕ). AreLinesOf host c.form-form.result partly.settled.tail lines) c.as_str-host.ensures are);
+      told = subst (λ (before : Form). AreLinesOf c.args.basis.now.setup.host.identifier before partly.settled.tail lines) c.form-form.ensures (subst (λ (host : List ℕ). AreLinesOf host c.form-form.result partly.settled.tail lines) c.as_str-host.ensures are);
       written = written;
     }
 
@@ -164,11 +164,11 @@ returns-in-Err-finish_tick-clause-unkept g c told refused is not_keeper not_sink
 
 pub returns-in-Err-clause-numbers : goal.returns-in-Err-clause-numbers
 returns-in-Err-clause-numbers g c =
-    c.unfilled.ensures.numbers ∙ ap Some (sym (ap (λ (e : RunError). tick_numbers e c.args.sealed c.fill_tick.new.state) c.unfilled.ensures.error ∙ unfilled_numbers c.in-Err.error c.args.sealed c.fill_tick.new.state))
+    c.unfilled.ensures.numbers ∙ ap Some (sym (ap (λ (e : RunError). tick_numbers e c.args.tick.sealed c.fill_tick.new.state) c.unfilled.ensures.error ∙ unfilled_numbers c.in-Err.error c.args.tick.sealed c.fill_tick.new.state))
 
 pub returns-in-Err-finish_tick-clause-numbers : goal.returns-in-Err-finish_tick-clause-numbers
 returns-in-Err-finish_tick-clause-numbers g c =
-    c.unfinished.ensures.numbers ∙ ap Some (sym (ap (λ (e : RunError). tick_numbers e c.args.sealed c.finish_tick.new.state) c.unfinished.ensures.error ∙ finished_numbers c.in-Err-finish_tick.error c.args.sealed c.finish_tick.new.state))
+    c.unfinished.ensures.numbers ∙ ap Some (sym (ap (λ (e : RunError). tick_numbers e c.args.tick.sealed c.finish_tick.new.state) c.unfinished.ensures.error ∙ finished_numbers c.in-Err-finish_tick.error c.args.tick.sealed c.finish_tick.new.state))
 
 pub returns-in-Err-finish_tick-clause-keeper_cause : goal.returns-in-Err-finish_tick-clause-keeper_cause
 returns-in-Err-finish_tick-clause-keeper_cause g c refused is error =
