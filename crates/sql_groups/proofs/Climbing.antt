@@ -1,11 +1,11 @@
 -- Lists in which none is less than the one before it.
-use Rattle.std.proofs.Common.{◌≡◌, ℕ, zero, suc, refl, sym, ap, ◌∙◌, Bool, true, false, cond, true≢false, List, [], ◌∷◌, ◌++◌, take}
+use Rattle.std.proofs.Common.{◌≡◌, ℕ, zero, suc, refl, ap, ◌∙◌, Bool, true, false, cond, List, [], ◌∷◌, take}
 use Rattle.std.specs.Cmp.{IsStrictWeakOrder}
 use Rattle.sql_meaning.specs.Order.{put_in, sorted_by}
 use Rattle.sql_groups.specs.Leading.{Climbs}
 
 module _ {X : Type 0} (lt : X → X → Bool) where
-  climbs-rest : (x : X) (ys : List X) → Climbs lt (x ∷ ys) → Climbs lt ys
+  pub climbs-rest : (x : X) (ys : List X) → Climbs lt (x ∷ ys) → Climbs lt ys
   climbs-rest x [] up = tt
   climbs-rest x (y ∷ ys) up = up.1
 
@@ -52,28 +52,3 @@ module _ {X : Type 0} (lt : X → X → Bool) where
     -- the first of a sorted list are sorted
     pub taken-sorted : (n : ℕ) (xs : List X) → sorted_by lt (take n (sorted_by lt xs)) ≡ take n (sorted_by lt xs)
     taken-sorted n xs = climbs-sorted (take n (sorted_by lt xs)) (climbs-take n (sorted_by lt xs) (sorted-climbs xs))
-
-    below : (x y z : X) → lt z y ≡ false → lt z x ≡ true → lt y x ≡ true
-    below x y z p q = by (lt y x) refl
-      where
-        by : (s : Bool) → lt y x ≡ s → s ≡ true
-        by true r = refl
-        by false r = absurd (true≢false (sym q ∙ o.chain z y x p r))
-
-    -- where the last is less than x, all are, and x goes behind them
-    pub put-last : (x last : X) (ys : List X) → Climbs lt (ys ++ last ∷ []) → lt last x ≡ true → put_in lt x (ys ++ last ∷ []) ≡ (ys ++ last ∷ []) ++ x ∷ []
-    put-last x last ys up h = (all ys up).1
-      where
-        head : List X → X
-        head [] = last
-        head (y ∷ ys) = y
-
-        all : (ys : List X) → Climbs lt (ys ++ last ∷ []) → (lt (head ys) x ≡ true) × (put_in lt x (ys ++ last ∷ []) ≡ (ys ++ last ∷ []) ++ x ∷ [])
-        all [] up = (h, ap (λ (s : Bool). cond s (last ∷ x ∷ []) (x ∷ last ∷ [])) h)
-        all (y ∷ []) up =
-            let less = below x y last up.0 h in
-            (less, ap (λ (s : Bool). cond s (y ∷ put_in lt x (last ∷ [])) (x ∷ y ∷ last ∷ [])) less ∙ ap (λ zs. y ∷ zs) (all [] tt).1)
-        all (y ∷ z ∷ ys) up =
-            let rest = all (z ∷ ys) up.1 in
-            let less = below x y z up.0 rest.0 in
-            (less, ap (λ (s : Bool). cond s (y ∷ put_in lt x ((z ∷ ys) ++ last ∷ [])) (x ∷ y ∷ ((z ∷ ys) ++ last ∷ []))) less ∙ ap (λ zs. y ∷ zs) rest.1)

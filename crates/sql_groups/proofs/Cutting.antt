@@ -14,8 +14,6 @@ use Rattle.sql_meaning.specs.declared.joined.Joined.{Joined}
 use Rattle.sql_meaning.specs.Lent.{values_in}
 use Rattle.sql_meaning.proofs.Mapped.{filter_mapped, firsts_mapped, map_twice, ordered_mapped}
 use Rattle.sql_meaning.proofs.OrderLaws.{is_less, is_less-order}
-use Rattle.sql_groups.specs.declared.columns.SortColumn.{SortColumn}
-use Rattle.sql_groups.specs.Columns.{AreColumns, AreDirections, directions, sort_values}
 use Rattle.sql_groups.specs.Different.{different}
 use Rattle.sql_groups.specs.Kept.{is_kept}
 use Rattle.sql_groups.specs.Leading.{leading}
@@ -118,16 +116,15 @@ module _ (query : QueryTree) where
       ∙ sym (behind ungrouped true is rows ∙ finish-different some)
 
   -- the same of rows that are lent
-  pub leading-lent : {count kept : ℕ} (columns : List SortColumn) → query.is_grouped ≡ false → query.is_distinct ≡ false → query.limit ≡ Some (pos kept) → count ≡ passed_over query.skip + kept
-      → AreColumns columns query.terms → AreDirections columns query.terms → (rows : List Joined) → behind_from query (map values_in (leading columns query.filter count rows)) ≡ behind_from query (map values_in rows)
-  leading-lent {count} columns ungrouped all limited is are ways rows =
+  pub leading-lent : {count kept : ℕ} → query.is_grouped ≡ false → query.is_distinct ≡ false → query.limit ≡ Some (pos kept) → count ≡ passed_over query.skip + kept
+      → (rows : List Joined) → behind_from query (map values_in (leading query.terms query.filter count rows)) ≡ behind_from query (map values_in rows)
+  leading-lent {count} ungrouped all limited is rows =
       let some = filter (is_kept query.filter) rows in
       ap (behind_from query)
-      (sym (take-map values_in count (ordered_by (λ row. sort_values columns (values_in row)) (directions columns) some))
+      (sym (take-map values_in count (ordered_by (λ row. terms_of query (values_in row)) (descending_of query) some))
       ∙ ap (take count)
-      (sym (ordered_mapped values_in (sort_values columns) (directions columns) some)
-      ∙ ap (ordered_by (sort_values columns) (directions columns)) (sym (filter_mapped values_in (passes query) rows))
-      ∙ (λ i. ordered_by (λ row. sym (are row) i) (sym ways i) (filter (passes query) (map values_in rows)))))
+      (sym (ordered_mapped values_in (terms_of query) (descending_of query) some)
+      ∙ ap (ordered_by (terms_of query) (descending_of query)) (sym (filter_mapped values_in (passes query) rows))))
       ∙ leading-means ungrouped all limited is (map values_in rows)
 
   pub different-lent : (place : ℕ) → query.is_grouped ≡ false → query.is_distinct ≡ true → ((row : List Value) → items_of query row ≡ value_at row place ∷ []) → (rows : List Joined)

@@ -1,8 +1,9 @@
 -- Groups by the values of a column, one row after another, and what they come to.
-use Rattle.std.proofs.Common.{◌≡◌, ℕ, ◌+◌, ◌≤◌, refl, sym, ap, ap₂, subst, ◌∙◌, Bool, true, false, cond, not, List, [], ◌∷◌, ◌++◌, append-nil, drop, filter, get_or, length, map, set, take, Option, Some, None, arith}
+use Rattle.std.proofs.Common.{◌≡◌, ℕ, ◌+◌, refl, sym, ap, ap₂, subst, ◌∙◌, Bool, true, false, cond, not, List, [], ◌∷◌, ◌++◌, append-nil, drop, filter, get_or, length, map, set, take, Option, Some, None, arith}
 use Rattle.std.specs.Prelude.{if◌then◌else◌}
 use Rattle.std.specs.List.{list_any, position_or_len}
-use Rattle.std.proofs.lemmas.List.{drop_all, take_all}
+use Rattle.std.proofs.lemmas.List.{drop_all, map-append, take_all}
+use Rattle.std.proofs.lemmas.List.Elements.{filter-append}
 use Rattle.indexmap.specs.IndexSet.{insert_key}
 use Rattle.osq_value.specs.declared.value.Value.{Value}
 use Rattle.sql_query.specs.Exprs.{ExprTree}
@@ -23,7 +24,7 @@ use Rattle.sql_groups.specs.declared.items.GroupItem.{GroupItem}
 use Rattle.sql_groups.specs.declared.so_far.SoFar.{SoFar}
 use Rattle.sql_groups.specs.Different.{equal, held, held_alone}
 use Rattle.sql_groups.specs.Folding.{item_over, lists}
-use Rattle.sql_groups.specs.Grouping.{Adds, AreKnown, Folds, IsFolded, Puts, place_of, values_of}
+use Rattle.sql_groups.specs.Grouping.{Adds, AreKnown, Folds, IsFolded, Puts, kept_values, place_of, values_of}
 use Rattle.sql_groups.specs.Kept.{is_kept}
 use Rattle.sql_groups.proofs.Adding.{alike, kept-one}
 use Rattle.sql_groups.proofs.Zipped.{zip-long, zip-nth, zip-push, zip-set}
@@ -102,9 +103,16 @@ module _ (place : ℕ) (condition : List ExprTree) (items : List GroupItem) wher
       subst (λ (some : List Joined). (values_of found ≡ map (held place) (firsts_by key some)) × IsFolded items (gathered some) found.groups.items)
       (sym (kept-one place (is_kept condition) rows row false left ∙ append-nil (kept rows))) was
 
-pub no-items : {X : Type 0} (xs : List X) → length xs ≤ 0 → xs ≡ []
-no-items [] h = refl
-no-items (x ∷ xs) h = absurd (omega arith)
+-- one more row for which a condition holds, or doesn't
+pub values-more : (condition : List ExprTree) (rows : List Joined) (row : Joined) (keeps : Bool) → is_kept condition row ≡ keeps
+    → kept_values condition (rows ++ row ∷ []) ≡ kept_values condition rows ++ cond keeps (values_in row ∷ []) []
+values-more condition rows row keeps is =
+    ap (map values_in) (filter-append (is_kept condition) rows (row ∷ []) ∙ ap (λ (b : Bool). filter (is_kept condition) rows ++ cond b (row ∷ []) []) is)
+    ∙ map-append values_in (filter (is_kept condition) rows) (cond keeps (row ∷ []) []) ∙ by keeps
+  where
+    by : (b : Bool) → kept_values condition rows ++ map values_in (cond b (row ∷ []) []) ≡ kept_values condition rows ++ cond b (values_in row ∷ []) []
+    by true = refl
+    by false = refl
 
 every-environment : (envs : List Environment) → filter (λ env. holds env []) envs ≡ envs
 every-environment [] = refl
@@ -135,4 +143,19 @@ module _ (query : QueryTree) (place : ℕ) (items : List GroupItem) where
       (ap (map together) (sym made)
       ∙ sym (every-environment (map together (groups query.keys some)))
       ∙ ap (λ (having : List ExprTree). filter (λ env. holds env having) (map together (groups query.keys some))) (sym none)
+      ∙ ap (λ (b : Bool). if b then kept_groups query some else map alone some) (sym grouped)))
+
+module _ (query : QueryTree) (items : List GroupItem) where
+  -- without GROUP BY all rows are the one group of the meaning
+  pub all-mean : query.is_grouped ≡ true → query.keys ≡ [] → query.having ≡ [] → ((rows : List (List Value)) → result_row query (together rows) ≡ map (λ item. item_over item rows) items) → (rows : List Joined)
+      → finished query (map (λ rows. map (λ item. item_over item rows) items) (kept_values query.filter rows ∷ [])) ≡ behind_from query (map values_in rows)
+  all-mean grouped all none is rows =
+      let some = filtered query (map values_in rows) in
+      ap (finished query)
+      (ap (λ (row : List Value). row ∷ []) (sym (is (kept_values query.filter rows)))
+      ∙ ap (λ (kept : List (List Value)). result_row query (together kept) ∷ []) (sym (filter_mapped values_in (λ row. holds (alone row) query.filter) rows))
+      ∙ ap (map (result_row query))
+      (sym (every-environment (together some ∷ []))
+      ∙ ap (λ (having : List ExprTree). filter (λ env. holds env having) (together some ∷ [])) (sym none)
+      ∙ ap (λ (keys : List ExprTree). filter (λ env. holds env query.having) (map together (groups keys some))) (sym all)
       ∙ ap (λ (b : Bool). if b then kept_groups query some else map alone some) (sym grouped)))

@@ -1,9 +1,8 @@
 mod Adding
-mod Backward
 mod Climbing
-mod Comparing
 mod Cutting
 mod Gathered
+mod Leaders
 mod Passing
 mod Placing
 mod Standing

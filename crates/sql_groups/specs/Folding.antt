@@ -3,7 +3,7 @@ use Rattle.std.specs.Prelude.{◌≡◌, ◌+◌, ◌+ℤ◌, ℕ, ℤ, pos, Boo
 use Rattle.std.specs.Borrow.{Bor}
 use Rattle.std.specs.Option.{option_copied}
 use Rattle.osq_value.specs.declared.value.Value.{Value}
-use Rattle.osq_value.specs.declared.value.Value.TheVariants.{Null, Int, Text}
+use Rattle.osq_value.specs.declared.value.Value.TheVariants.{Null, Int}
 use Rattle.sql_tree.specs.declared.functions.Fold.TheVariants.{Count, Sum, Min, Max}
 use Rattle.sql_scalar.specs.Arithmetic.{whole, within}
 use Rattle.sql_query.specs.Exprs.{ExprTree}
@@ -11,7 +11,7 @@ use Rattle.sql_meaning.specs.declared.joined.Joined.{Joined}
 use Rattle.sql_meaning.specs.Expressions.{value_at}
 use Rattle.sql_meaning.specs.Folds.{folded_over, total}
 use Rattle.sql_meaning.specs.Groups.{groups_by}
-use Rattle.sql_meaning.specs.Known.{is_known, known_of}
+use Rattle.sql_meaning.specs.Known.{is_known}
 use Rattle.sql_meaning.specs.Lent.{values_in}
 use Rattle.sql_meaning.specs.Looks.{extreme_of, nearer_of}
 use Rattle.sql_meaning.specs.Steps.{first_row}

@@ -19,6 +19,10 @@ use Rattle.sql_groups.specs.Kept.{is_kept}
 abbrev pub AreKnown : List GroupItem → List (List Value) → List SoFar → Type 0
 AreKnown items rows group = AllZip (HasFolded rows) items group
 
+-- the rows for which the condition holds
+abbrev pub kept_values : List ExprTree → List Joined → List (List Value)
+kept_values condition rows = map values_in (filter (is_kept condition) rows)
+
 -- the same of each group
 abbrev pub IsFolded : List GroupItem → List (List (List Value)) → List (List SoFar) → Type 0
 IsFolded items lists groups = AllZip (AreKnown items) lists groups

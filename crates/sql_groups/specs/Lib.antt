@@ -1,4 +1,3 @@
-pub mod Columns
 pub mod Different
 pub mod Folding
 pub mod Grouping

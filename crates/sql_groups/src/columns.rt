@@ -1,47 +1,12 @@
 //! Expressions that are columns.
-ghost use Rattle.std.specs.Prelude.{◌≡◌, ◌∷◌, [], IfOk, IfSome, List, map};
+ghost use Rattle.std.specs.Prelude.{◌≡◌, ◌∷◌, [], IfSome, List, map};
 ghost use Rattle.osq_value.specs.declared.value.Value.{Value};
-ghost use Rattle.sql_query.specs.Resolved.{order_of, result_of};
+ghost use Rattle.sql_query.specs.Resolved.{result_of};
 ghost use Rattle.sql_query.specs.View.{expr_of};
 ghost use Rattle.sql_meaning.specs.Expressions.{alone, value_at, value_of};
-ghost use Rattle.sql_groups.specs.Columns.{AreColumns, AreDirections};
 
-use osq_value::{NoMemory, Sequence};
-use sql_query::query::{Order, QueryItem};
+use sql_query::query::QueryItem;
 use sql_query::tree::Expr;
-use std::alloc::Global;
-
-/// A column that rows are sorted by: its place in a row, and whether it descends.
-#[derive(Clone, Copy, Drop)]
-pub(crate) struct SortColumn {
-    /// Its place, from 0.
-    pub place: u32,
-    /// The greatest value stands first.
-    pub is_descending: bool,
-}
-
-/// Columns that rows are sorted by, the first before the others.
-pub(crate) type SortColumnList = Sequence<SortColumn>;
-
-/// The columns that terms are, where each of them is a column.
-pub(crate) fn sort_columns(
-    alloc: Global,
-    terms: &[Order],
-) -> Result<Option<SortColumnList>, NoMemory>
-    ensures { IfOk result (λ found. IfSome found (λ columns. AreColumns columns (map order_of terms.now) × AreDirections columns (map order_of terms.now))) }
-{
-    let mut columns = SortColumnList::with_capacity(alloc, terms.len())?;
-    for term in terms {
-        let Some(place) = place_of(&term.expr) else {
-            return Ok(None);
-        };
-        columns.push(SortColumn {
-            place,
-            is_descending: term.is_descending,
-        })?;
-    }
-    Ok(Some(columns))
-}
 
 /// The place of the only item of the result, where that is a column.
 pub(crate) fn only_column(items: &[QueryItem]) -> Option<u32>

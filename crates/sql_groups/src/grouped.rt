@@ -1,4 +1,4 @@
-//! Groups by a column whose rows are folded as they come.
+//! Groups by a column, or one group of all rows, folded as the rows come.
 ghost use Rattle.std.specs.Prelude.{◌≡◌, ◌++◌, ◌∷◌, [], IfOk, IfSome, List, length, map, true};
 ghost use Rattle.osq_value.specs.declared.value.Value.{Value as ValueOf};
 ghost use Rattle.sql_query.specs.View.{expr_of};
@@ -7,7 +7,7 @@ ghost use Rattle.sql_meaning.specs.Lent.{values_in};
 ghost use Rattle.sql_meaning.specs.Worths.{worths};
 ghost use Rattle.sql_groups.specs.declared.items.GroupItem.{GroupItem as GroupItemOf};
 ghost use Rattle.sql_groups.specs.Folding.{item_over, lists};
-ghost use Rattle.sql_groups.specs.Grouping.{Adds, AreKnown, Begins, Folds, Grows, IsFolded};
+ghost use Rattle.sql_groups.specs.Grouping.{Adds, AreKnown, Begins, Folds, Grows, IsFolded, kept_values};
 
 use crate::items::GroupItem;
 use crate::kept::is_kept;
@@ -53,6 +53,58 @@ pub(crate) fn groups_by_column<'a>(
         }
     }
     Ok(Some(found.groups))
+}
+
+/// The group of all rows for which the condition holds. None where a column of the result is that of the first row, since there may be none,
+/// and where a number leaves its bounds.
+pub(crate) fn group_of_all<'a>(
+    alloc: Global,
+    items: &[GroupItem],
+    condition: &Condition,
+    rows: &[Joined<'a>],
+) -> Result<Option<GroupSoFar<'a>>, NoMemory>
+    ensures { IfOk result (λ found. IfSome found (λ group. AreKnown items.now (kept_values (map expr_of condition.now.parts) rows.now) group)) }
+{
+    let Some(mut group) = no_rows(alloc, items)? else {
+        return Ok(None);
+    };
+    for row in rows {
+        if !add_kept(alloc, condition, group.as_mut_slice(), *row)? {
+            return Ok(None);
+        }
+    }
+    Ok(Some(group))
+}
+
+/// Adds a row to a group where the condition holds for it. The answer is false where a number leaves its bounds.
+fn add_kept<'a>(
+    alloc: Global,
+    condition: &Condition,
+    group: &mut [SoFar<'a>],
+    row: Joined<'a>,
+) -> Result<bool, NoMemory>
+    ensures long { length group.new ≡ length group.old }
+    ensures grows { IfOk result (λ is_told. is_told ≡ true → (items : List GroupItemOf) (rows : List JoinedOf) → AreKnown items (kept_values (map expr_of condition.now.parts) rows) group.old → AreKnown items (kept_values (map expr_of condition.now.parts) (rows ++ row.entry ∷ [])) group.new) }
+{
+    if is_kept(alloc, condition, row)? {
+        Ok(add_row(group, row))
+    } else {
+        Ok(true)
+    }
+}
+
+/// The columns of the result before the first row of a group.
+fn no_rows<'a>(alloc: Global, items: &[GroupItem]) -> Result<Option<GroupSoFar<'a>>, NoMemory>
+    ensures { IfOk result (λ begun. IfSome begun (λ group. AreKnown items.now [] group)) }
+{
+    let mut group = GroupSoFar::with_capacity(alloc, items.len())?;
+    for item in items {
+        let Some(so_far) = SoFar::without_rows(*item) else {
+            return Ok(None);
+        };
+        group.push(so_far)?;
+    }
+    Ok(Some(group))
 }
 
 /// Adds a row for which the condition holds to its group. The answer is false where it doesn't have the place, or a number leaves its

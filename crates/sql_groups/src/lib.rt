@@ -8,7 +8,6 @@ mod items;
 mod kept;
 mod leading;
 mod order;
-mod place;
 mod so_far;
 mod steps;
 mod wanted;

@@ -1,58 +1,63 @@
-//! The order of two rows by columns.
-ghost use Rattle.std.specs.Prelude.{◌≡◌, unwrap_or};
-ghost use Rattle.std.specs.Option.{option_copied};
+//! The order of keys.
+ghost use Rattle.std.specs.Prelude.{◌≡◌, drop};
 ghost use Rattle.osq_value.specs.Order.{order_of};
-ghost use Rattle.osq_value.specs.declared.value.Value.TheVariants.{Null};
-ghost use Rattle.sql_meaning.specs.Order.{directed};
-ghost use Rattle.sql_groups.specs.Columns.{is_before, order_at, order_in};
+ghost use Rattle.sql_meaning.specs.Order.{directed, first_key, order_by};
+ghost use Rattle.sql_meaning.specs.Worths.{worths};
 
-use crate::columns::SortColumn;
 use osq_value::{Value, compare};
-use sql_meaning::{Joined, value_in};
+use sql_meaning::worth::Worth;
 use std::cmp::Ordering;
 
-/// Whether a row stands before another.
-pub(crate) fn is_before(columns: &[SortColumn], left: Joined, right: Joined) -> bool
-    ensures { result ≡ is_before columns.now left.entry right.entry }
+/// The order by one key after another. A key that isn't there is Null.
+pub(crate) fn compare_keys(lefts: &[Worth], rights: &[Worth], ways: &[bool]) -> Ordering
+    ensures { result ≡ order_by ways.now (worths lefts.now) (worths rights.now) }
 {
-    compare_rows(columns, left, right).is_lt()
-}
-
-/// The order by one column after another.
-fn compare_rows(columns: &[SortColumn], left: Joined, right: Joined) -> Ordering
-    ensures { result ≡ order_at columns.now left.entry right.entry }
-{
-    for column in columns {
-        let order = compare_by(column, left, right);
+    let mut left = lefts;
+    let mut right = rights;
+    let mut rest = ways;
+    while let [is_descending, others @ ..] = rest {
+        let order = directed(*is_descending, compare_firsts(left, right));
         if order.is_ne() {
             return order;
         }
+        left = behind_first(left);
+        right = behind_first(right);
+        rest = others;
     }
     Ordering::Equal
 }
 
-/// The order by one column.
-fn compare_by(column: &SortColumn, left: Joined, right: Joined) -> Ordering
-    ensures { result ≡ order_in column.now left.entry right.entry }
+fn compare_firsts(lefts: &[Worth], rights: &[Worth]) -> Ordering
+    ensures { result ≡ order_of (first_key (worths lefts.now)) (first_key (worths rights.now)) }
 {
-    let order = compare_places(value_in(left, column.place), value_in(right, column.place));
-    directed(column.is_descending, order)
+    match lefts {
+        [] => compare_to(&Value::Null, rights),
+        [left, ..] => compare_to(left.as_value(), rights),
+    }
 }
 
-/// The order of two values, Null where there is none.
-fn compare_places(left: Option<&Value>, right: Option<&Value>) -> Ordering
-    ensures { result ≡ order_of (unwrap_or (option_copied left.entry) Null) (unwrap_or (option_copied right.entry) Null) }
+/// The order of a value and of the first key.
+pub(crate) fn compare_to(value: &Value, keys: &[Worth]) -> Ordering
+    ensures { result ≡ order_of value.now (first_key (worths keys.now)) }
 {
-    match (left, right) {
-        (Some(left), Some(right)) => compare(left, right),
-        (Some(left), None) => compare(left, &Value::Null),
-        (None, Some(right)) => compare(&Value::Null, right),
-        (None, None) => Ordering::Equal,
+    match keys {
+        [] => compare(value, &Value::Null),
+        [key, ..] => compare(value, key.as_value()),
+    }
+}
+
+/// The keys behind the first.
+pub(crate) fn behind_first<'a, 'b>(keys: &'b [Worth<'a>]) -> &'b [Worth<'a>]
+    ensures { worths result.now ≡ drop 1 (worths keys.now) }
+{
+    match keys {
+        [] => keys,
+        [_, others @ ..] => others,
     }
 }
 
 /// Turned round where it is descending.
-fn directed(is_descending: bool, order: Ordering) -> Ordering
+pub(crate) fn directed(is_descending: bool, order: Ordering) -> Ordering
     ensures { result ≡ directed is_descending order }
 {
     if is_descending {

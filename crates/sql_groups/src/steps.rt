@@ -9,9 +9,9 @@ ghost use Rattle.sql_meaning.specs.Steps.{asked_by, behind_from, result_row, tog
 ghost use Rattle.sql_groups.specs.Folding.{item_over};
 ghost use Rattle.sql_groups.specs.Wanted.{IsCut};
 
-use crate::columns::{only_column, only_key, sort_columns};
+use crate::columns::{only_column, only_key};
 use crate::different::different;
-use crate::grouped::{groups_by_column, result_rows};
+use crate::grouped::{group_of_all, groups_by_column, result_rows};
 use crate::items::{GroupItem, group_items};
 use crate::leading::leading;
 use crate::wanted::wanted;
@@ -20,8 +20,9 @@ use sql_meaning::{Joined, finished, rows_where};
 use sql_query::query::{Condition, Query};
 use std::alloc::Global;
 
-/// The rows of a query whose FROM gives these rows: those of `rows_where`. Where ORDER BY by columns goes with a small LIMIT, only
-/// the rows that it keeps are evaluated, and where DISTINCT looks at one column, only the first row for each of its values.
+/// The rows of a query whose FROM gives these rows: those of `rows_where`. Where LIMIT looks at no more than half of the rows, only those
+/// are evaluated behind ORDER BY; where DISTINCT looks at one column, only the first row for each of its values; and aggregates of columns,
+/// by one column or of all rows, are folded as the rows come.
 pub fn rows_behind(alloc: Global, query: &Query, rows: &[Joined]) -> Result<RowList, NoMemory>
     ensures { IfOk result (λ made. made ≡ behind_from (query_of query.now) (map values_in rows.now)) }
 {
@@ -56,12 +57,57 @@ fn grouped_rows(
     requires { query.now.is_grouped ≡ true }
     ensures { IfOk result (λ made. made ≡ behind_from (asked_by (map expr_of condition.now.parts) (query_of query.now)) (map values_in rows.now)) }
 {
-    let Some(place) = only_key(query.keys.as_slice()) else {
+    let [] = query.having.parts.as_slice() else {
         return rows_where(alloc, query, condition, rows);
     };
     match group_items(alloc, query)? {
         None => rows_where(alloc, query, condition, rows),
-        Some(items) => folded_rows(alloc, query, condition, rows, place, items.as_slice()),
+        Some(items) => rows_of_items(alloc, query, condition, rows, items.as_slice()),
+    }
+}
+
+/// The same without HAVING, where the columns of the result can be folded.
+fn rows_of_items(
+    alloc: Global,
+    query: &Query,
+    condition: &Condition,
+    rows: &[Joined],
+    items: &[GroupItem],
+) -> Result<RowList, NoMemory>
+    requires grouped { query.now.is_grouped ≡ true }
+    requires bare { query.now.having.parts ≡ [] }
+    requires items { (rows : List (List Value)) → result_row (query_of query.now) (together rows) ≡ map (λ item. item_over item rows) items.now }
+    ensures { IfOk result (λ made. made ≡ behind_from (asked_by (map expr_of condition.now.parts) (query_of query.now)) (map values_in rows.now)) }
+{
+    if query.keys.as_slice().is_empty() {
+        return row_of_all(alloc, query, condition, rows, items);
+    }
+    match only_key(query.keys.as_slice()) {
+        None => rows_where(alloc, query, condition, rows),
+        Some(place) => folded_rows(alloc, query, condition, rows, place, items),
+    }
+}
+
+/// The same without GROUP BY: all rows are one group.
+fn row_of_all(
+    alloc: Global,
+    query: &Query,
+    condition: &Condition,
+    rows: &[Joined],
+    items: &[GroupItem],
+) -> Result<RowList, NoMemory>
+    requires grouped { query.now.is_grouped ≡ true }
+    requires bare { query.now.having.parts ≡ [] }
+    requires all { query.now.keys ≡ [] }
+    requires items { (rows : List (List Value)) → result_row (query_of query.now) (together rows) ≡ map (λ item. item_over item rows) items.now }
+    ensures { IfOk result (λ made. made ≡ behind_from (asked_by (map expr_of condition.now.parts) (query_of query.now)) (map values_in rows.now)) }
+{
+    let Some(group) = group_of_all(alloc, items, condition, rows)? else {
+        return rows_where(alloc, query, condition, rows);
+    };
+    match result_rows(alloc, &[group])? {
+        None => rows_where(alloc, query, condition, rows),
+        Some(made) => finished(alloc, query, made),
     }
 }
 
@@ -75,13 +121,11 @@ fn folded_rows(
     items: &[GroupItem],
 ) -> Result<RowList, NoMemory>
     requires grouped { query.now.is_grouped ≡ true }
+    requires bare { query.now.having.parts ≡ [] }
     requires key { (row : List Value) → map (value_of (alone row)) (map expr_of query.now.keys) ≡ value_at row place ∷ [] }
     requires items { (rows : List (List Value)) → result_row (query_of query.now) (together rows) ≡ map (λ item. item_over item rows) items.now }
     ensures { IfOk result (λ made. made ≡ behind_from (asked_by (map expr_of condition.now.parts) (query_of query.now)) (map values_in rows.now)) }
 {
-    if query.having.parts.len() > 0 {
-        return rows_where(alloc, query, condition, rows);
-    }
     let Some(groups) = groups_by_column(alloc, place, items, condition, rows)? else {
         return rows_where(alloc, query, condition, rows);
     };
@@ -138,7 +182,7 @@ fn cut_rows(
     requires all { query.now.is_distinct ≡ false }
     ensures { IfOk result (λ made. made ≡ behind_from (asked_by (map expr_of condition.now.parts) (query_of query.now)) (map values_in rows.now)) }
 {
-    match wanted(query.limit, query.skip) {
+    match wanted(query.limit, query.skip, rows.len()) {
         None => rows_where(alloc, query, condition, rows),
         Some(count) => leading_rows(alloc, query, condition, rows, count),
     }
@@ -157,11 +201,6 @@ fn leading_rows(
     requires cut { IsCut query.now.limit query.now.skip count }
     ensures { IfOk result (λ made. made ≡ behind_from (asked_by (map expr_of condition.now.parts) (query_of query.now)) (map values_in rows.now)) }
 {
-    match sort_columns(alloc, query.terms.as_slice())? {
-        None => rows_where(alloc, query, condition, rows),
-        Some(columns) => {
-            let first = leading(alloc, columns.as_slice(), condition, rows, count)?;
-            rows_where(alloc, query, condition, first.as_slice())
-        }
-    }
+    let first = leading(alloc, query.terms.as_slice(), condition, rows, count)?;
+    rows_where(alloc, query, condition, first.as_slice())
 }

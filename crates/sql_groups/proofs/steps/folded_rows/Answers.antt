@@ -1,4 +1,4 @@
-use Rattle.std.proofs.Common.{◌≡◌, ◌∙◌, IfSome, List, Option, Vec, [], ap, map, subst, sym, arith}
+use Rattle.std.proofs.Common.{◌≡◌, ◌∙◌, IfSome, List, Option, Vec, [], ap, map, subst, sym}
 use Rattle.std.proofs.lemmas.Result.{IfOk-weaker}
 use Rattle.osq_value.specs.declared.value.Value.{Value}
 use Rattle.sql_query.specs.Resolved.{query_of}
@@ -11,7 +11,7 @@ use Rattle.sql_groups.specs.declared.items.GroupItem.{GroupItem}
 use Rattle.sql_groups.specs.declared.so_far.SoFar.{SoFar}
 use Rattle.sql_groups.specs.Folding.{item_over, lists}
 use Rattle.sql_groups.specs.Grouping.{IsFolded}
-use Rattle.sql_groups.proofs.Gathered.{gathered-mean, no-items}
+use Rattle.sql_groups.proofs.Gathered.{gathered-mean}
 use Rattle.sql_groups.proofs.steps.folded_rows.Goals as goal
 
 pub returns : goal.returns
@@ -19,7 +19,7 @@ returns c =
     let query = asked_by (map expr_of c.args.condition.now.parts) (query_of c.args.query.now) in
     let items = c.args.items.now in
     let gathered = lists c.args.place (map expr_of c.args.condition.now.parts) c.args.rows.now in
-    let bare : query.having ≡ [] = ap (map expr_of) (no-items c.args.query.now.having.parts (let h = c.if-len-gt0.false in let l = c.len.ensures in omega (arith, h, l))) in
+    let bare : query.having ≡ [] = ap (map expr_of) c.requires.bare in
     let folded : IsFolded items gathered c.as_slice.result.now =
     subst (IsFolded items gathered) (sym c.as_slice.ensures.value)
     (subst (λ (o : Option (Vec (List SoFar) _)). IfSome o (λ groups. IsFolded items gathered groups.items)) c.in-Some.is c.in_ok-groups.ensures) in
