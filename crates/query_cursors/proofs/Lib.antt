@@ -1,3 +1,4 @@
+pub mod Apart
 pub mod Placing
 pub mod Seeking
 pub mod Noting

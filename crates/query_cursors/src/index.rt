@@ -1,8 +1,9 @@
-//! Where queries have their runs, found by the hash of their keys.
+//! Where queries have their runs, and whether a query has two, found by the hash of their keys.
 
-ghost use Rattle.std.specs.Prelude.{◌≡◌, IfOk, OnOk, if◌then◌else◌, Some};
+ghost use Rattle.std.specs.Prelude.{◌≡◌, ◌↔◌, IfOk, IsTrue, OnOk, if◌then◌else◌, Some};
 ghost use Rattle.pack_rules.specs.declared.schedule.QueryKey.{QueryKey as QueryKeyOf};
 ghost use Rattle.pack_rules.specs.Keys.{same_key};
+ghost use Rattle.entry_model.specs.Reserved.{HaveOwnKeys};
 ghost use Rattle.query_cursors.specs.Places.{place_of, places_of};
 ghost use Rattle.query_cursors.specs.Known.{known_at, first_known};
 
@@ -10,7 +11,7 @@ use entry_model::restored::Run;
 use osq_value::NoMemory;
 use pack_rules::schedule::{QueryKey, Scheduled};
 use std::alloc::Global;
-use std::collections::HashMap;
+use std::collections::{HashMap, HashSet};
 use std::hash::{Hash, Hasher};
 
 /// A key that is looked up by its name and its text.
@@ -105,4 +106,17 @@ pub(crate) fn find_places(
         places.push(known_place(&known, &scheduled.key))?;
     }
     Ok(places)
+}
+
+/// No two of these runs are of one query. It takes as many steps as there are runs.
+pub fn no_key_twice(alloc: Global, runs: &[Run]) -> Result<bool, NoMemory>
+    ensures { IfOk result (λ own. IsTrue own ↔ HaveOwnKeys runs.now) }
+{
+    let mut known = HashSet::with_capacity(alloc, runs.len())?;
+    for run in runs {
+        if !known.insert(Lent { key: &run.key })? {
+            return Ok(false);
+        }
+    }
+    Ok(true)
 }

@@ -6,4 +6,5 @@ mod index;
 pub mod interval;
 
 pub use cursors::Cursors;
+pub use index::no_key_twice;
 pub use interval::due;
