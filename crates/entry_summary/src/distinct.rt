@@ -1,17 +1,19 @@
 //! Lists in which no two things are alike.
 //!
 //! Each thing is compared with those behind it, since no memory is taken: the pairs of a list are walked, up to the first
-//! two that are alike.
+//! two that are alike. Where memory may be taken, the numbers of runs are looked up by their hashes.
 
-ghost use Rattle.std.specs.Prelude.{◌≡◌, ◌==◌, ◌↔◌, IsTrue, bytes_eq};
+ghost use Rattle.std.specs.Prelude.{◌≡◌, ◌==◌, ◌↔◌, IfOk, IsTrue, bytes_eq};
 ghost use Rattle.std.specs.List.{list_any};
 ghost use Rattle.pack_rules.specs.Keys.{same_key};
 ghost use Rattle.entry_model.specs.Reserved.{HaveOwnKeys};
 ghost use Rattle.entry_summary.specs.Distinct.{HaveOwnNumbers, HaveOwnSources, HaveOwnTables};
 
 use entry_model::restored::{Run, SetTable, Taken};
-use osq_value::{Str, TableId};
+use osq_value::{NoMemory, Str, TableId};
 use pack_rules::schedule::QueryKey;
+use std::alloc::Global;
+use std::collections::HashSet;
 
 /// The table is among these.
 fn has_table(tables: &[SetTable], table: TableId) -> bool
@@ -87,4 +89,17 @@ pub(crate) fn have_own_numbers(runs: &[Run]) -> bool
         }
     }
     true
+}
+
+/// No batch is the last one of two queries. It takes as many steps as there are runs.
+pub(crate) fn no_number_twice(alloc: Global, runs: &[Run]) -> Result<bool, NoMemory>
+    ensures { IfOk result (λ own. IsTrue own ↔ HaveOwnNumbers runs.now) }
+{
+    let mut known = HashSet::with_capacity(alloc, runs.len())?;
+    for run in runs {
+        if !known.insert(run.number)? {
+            return Ok(false);
+        }
+    }
+    Ok(true)
 }

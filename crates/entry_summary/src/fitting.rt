@@ -1,15 +1,19 @@
 //! Whether values are ones that a session may go on from.
 
-ghost use Rattle.std.specs.Prelude.{◌≡◌, ◌≤◌, ◌↔◌, All, IsTrue};
+ghost use Rattle.std.specs.Prelude.{◌≡◌, ◌≤◌, ◌↔◌, All, IfOk, IsTrue};
 ghost use Rattle.osq_value.specs.Catalogue.{width_of};
 ghost use Rattle.entry_model.specs.Fits.{Fits, IsRisingFrom, LiveFits, RunFits, TableFits};
 ghost use Rattle.entry_summary.specs.Distinct.{HaveOwnSources};
 ghost use Rattle.entry_summary.specs.Fitting.{AreEvents, AreRuns, AreTables, AreTotals};
 
-use crate::distinct::{have_own_keys, have_own_numbers, have_own_sources, have_own_tables};
+use crate::distinct::{
+    have_own_keys, have_own_numbers, have_own_sources, have_own_tables, no_number_twice,
+};
 use entry_model::restored::{Live, Restored, Run, SetTable};
 use osq_value::catalogue::columns;
-use osq_value::{LAST_MOMENT, TableId};
+use osq_value::{LAST_MOMENT, NoMemory, TableId};
+use query_cursors::no_key_twice;
+use std::alloc::Global;
 
 /// The greatest number that an event or a batch may have.
 const LAST_NUMBER: u64 = 1 << 62;
@@ -131,6 +135,14 @@ fn runs_fit(restored: &Restored) -> bool
     all_runs_fit(restored) && have_own_numbers(runs) && have_own_keys(runs)
 }
 
+/// The same as `runs_fit`, by the hashes of keys and numbers.
+fn runs_fit_by_hash(alloc: Global, restored: &Restored) -> Result<bool, NoMemory>
+    ensures { IfOk result (λ fit. IsTrue fit ↔ AreRuns restored.now) }
+{
+    let runs = restored.runs.as_slice();
+    Ok(all_runs_fit(restored) && no_number_twice(alloc, runs)? && no_key_twice(alloc, runs)?)
+}
+
 /// The moment and the numbers are within their bounds, and no batch is acknowledged that was not given.
 fn totals_fit(restored: &Restored) -> bool
     ensures { IsTrue result ↔ AreTotals restored.now }
@@ -148,11 +160,11 @@ fn contents_fit(restored: &Restored) -> bool
     events_fit(restored) && tables_fit(restored.tables.as_slice())
 }
 
-/// No source stands twice, and the runs fit.
-fn progress_fits(restored: &Restored) -> bool
-    ensures { IsTrue result ↔ HaveOwnSources restored.now.taken × AreRuns restored.now }
+/// All but the runs fits, and no source stands twice.
+fn others_fit(restored: &Restored) -> bool
+    ensures { IsTrue result ↔ AreTotals restored.now × AreEvents restored.now × AreTables restored.now.tables × HaveOwnSources restored.now.taken }
 {
-    have_own_sources(restored.taken.as_slice()) && runs_fit(restored)
+    totals_fit(restored) && contents_fit(restored) && have_own_sources(restored.taken.as_slice())
 }
 
 /// Whether a session may go on from these values: no others are refused, and none of a legal list is. It takes no
@@ -160,5 +172,13 @@ fn progress_fits(restored: &Restored) -> bool
 pub fn fits(restored: &Restored) -> bool
     ensures { IsTrue result ↔ Fits restored.now }
 {
-    totals_fit(restored) && contents_fit(restored) && progress_fits(restored)
+    others_fit(restored) && runs_fit(restored)
+}
+
+/// The same as `fits`, but that the keys and the numbers of runs are looked up by their hashes, which takes memory. It
+/// looks once at each run.
+pub fn fits_by_hash(alloc: Global, restored: &Restored) -> Result<bool, NoMemory>
+    ensures { IfOk result (λ fit. IsTrue fit ↔ Fits restored.now) }
+{
+    Ok(others_fit(restored) && runs_fit_by_hash(alloc, restored)?)
 }
