@@ -6,7 +6,7 @@ use crate::image::Sliced;
 use crate::session::Session;
 use crate::shown::{told, yes_or_no};
 use crate::values::Values;
-use entry_summary::fitting::fits;
+use entry_summary::fitting::{fits, fits_by_hash};
 use osq_value::NoMemory;
 use serde_json::Value as Json;
 use std::alloc::Global;
@@ -56,14 +56,18 @@ impl Bench {
         Ok(format!(in alloc; "\n== {name}\n")?)
     }
 
-    /// Whether a session may go on from the values of a line.
+    /// Whether a session may go on from the values of a line, asked both ways.
     fn ask_fits(&self, alloc: Global, call: Call<'_>) -> Result<String, NoMemory> {
         let values = Values {
             line: call.line,
             plain: &self.values,
         };
         let restored = values.restored(alloc)?;
-        yes_or_no(alloc, fits(&restored))
+        let fit = fits(&restored);
+        if fits_by_hash(alloc, &restored)? != fit {
+            return told(alloc, "otherwise by hash");
+        }
+        yes_or_no(alloc, fit)
     }
 
     /// Opens a session over the values of the last line of values.

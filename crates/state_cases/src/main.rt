@@ -15,7 +15,7 @@
 //!   `queries`: `next_due` (`claimed`, with `1` for each query that is, `moment`), `first_due` (`moment`), `find` (`query`, `place`) or `record_commit` (`query`, `place`,
 //!   `number`, `hi`, `moment`).
 //! - `{"due": TEXT, ..}` asks whether a query of this `interval` is due at this `moment`, where its last batch was at `last`.
-//! - `{"fits": TEXT, ..}` asks whether a session may go on from these values.
+//! - `{"fits": TEXT, ..}` asks whether a session may go on from these values, by pairs of runs and by the hashes of runs.
 //!
 //! A table is its name or its number. An event is an array of its table and its first values; the others are Null. In values,
 //! a row may be its number of Nulls. A run is an array of name, number, end, moment and count.
