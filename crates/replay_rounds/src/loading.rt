@@ -13,7 +13,8 @@ use crate::refused::{Numbers, numbers_in};
 use batch_keeper::{Keeper, KeeperError};
 use entry_model::laws;
 use entry_model::restored::Restored;
-use entry_summary::fitting::fits;
+use entry_summary::fitting::fits_by_hash;
+use osq_value::NoMemory;
 use std::alloc::Global;
 
 /// Why there are no values to go on from.
@@ -45,7 +46,11 @@ pub fn load_values<K: Keeper>(alloc: Global, keeper: &mut K) -> Result<Restored,
         Err(KeeperError::Fault) => return Err(LoadError::KeeperFault),
         Err(KeeperError::NoMemory) => return Err(LoadError::NoMemory),
     };
-    if fits(&restored) {
+    let fit = match fits_by_hash(alloc, &restored) {
+        Ok(fit) => fit,
+        Err(NoMemory) => return Err(LoadError::NoMemory),
+    };
+    if fit {
         Ok(restored)
     } else {
         Err(LoadError::KeeperRefused {
