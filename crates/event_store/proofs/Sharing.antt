@@ -18,7 +18,7 @@ use Rattle.event_store.proofs.Chains.{joined_part, before_at, reach_at, found_at
 beyond_both : (number least n end : ℕ) → number < n → least ≤ n → n ≤ end → max number (least - 1) < end
 beyond_both number least n end a b c = omega (arith, a, b, c)
 
-few_steps : (count k more last from end closed tail : ℕ) → from < end → end + 256 * (count - k) ≤ closed + 256 → closed + 256 ≤ tail → more + tail ≤ last + 256 → more ≤ 255 → k < count → count - k + more ≤ (last - from) / 256 + 257
+few_steps : (count k more last from end closed tail : ℕ) → from < end → end + 256 * (count - k) ≤ closed + 256 → closed + 256 ≤ tail → more + tail ≤ last + 256 → more ≤ 255 → k < count → count - k + more ≤ (last - from) / 256 + 256
 few_steps count k more last from end closed tail a b c d e f =
     let whole : 256 * (count - k) ≤ last - from + 255 = omega (arith, a, b, c, d) in
     omega (arith, whole, e)
@@ -112,7 +112,7 @@ module _ (s : Segments) (sound : IsSound s) (rising : (table : ℕ) → table < 
       base_same [] w = absurd (omega (arith, w))
       base_same (y ∷ ys) w = refl
 
-  pub shared_few : k ≤ length s.parts.items → ((table : ℕ) → table < 3 → before_all table s.parts.items + length (joined table (take k s.parts.items)) ≤ slice_index first table) → (k < length s.parts.items → (table : ℕ) × (table < 3) × (slice_index first table < before_all table s.parts.items + length (joined table (take (k + 1) s.parts.items)))) → length s.parts.items - k + count_of s.tail ≤ (s.last - max number (least_number (1 + s.last) (all_live s) - 1)) / 256 + 257
+  pub shared_few : k ≤ length s.parts.items → ((table : ℕ) → table < 3 → before_all table s.parts.items + length (joined table (take k s.parts.items)) ≤ slice_index first table) → (k < length s.parts.items → (table : ℕ) × (table < 3) × (slice_index first table < before_all table s.parts.items + length (joined table (take (k + 1) s.parts.items)))) → length s.parts.items - k + count_of s.tail ≤ (s.last - max number (least_number (1 + s.last) (all_live s) - 1)) / 256 + 256
   shared_few within behind ahead = by_place (is_below (length parts) k)
     where
       few : count_of s.tail ≤ 255
@@ -121,7 +121,7 @@ module _ (s : Segments) (sound : IsSound s) (rising : (table : ℕ) → table < 
           let b = sound.segments.unfilled in
           omega (arith, a, b)
 
-      by_place : (length s.parts.items ≤ k) ⊎ (k < length s.parts.items) → length s.parts.items - k + count_of s.tail ≤ (s.last - max number (least_number (1 + s.last) (all_live s) - 1)) / 256 + 257
+      by_place : (length s.parts.items ≤ k) ⊎ (k < length s.parts.items) → length s.parts.items - k + count_of s.tail ≤ (s.last - max number (least_number (1 + s.last) (all_live s) - 1)) / 256 + 256
       by_place (inl past) = (let a = few in omega (arith, a, past))
       by_place (inr inside) =
           let found = ahead inside in
@@ -133,7 +133,7 @@ module _ (s : Segments) (sound : IsSound s) (rising : (table : ℕ) → table < 
           let b = sound.segments.few in
           few_steps (length parts) k (count_of s.tail) s.last (max number (least_number (1 + s.last) (all_live s) - 1)) (get_or parts k s.tail).end (end_of 0 parts) s.tail.end beyond apart last b a (omega (arith, inside))
 
-pub sliced_few : (s : Segments) (sound : IsSound s) (rising : (table : ℕ) → table < 3 → IsRisingFrom 0 (live_in s table)) (number : ℕ) (first : List ℕ) (h : IsFirstAbove number s first) (k : ℕ) (ys : List Segment) → ys ≡ s.parts.items → k ≤ length ys → ((table : ℕ) → table < 3 → before_all table ys + length (joined table (take k ys)) ≤ slice_index first table) → (k < length ys → (table : ℕ) × (table < 3) × (slice_index first table < before_all table ys + length (joined table (take (k + 1) ys)))) → length s.parts.items - k + count_of s.tail ≤ (s.last - max number (least_number (1 + s.last) (all_live s) - 1)) / 256 + 257
+pub sliced_few : (s : Segments) (sound : IsSound s) (rising : (table : ℕ) → table < 3 → IsRisingFrom 0 (live_in s table)) (number : ℕ) (first : List ℕ) (h : IsFirstAbove number s first) (k : ℕ) (ys : List Segment) → ys ≡ s.parts.items → k ≤ length ys → ((table : ℕ) → table < 3 → before_all table ys + length (joined table (take k ys)) ≤ slice_index first table) → (k < length ys → (table : ℕ) × (table < 3) × (slice_index first table < before_all table ys + length (joined table (take (k + 1) ys)))) → length s.parts.items - k + count_of s.tail ≤ (s.last - max number (least_number (1 + s.last) (all_live s) - 1)) / 256 + 256
 sliced_few s sound rising number first h k ys same within behind ahead =
     shared_few s sound rising number first h k
     (subst (λ (zs : List Segment). k ≤ length zs) same within)

@@ -98,3 +98,18 @@ shown_set live tables table rows past within h wide = record {
 pub cut_shown : (number : ℕ) (live : List (List Live)) (tables : List (List (List Value))) → shown_by (map (above number) live) tables ≡ map (rows_above number) live ++ tables
 cut_shown number [] tables = refl
 cut_shown number (events ∷ live) tables = ap (λ (rest : List (List (List Value))). rows_above number events ∷ rest) (cut_shown number live tables)
+
+-- the events of an image above a number and its tables, as a view is made of them
+pub record AreCut (image : Contents) (number : ℕ) (live : List (List Live)) (tables : List (List (List Value))) : Type 0 where
+  pub events : live ≡ map (above number) image.live
+  pub rows : tables ≡ image.tables ++ [] ∷ [] ∷ [] ∷ []
+
+pub made_shown : (image : Contents) (number : ℕ) (live : List (List Live)) (tables : List (List (List Value))) → AreCut image number live tables → shown_by live tables ≡ cut_above number image
+made_shown image number live tables are =
+    (λ k. shown_by (are.events k) (are.rows k)) ∙ cut_shown number image.live (image.tables ++ [] ∷ [] ∷ [] ∷ [])
+
+pub made_are_shown : (image : Contents) (number : ℕ) (live : List (List Live)) (tables : List (List (List Value))) → AreCut image number live tables → IsImage image → AreShown live tables
+made_are_shown image number live tables are h = record {
+  three = ap length are.events ∙ length-map image.live (above number) ∙ h.live_count;
+  view = subst IsView (sym (made_shown image number live tables are)) (is_view image number h);
+}

@@ -17,6 +17,10 @@ least_number none (events ∷ rest) = min (first_number none events) (least_numb
 abbrev pub slice_from : ℕ → Contents → ℕ
 slice_from number image = max number (least_number (1 + image.last) image.live - 1)
 
--- a step for each 256 numbers, and for two segments at the ends, 255 events of the tail and nine recorded tables
+-- a step for each 256 numbers, and for a segment at the end and 255 events of the tail
+abbrev pub events_cost : ℕ → Contents → ℕ
+events_cost number image = (image.last - slice_from number image) / 256 + 256
+
+-- these, and a step for the slice as a whole and for each of nine recorded tables
 abbrev pub slice_cost : ℕ → Contents → ℕ
 slice_cost number image = (image.last - slice_from number image) / 256 + 266

@@ -8,6 +8,7 @@ pub mod Parts
 pub mod Shown
 pub mod Contents
 pub mod Costs
+pub mod Slices
 pub mod Inside
 pub mod Changes
 pub mod Laws

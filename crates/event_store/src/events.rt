@@ -110,7 +110,7 @@ impl Events {
     ) -> Result<Events, NoMemory>
         requires { (table : ℕ) → table < 3 → IsRisingFrom 0 (slice_index_or self.now.live table []) }
         ensures live { IfOk result (λ slice. slice ≡ record self.now { live = map (above number) self.now.live }) }
-        ensures cost { steps.new ≤ steps.old + (self.now.last - max number (least_number (1 + self.now.last) self.now.live - 1)) / 256 + 257 }
+        ensures cost { steps.new ≤ steps.old + (self.now.last - max number (least_number (1 + self.now.last) self.now.live - 1)) / 256 + 256 }
     {
         Ok(Events {
             segments: self.segments.slice(alloc, number, steps)?,

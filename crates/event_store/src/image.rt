@@ -6,7 +6,8 @@ ghost use Rattle.entry_model.specs.Fits.{Fits};
 ghost use Rattle.entry_model.specs.Legal.{IsEvent};
 ghost use Rattle.entry_model.specs.Views.{is_evented_table, is_recorded_table};
 ghost use Rattle.event_store.specs.Contents.{live_at, floor_at, AreWide, Holds, cut_above, IsImage};
-ghost use Rattle.event_store.specs.Costs.{slice_cost};
+ghost use Rattle.event_store.specs.Costs.{events_cost, slice_cost};
+ghost use Rattle.event_store.specs.Slices.{slice_above, IsSliceOf};
 ghost use Rattle.event_store.specs.Owed.{owed_of};
 ghost use Rattle.event_store.specs.Changes.{Appends, with_table, Expires};
 ghost use Rattle.event_store.specs.declared.image.StoreError.{StoreError};
@@ -15,6 +16,7 @@ use crate::events::Events;
 use crate::owed::order_of;
 use crate::recorded::{FIRST, add_computed, copy_sets, no_rows, share_tables};
 use crate::shared::SharedRows;
+use crate::slice::{EventSlice, SharedEvents};
 use crate::steps::Steps;
 use crate::view::CutView;
 use entry_model::restored::Restored;
@@ -129,11 +131,43 @@ impl Image {
         ensures shown { IfOk result (λ view. view ≡ cut_above lo self.now) }
         ensures cost { steps.new ≤ steps.old + slice_cost lo self.now }
     {
+        let slice = self.events_above(alloc, lo, steps)?;
+        self.view(alloc, slice, steps)
+    }
+
+    /// The events above this number, which are shared but for the last 255: of them views are made until events come or expire.
+    pub fn events_above<L: Ledger>(
+        &self,
+        alloc: Global,
+        lo: u64,
+        steps: &mut Steps<L>,
+    ) -> Result<EventSlice, NoMemory>
+        ensures slice { IfOk result (λ slice. slice ≡ slice_above lo self.now) }
+        ensures cost { steps.new ≤ steps.old + events_cost lo self.now }
+    {
         let events = self.events.slice(alloc, lo, steps)?;
+        Ok(EventSlice {
+            above: lo,
+            events: SharedEvents::of(alloc, events)?,
+        })
+    }
+
+    /// What a query sees: these events of the image, and the recorded tables, which are shared. The computed tables have no rows
+    /// yet.
+    pub fn view<L: Ledger>(
+        &self,
+        alloc: Global,
+        slice: EventSlice,
+        steps: &mut Steps<L>,
+    ) -> Result<CutView, NoMemory>
+        requires { IsSliceOf self.now slice }
+        ensures shown { IfOk result (λ view. view ≡ cut_above slice.above self.now) }
+        ensures cost { steps.new ≤ steps.old + 9 }
+    {
         let mut tables = Vec::with_capacity(alloc, 12)?;
         share_tables(&mut tables, &self.tables, steps)?;
         add_computed(alloc, &mut tables)?;
-        Ok(CutView::of(events, tables))
+        Ok(CutView::of(slice.events, tables))
     }
 
     /// Drops the events of an evented table up to this number, and the first segments in which nothing is live any more.

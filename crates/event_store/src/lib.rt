@@ -15,11 +15,13 @@ mod segment;
 mod segments;
 pub mod shared;
 mod shown;
+pub mod slice;
 pub mod steps;
 pub mod view;
 
 pub use image::{Image, StoreError};
 pub use parted::PartedRows;
 pub use shared::SharedRows;
+pub use slice::EventSlice;
 pub use steps::Steps;
 pub use view::CutView;

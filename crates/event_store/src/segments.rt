@@ -145,7 +145,7 @@ impl Segments {
         ensures sound { IfOk result (λ slice. IsSound slice) }
         ensures last { IfOk result (λ slice. slice.last ≡ self.now.last) }
         ensures live { IfOk result (λ slice. all_live slice ≡ map (above number) (all_live self.now)) }
-        ensures cost { steps.new ≤ steps.old + (self.now.last - max number (least_number (1 + self.now.last) (all_live self.now) - 1)) / 256 + 257 }
+        ensures cost { steps.new ≤ steps.old + (self.now.last - max number (least_number (1 + self.now.last) (all_live self.now) - 1)) / 256 + 256 }
     {
         let first = self.first_above(number);
         let (_gone, parts) = self

@@ -7,18 +7,18 @@ ghost use Rattle.event_store.specs.Contents.{AreWide, rows_in, IsView};
 ghost use Rattle.event_store.specs.Inside.{shown_by, AreShown};
 ghost use Rattle.event_store.specs.Parts.{rows_of};
 
-use crate::events::Events;
 use crate::parted::PartedRows;
 use crate::recorded::FIRST;
 use crate::shared::SharedRows;
 use crate::shown::ShownRows;
+use crate::slice::SharedEvents;
 use osq_value::{Row, TableId, Tables};
 use std::marker::Model;
 
 /// The rows of each table of the catalogue, by the table's number.
 #[derive(Drop)]
 pub struct CutView {
-    events: Events,
+    events: SharedEvents,
     /// Those of the recorded tables, and then those of the computed ones.
     tables: Vec<ShownRows>,
 }
@@ -37,7 +37,7 @@ impl Model for CutView {
 
 impl CutView {
     /// The view of these events and tables, which are moved. It takes no memory.
-    pub(crate) fn of(events: Events, tables: Vec<ShownRows>) -> CutView
+    pub(crate) fn of(events: SharedEvents, tables: Vec<ShownRows>) -> CutView
         requires { AreShown events.live tables.items }
         ensures { result ≡ shown_by events.live tables.items }
     {
@@ -49,8 +49,9 @@ impl CutView {
         requires { table < 3 }
         ensures { option_copied result ≡ slice_get (slice_index_or self.now table []) at }
     {
-        if at < self.events.len(table) {
-            Some(&self.events.event(table, at).row)
+        let events = self.events.events();
+        if at < events.len(table) {
+            Some(&events.event(table, at).row)
         } else {
             None
         }
@@ -90,7 +91,7 @@ impl Tables for CutView {
 
     fn count(&self, table: TableId) -> usize {
         if table.0 < FIRST {
-            self.events.len(table.0 as usize)
+            self.events.events().len(table.0 as usize)
         } else if table.0 < 15 {
             self.tables[(table.0 - FIRST) as usize].len()
         } else {

@@ -1,6 +1,5 @@
-use Rattle.std.proofs.Common.{◌≡◌, ◌∙◌, ◌<◌, ◌≤◌, List, arith, set, sym, subst}
+use Rattle.std.proofs.Common.{◌∙◌, ◌<◌, ◌≤◌, arith, set, sym, subst}
 use Rattle.std.proofs.lemmas.Bool.Decides.{nat_tests}
-use Rattle.osq_value.specs.declared.value.Value.{Value}
 use Rattle.osq_value.specs.Catalogue.{width_of}
 use Rattle.event_store.specs.Contents.{AreWide}
 use Rattle.event_store.proofs.Views.{set_shown, shown_set}
