@@ -13,3 +13,4 @@ pub mod Committing
 pub mod Passed
 pub mod Marked
 pub mod Placed
+pub mod Sliced

@@ -31,6 +31,11 @@ abbrev pub lower_at : Kept → QueryKey → Mode → ℕ
 lower_at s query Evented = cursors.cursor_of s.counts.runs query
 lower_at s query Snapshot = 0
 
+-- above which number the events are that the query at this place of the schedule sees
+abbrev pub bound_at : Kept → ℕ → Option ℕ
+bound_at s place =
+    option_map (λ (scheduled : Scheduled). lower_at s scheduled.key scheduled.key.mode) (slice_get s.schedule.queries place)
+
 -- the cut of the query that stands at this place of the schedule
 abbrev pub cut_of : Kept → ℕ → Scheduled → CutValue
 cut_of s place scheduled =

@@ -6,6 +6,7 @@ pub mod cut;
 pub mod laws;
 mod listed;
 mod readings;
+mod slices;
 pub mod state;
 pub mod tail;
 

@@ -10,6 +10,7 @@ ghost use Rattle.entry_model.specs.Legal.{IsEvent, width_of};
 ghost use Rattle.entry_model.specs.Next.{offset_at};
 ghost use Rattle.event_store.specs.Contents.{AreWide, floor_at};
 ghost use Rattle.event_store.specs.Costs.{slice_cost};
+ghost use Rattle.event_store.specs.Slices.{IsSliceOf};
 ghost use Rattle.session_state.specs.Kept.{due_count, IsState};
 ghost use Rattle.session_state.specs.StateOf.{Adds, Begins, IsStateOf};
 ghost use Rattle.entry_model.specs.Views.{is_evented_table, is_recorded_table};
@@ -21,7 +22,7 @@ ghost use Rattle.session_state.specs.Computed.{shown_by};
 ghost use Rattle.session_state.specs.Cut.{CutValue};
 ghost use Rattle.session_state.specs.CutOf.{mark_from, IsCutOf};
 ghost use Rattle.session_state.specs.Marks.{IsRising};
-ghost use Rattle.session_state.specs.Cutting.{next_place, lower_from, cut_of, next_cut, claimed_at, released, CutStands};
+ghost use Rattle.session_state.specs.Cutting.{next_place, lower_from, bound_at, cut_of, next_cut, claimed_at, released, CutStands};
 ghost use Rattle.session_state.specs.Expiries.{expiry_of, expiries, AddsAll, AddsSome};
 ghost use Rattle.session_state.specs.Sealing.{IsSealable};
 ghost use Rattle.session_state.specs.Readings.{IsReading, entry_of, taken_of, event_count, refusal_to};
@@ -36,10 +37,11 @@ use crate::computed::{event_rows, time_rows};
 use crate::cut::Cut;
 use crate::listed::Listed;
 use crate::readings::{offset_of, offsets_with, refusal};
+use crate::slices::Slices;
 use crate::tail::Tail;
 use entry_model::entry::{Batch, Entry, EntryList};
 use entry_model::restored::{Restored, Run, TakenList};
-use event_store::{CutView, Image, SharedRows, Steps};
+use event_store::{CutView, EventSlice, Image, SharedRows, Steps};
 use osq_value::{Copied, EventList, NoMemory, Reading, RowList, Sequence, Str, TableId, TextList};
 use pack_rules::schedule::{Form, Mode, Schedule, Scheduled};
 use query_cursors::Cursors;
@@ -97,6 +99,8 @@ pub struct State {
     batches: u64,
     acked: u64,
     image: Image,
+    /// Slices of the image's events, which cuts share.
+    slices: Slices,
     schedule: Schedule,
     ticked: bool,
     /// The places of the session's Configured and Ticked entries.
@@ -165,14 +169,23 @@ fn unclaimed(alloc: Global, count: usize) -> Result<Vec<bool>, NoMemory>
     Ok(claims)
 }
 
-/// The number of a run and its end, 0 where there is no run.
-fn number_and_end(run: Option<&Run>) -> (u64, u64)
-    ensures number { result.0 ≡ option_map_or (λ run. run.number) (option_copied run.entry) 0 }
-    ensures end { result.1 ≡ option_map_or (λ run. run.hi) (option_copied run.entry) 0 }
+/// The number of a run, 0 where there is none.
+fn number_in(run: Option<&Run>) -> u64
+    ensures { result ≡ option_map_or (λ run. run.number) (option_copied run.entry) 0 }
 {
     match run {
-        None => (0, 0),
-        Some(run) => (run.number, run.hi),
+        None => 0,
+        Some(run) => run.number,
+    }
+}
+
+/// The end of a run, 0 where there is none.
+fn end_in(run: Option<&Run>) -> u64
+    ensures { result ≡ option_map_or (λ run. run.hi) (option_copied run.entry) 0 }
+{
+    match run {
+        None => 0,
+        Some(run) => run.hi,
     }
 }
 
@@ -246,6 +259,7 @@ impl State {
             batches: restored.batches,
             acked: restored.acked,
             image,
+            slices: Slices::none(alloc),
             schedule: Schedule {
                 queries: Sequence::new(alloc),
                 events_expiry: 3600,
@@ -592,6 +606,7 @@ impl State {
             return Err(NoMemory);
         };
         self.image.is_image();
+        self.slices.forget();
         self.taken = offsets;
         self.position += 1;
         Ok(numbers)
@@ -673,6 +688,7 @@ impl State {
         };
         self.image.expire(table, floor);
         self.image.is_image();
+        self.slices.forget();
         self.tail.put(Entry::Expired {
             table,
             floor,
@@ -682,19 +698,20 @@ impl State {
         1
     }
 
-    /// What a query sees at this moment: of the events those above this number, and all other tables.
-    fn view_counted<L: Ledger>(
+    /// What a query sees at this moment: these events, and all other tables.
+    fn view_with<L: Ledger>(
         &self,
         alloc: Global,
-        above: u64,
+        slice: EventSlice,
         moment: u64,
         steps: &mut Steps<L>,
     ) -> Result<CutView, NoMemory>
-        requires { moment ≤ LAST_MOMENT }
-        ensures view { IfOk result (λ view. view ≡ shown_by self.now above moment) }
-        ensures cost { steps.new ≤ steps.old + slice_cost above self.now.image }
+        requires calendar { moment ≤ LAST_MOMENT }
+        requires slice { IsSliceOf self.now.image slice }
+        ensures view { IfOk result (λ view. view ≡ shown_by self.now slice.above moment) }
+        ensures cost { steps.new ≤ steps.old + 9 }
     {
-        let mut view = self.image.slice(alloc, above, steps)?;
+        let mut view = self.image.view(alloc, slice, steps)?;
         let time = SharedRows::of(alloc, time_rows(alloc, moment)?)?;
         view.set_computed(TableId::TIME, time);
         let queries = self.schedule.queries.as_slice();
@@ -719,7 +736,9 @@ impl State {
         requires some { 0 < blank.parts }
         ensures { IfOk result (λ view. view ≡ shown_by self.now above moment) }
     {
-        self.view_counted(alloc, above, moment, &mut Steps::<L>::new(blank))
+        let mut steps = Steps::<L>::new(blank);
+        let slice = self.image.events_above(alloc, above, &mut steps)?;
+        self.view_with(alloc, slice, moment, &mut steps)
     }
 
     /// What a query sees at this moment: of the events those above this number, and all other tables.
@@ -754,20 +773,33 @@ impl State {
         )
     }
 
-    /// The cut of the query at this place of the schedule.
+    /// Above which number the events are that the query at this place of the schedule sees.
+    fn lower_bound(&self, place: u32) -> u64
+        requires { place < length self.now.schedule.queries }
+        ensures { bound_at self.now place ≡ Some result }
+    {
+        let mode = self.schedule.queries.as_slice()[place as usize].key.mode;
+        let end = end_in(self.cursors.placed_run(place as usize));
+        lower_from(mode, end)
+    }
+
+    /// The cut of the query at this place of the schedule, which sees these events.
     fn cut_of<L: Ledger>(
         &self,
         alloc: Global,
         place: u32,
+        slice: EventSlice,
         steps: &mut Steps<L>,
     ) -> Result<Cut, NoMemory>
-        requires { place < length self.now.schedule.queries }
+        requires place { place < length self.now.schedule.queries }
+        requires lower { bound_at self.now place ≡ Some slice.above }
+        requires slice { IsSliceOf self.now.image slice }
         ensures cut { IfOk result (λ cut. Some cut ≡ option_map (cut_of self.now place) (slice_get self.now.schedule.queries place)) }
-        ensures cost { IfSome (option_map (cut_of self.now place) (slice_get self.now.schedule.queries place)) (λ cut. steps.new ≤ steps.old + slice_cost cut.lo self.now.image) }
+        ensures cost { steps.new ≤ steps.old + 9 }
     {
         let key = &self.schedule.queries.as_slice()[place as usize].key;
-        let (last, end) = number_and_end(self.cursors.placed_run(place as usize));
-        let lo = lower_from(key.mode, end);
+        let last = number_in(self.cursors.placed_run(place as usize));
+        let lo = slice.above();
         Ok(Cut {
             place,
             key: key.copy(alloc)?,
@@ -777,8 +809,25 @@ impl State {
             position: self.position,
             moment: self.moment,
             last,
-            view: self.view_counted(alloc, lo, self.moment, steps)?,
+            view: self.view_with(alloc, slice, self.moment, steps)?,
         })
+    }
+
+    /// The cut of the query at this place of the schedule, with a slice that is shared with other cuts.
+    fn cut_at<L: Ledger>(
+        &mut self,
+        alloc: Global,
+        place: u32,
+        steps: &mut Steps<L>,
+    ) -> Result<Cut, NoMemory>
+        requires { place < length self.old.schedule.queries }
+        ensures same { self.new ≡ self.old }
+        ensures cut { IfOk result (λ cut. Some cut ≡ option_map (cut_of self.old place) (slice_get self.old.schedule.queries place)) }
+        ensures cost { IfSome (option_map (cut_of self.old place) (slice_get self.old.schedule.queries place)) (λ cut. steps.new ≤ steps.old + slice_cost cut.lo self.old.image) }
+    {
+        let lo = self.lower_bound(place);
+        let slice = self.slices.above(alloc, &self.image, lo, steps)?;
+        self.cut_of(alloc, place, slice, steps)
     }
 
     /// Makes the rows of `osquery_schedule` anew that commits have made stale, so that cuts share all of them.
@@ -812,7 +861,7 @@ impl State {
         if self.renew_listed(alloc).is_err() {
             return Err(NoMemory);
         }
-        let Ok(cut) = self.cut_of(alloc, place, steps) else {
+        let Ok(cut) = self.cut_at(alloc, place, steps) else {
             return Err(NoMemory);
         };
         self.claims[place as usize] = true;

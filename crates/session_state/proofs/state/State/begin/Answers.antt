@@ -31,5 +31,6 @@ invariant_of-result c =
         past = search rules;
       };
       listed = search rules;
+      slices = search rules;
       passed = λ place scheduled lt. absurd (omega (arith, lt));
     }

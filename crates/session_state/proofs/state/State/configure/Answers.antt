@@ -59,5 +59,6 @@ invariant_of-self-2 c =
         marks = c.push_reserved.ensures.items ∙ ap (λ (marks : List ℕ). marks ++ s.counts.position ∷ []) c.in_ok-reserve.ensures.items;
       });
       listed = subst (λ (runs : List Run). AreFresh (schedule_shown runs c.in_ok-kept.kept.queries) c.in_ok-listed.listed) (sym runs) (subst (λ (queries : List Scheduled). AreFresh (schedule_shown s.counts.runs queries) c.in_ok-listed.listed) c.as_slice-queries_now.ensures c.in_ok-listed.ensures);
+      slices = c.self.invariant.slices;
       passed = λ place scheduled lt. absurd (omega (arith, lt));
     }

@@ -5,7 +5,7 @@ use Rattle.event_store.specs.Contents.{AreWide}
 use Rattle.session_state.specs.Computed.{schedule_shown}
 use Rattle.session_state.proofs.Counted.{time_wide, schedule_wide, events_wide}
 use Rattle.session_state.proofs.Listing.{parts_whole}
-use Rattle.session_state.proofs.state.State.view_counted.Goals as goal
+use Rattle.session_state.proofs.state.State.view_with.Goals as goal
 
 pub set_computed-requires-clause-wide : goal.set_computed-requires-clause-wide
 set_computed-requires-clause-wide g c =
