@@ -98,6 +98,22 @@ module _ (query : QueryTree) where
       ∙ cut-taken limited is (map (items_in query) (map row_of sorted))
       ∙ sym (behind ungrouped false all rows ∙ finish-all some)
 
+  -- the columns of the result of the rows in the order of the terms
+  pub sorted-lent : query.is_grouped ≡ false → query.is_distinct ≡ false → (rows : List Joined)
+      → cut query (map (λ row. items_of query (values_in row)) (ordered_by (λ row. terms_of query (values_in row)) (descending_of query) (filter (is_kept query.filter) rows))) ≡ behind_from query (map values_in rows)
+  sorted-lent ungrouped all rows =
+      let some = filter (is_kept query.filter) rows in
+      let kept = filter (passes query) (map values_in rows) in
+      let sorted = ordered_by (terms_of query) (descending_of query) kept in
+      sym (behind ungrouped false all (map values_in rows)
+      ∙ finish-all kept
+      ∙ ap (cut query)
+      (map_twice (items_in query) row_of sorted
+      ∙ (λ i. map (λ row. take-items (λ (item : ResultTree). value_of (alone row) item.expr) query.items (terms_of query row) i) sorted)
+      ∙ ap (λ rows. map (items_of query) (ordered_by (terms_of query) (descending_of query) rows)) (filter_mapped values_in (passes query) rows)
+      ∙ ap (map (items_of query)) (ordered_mapped values_in (terms_of query) (descending_of query) some)
+      ∙ map_twice (items_of query) values_in (ordered_by (λ row. terms_of query (values_in row)) (descending_of query) some)))
+
   finish-different : (kept : List (List Value)) → finish true kept ≡ cut query (map (items_in query) (ordered query (map row_of (firsts_by (items_of query) kept))))
   finish-different kept =
       ap (λ made. cut query (map (items_in query) (ordered query (firsts_by (items_in query) made)))) (map_twice (result_row query) alone kept)

@@ -26,6 +26,7 @@ use Rattle.sql_groups.specs.Different.{equal, held, held_alone}
 use Rattle.sql_groups.specs.Folding.{item_over, lists}
 use Rattle.sql_groups.specs.Grouping.{Adds, AreKnown, Folds, IsFolded, Puts, kept_values, place_of, values_of}
 use Rattle.sql_groups.specs.Kept.{is_kept}
+use Rattle.sql_groups.specs.Totals.{AreItems, IsOneGroup}
 use Rattle.sql_groups.proofs.Adding.{alike, kept-one}
 use Rattle.sql_groups.proofs.Zipped.{zip-long, zip-nth, zip-push, zip-set}
 
@@ -104,15 +105,10 @@ module _ (place : ℕ) (condition : List ExprTree) (items : List GroupItem) wher
       (sym (kept-one place (is_kept condition) rows row false left ∙ append-nil (kept rows))) was
 
 -- one more row for which a condition holds, or doesn't
-pub values-more : (condition : List ExprTree) (rows : List Joined) (row : Joined) (keeps : Bool) → is_kept condition row ≡ keeps
-    → kept_values condition (rows ++ row ∷ []) ≡ kept_values condition rows ++ cond keeps (values_in row ∷ []) []
+pub values-more : (condition : List ExprTree) (rows : List (List Value)) (row : List Value) (keeps : Bool) → holds (alone row) condition ≡ keeps
+    → kept_values condition (rows ++ row ∷ []) ≡ kept_values condition rows ++ cond keeps (row ∷ []) []
 values-more condition rows row keeps is =
-    ap (map values_in) (filter-append (is_kept condition) rows (row ∷ []) ∙ ap (λ (b : Bool). filter (is_kept condition) rows ++ cond b (row ∷ []) []) is)
-    ∙ map-append values_in (filter (is_kept condition) rows) (cond keeps (row ∷ []) []) ∙ by keeps
-  where
-    by : (b : Bool) → kept_values condition rows ++ map values_in (cond b (row ∷ []) []) ≡ kept_values condition rows ++ cond b (values_in row ∷ []) []
-    by true = refl
-    by false = refl
+    filter-append (λ row. holds (alone row) condition) rows (row ∷ []) ∙ ap (λ (b : Bool). kept_values condition rows ++ cond b (row ∷ []) []) is
 
 every-environment : (envs : List Environment) → filter (λ env. holds env []) envs ≡ envs
 every-environment [] = refl
@@ -147,15 +143,14 @@ module _ (query : QueryTree) (place : ℕ) (items : List GroupItem) where
 
 module _ (query : QueryTree) (items : List GroupItem) where
   -- without GROUP BY all rows are the one group of the meaning
-  pub all-mean : query.is_grouped ≡ true → query.keys ≡ [] → query.having ≡ [] → ((rows : List (List Value)) → result_row query (together rows) ≡ map (λ item. item_over item rows) items) → (rows : List Joined)
-      → finished query (map (λ rows. map (λ item. item_over item rows) items) (kept_values query.filter rows ∷ [])) ≡ behind_from query (map values_in rows)
-  all-mean grouped all none is rows =
-      let some = filtered query (map values_in rows) in
+  pub all-mean : IsOneGroup query → AreItems query items → (rows : List (List Value))
+      → finished query (map (λ rows. map (λ item. item_over item rows) items) (filtered query rows ∷ [])) ≡ behind_from query rows
+  all-mean one is rows =
+      let some = filtered query rows in
       ap (finished query)
-      (ap (λ (row : List Value). row ∷ []) (sym (is (kept_values query.filter rows)))
-      ∙ ap (λ (kept : List (List Value)). result_row query (together kept) ∷ []) (sym (filter_mapped values_in (λ row. holds (alone row) query.filter) rows))
+      (ap (λ (row : List Value). row ∷ []) (sym (is some))
       ∙ ap (map (result_row query))
       (sym (every-environment (together some ∷ []))
-      ∙ ap (λ (having : List ExprTree). filter (λ env. holds env having) (together some ∷ [])) (sym none)
-      ∙ ap (λ (keys : List ExprTree). filter (λ env. holds env query.having) (map together (groups keys some))) (sym all)
-      ∙ ap (λ (b : Bool). if b then kept_groups query some else map alone some) (sym grouped)))
+      ∙ ap (λ (having : List ExprTree). filter (λ env. holds env having) (together some ∷ [])) (sym one.2)
+      ∙ ap (λ (keys : List ExprTree). filter (λ env. holds env query.having) (map together (groups keys some))) (sym one.1)
+      ∙ ap (λ (b : Bool). if b then kept_groups query some else map alone some) (sym one.0)))

@@ -5,6 +5,7 @@ mod Gathered
 mod Leaders
 mod Passing
 mod Placing
+mod Ranked
 mod Standing
 mod Taken
 mod Zipped

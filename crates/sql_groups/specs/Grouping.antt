@@ -6,6 +6,7 @@ use Rattle.indexmap.specs.IndexSet.{insert_key}
 use Rattle.osq_value.specs.declared.value.Value.{Value}
 use Rattle.sql_query.specs.Exprs.{ExprTree}
 use Rattle.sql_meaning.specs.declared.joined.Joined.{Joined}
+use Rattle.sql_meaning.specs.Expressions.{alone, holds}
 use Rattle.sql_meaning.specs.Firsts.{firsts_by}
 use Rattle.sql_meaning.specs.Lent.{values_in}
 use Rattle.sql_groups.specs.declared.grouped.FoundGroups.{FoundGroups}
@@ -20,8 +21,8 @@ abbrev pub AreKnown : List GroupItem → List (List Value) → List SoFar → Ty
 AreKnown items rows group = AllZip (HasFolded rows) items group
 
 -- the rows for which the condition holds
-abbrev pub kept_values : List ExprTree → List Joined → List (List Value)
-kept_values condition rows = map values_in (filter (is_kept condition) rows)
+abbrev pub kept_values : List ExprTree → List (List Value) → List (List Value)
+kept_values condition rows = filter (λ row. holds (alone row) condition) rows
 
 -- the same of each group
 abbrev pub IsFolded : List GroupItem → List (List (List Value)) → List (List SoFar) → Type 0

@@ -55,25 +55,21 @@ pub(crate) fn groups_by_column<'a>(
     Ok(Some(found.groups))
 }
 
-/// The group of all rows for which the condition holds. None where a column of the result is that of the first row, since there may be none,
-/// and where a number leaves its bounds.
-pub(crate) fn group_of_all<'a>(
+/// Adds the rows for which the condition holds to a group. The answer is false where a number leaves its bounds.
+pub(crate) fn add_all<'a>(
     alloc: Global,
-    items: &[GroupItem],
     condition: &Condition,
+    group: &mut GroupSoFar<'a>,
     rows: &[Joined<'a>],
-) -> Result<Option<GroupSoFar<'a>>, NoMemory>
-    ensures { IfOk result (λ found. IfSome found (λ group. AreKnown items.now (kept_values (map expr_of condition.now.parts) rows.now) group)) }
+) -> Result<bool, NoMemory>
+    ensures { IfOk result (λ is_told. is_told ≡ true → (items : List GroupItemOf) (before : List (List ValueOf)) → AreKnown items (kept_values (map expr_of condition.now.parts) before) group.old → AreKnown items (kept_values (map expr_of condition.now.parts) (before ++ map values_in rows.now)) group.new) }
 {
-    let Some(mut group) = no_rows(alloc, items)? else {
-        return Ok(None);
-    };
     for row in rows {
         if !add_kept(alloc, condition, group.as_mut_slice(), *row)? {
-            return Ok(None);
+            return Ok(false);
         }
     }
-    Ok(Some(group))
+    Ok(true)
 }
 
 /// Adds a row to a group where the condition holds for it. The answer is false where a number leaves its bounds.
@@ -84,7 +80,7 @@ fn add_kept<'a>(
     row: Joined<'a>,
 ) -> Result<bool, NoMemory>
     ensures long { length group.new ≡ length group.old }
-    ensures grows { IfOk result (λ is_told. is_told ≡ true → (items : List GroupItemOf) (rows : List JoinedOf) → AreKnown items (kept_values (map expr_of condition.now.parts) rows) group.old → AreKnown items (kept_values (map expr_of condition.now.parts) (rows ++ row.entry ∷ [])) group.new) }
+    ensures grows { IfOk result (λ is_told. is_told ≡ true → (items : List GroupItemOf) (rows : List (List ValueOf)) → AreKnown items (kept_values (map expr_of condition.now.parts) rows) group.old → AreKnown items (kept_values (map expr_of condition.now.parts) (rows ++ values_in row.entry ∷ [])) group.new) }
 {
     if is_kept(alloc, condition, row)? {
         Ok(add_row(group, row))
@@ -93,8 +89,11 @@ fn add_kept<'a>(
     }
 }
 
-/// The columns of the result before the first row of a group.
-fn no_rows<'a>(alloc: Global, items: &[GroupItem]) -> Result<Option<GroupSoFar<'a>>, NoMemory>
+/// The columns of the result before the first row of a group. None where one of them is that of the first row, since there may be none.
+pub(crate) fn no_rows<'a>(
+    alloc: Global,
+    items: &[GroupItem],
+) -> Result<Option<GroupSoFar<'a>>, NoMemory>
     ensures { IfOk result (λ begun. IfSome begun (λ group. AreKnown items.now [] group)) }
 {
     let mut group = GroupSoFar::with_capacity(alloc, items.len())?;

@@ -65,7 +65,7 @@ pub(crate) fn leading<'a>(
 }
 
 /// Which of the terms are descending.
-fn directions(alloc: Global, terms: &[Order]) -> Result<Vec<bool>, NoMemory>
+pub(crate) fn directions(alloc: Global, terms: &[Order]) -> Result<Vec<bool>, NoMemory>
     ensures { IfOk result (λ made. made.items ≡ directions (map term_of terms.now)) }
 {
     let mut made = Vec::with_capacity(alloc, terms.len())?;
@@ -173,7 +173,7 @@ fn term_order(
 }
 
 /// What a row is sorted by.
-fn keys_of<'a>(
+pub(crate) fn keys_of<'a>(
     alloc: Global,
     terms: &'a [Order],
     row: Joined<'a>,

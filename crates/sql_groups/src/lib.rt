@@ -9,7 +9,10 @@ mod kept;
 mod leading;
 mod order;
 mod so_far;
+mod sorted;
 mod steps;
+mod totals;
 mod wanted;
 
 pub use steps::{rows_behind, rows_behind_where};
+pub use totals::Totals;

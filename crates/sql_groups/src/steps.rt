@@ -11,9 +11,11 @@ ghost use Rattle.sql_groups.specs.Wanted.{IsCut};
 
 use crate::columns::{only_column, only_key};
 use crate::different::different;
-use crate::grouped::{group_of_all, groups_by_column, result_rows};
+use crate::grouped::{groups_by_column, result_rows};
 use crate::items::{GroupItem, group_items};
 use crate::leading::leading;
+use crate::sorted::sorted_rows;
+use crate::totals::Totals;
 use crate::wanted::wanted;
 use osq_value::{NoMemory, RowList};
 use sql_meaning::{Joined, finished, rows_where};
@@ -57,6 +59,9 @@ fn grouped_rows(
     requires { query.now.is_grouped ≡ true }
     ensures { IfOk result (λ made. made ≡ behind_from (asked_by (map expr_of condition.now.parts) (query_of query.now)) (map values_in rows.now)) }
 {
+    if query.keys.as_slice().is_empty() {
+        return row_of_all(alloc, query, condition, rows);
+    }
     let [] = query.having.parts.as_slice() else {
         return rows_where(alloc, query, condition, rows);
     };
@@ -79,9 +84,6 @@ fn rows_of_items(
     requires items { (rows : List (List Value)) → result_row (query_of query.now) (together rows) ≡ map (λ item. item_over item rows) items.now }
     ensures { IfOk result (λ made. made ≡ behind_from (asked_by (map expr_of condition.now.parts) (query_of query.now)) (map values_in rows.now)) }
 {
-    if query.keys.as_slice().is_empty() {
-        return row_of_all(alloc, query, condition, rows, items);
-    }
     match only_key(query.keys.as_slice()) {
         None => rows_where(alloc, query, condition, rows),
         Some(place) => folded_rows(alloc, query, condition, rows, place, items),
@@ -94,20 +96,18 @@ fn row_of_all(
     query: &Query,
     condition: &Condition,
     rows: &[Joined],
-    items: &[GroupItem],
 ) -> Result<RowList, NoMemory>
-    requires grouped { query.now.is_grouped ≡ true }
-    requires bare { query.now.having.parts ≡ [] }
-    requires all { query.now.keys ≡ [] }
-    requires items { (rows : List (List Value)) → result_row (query_of query.now) (together rows) ≡ map (λ item. item_over item rows) items.now }
     ensures { IfOk result (λ made. made ≡ behind_from (asked_by (map expr_of condition.now.parts) (query_of query.now)) (map values_in rows.now)) }
 {
-    let Some(group) = group_of_all(alloc, items, condition, rows)? else {
+    let Some(mut totals) = Totals::begun(alloc, query)? else {
         return rows_where(alloc, query, condition, rows);
     };
-    match result_rows(alloc, &[group])? {
+    if !totals.add(alloc, condition, rows)? {
+        return rows_where(alloc, query, condition, rows);
+    }
+    match totals.rows(alloc, query)? {
         None => rows_where(alloc, query, condition, rows),
-        Some(made) => finished(alloc, query, made),
+        Some(made) => Ok(made),
     }
 }
 
@@ -183,7 +183,7 @@ fn cut_rows(
     ensures { IfOk result (λ made. made ≡ behind_from (asked_by (map expr_of condition.now.parts) (query_of query.now)) (map values_in rows.now)) }
 {
     match wanted(query.limit, query.skip, rows.len()) {
-        None => rows_where(alloc, query, condition, rows),
+        None => ordered_rows(alloc, query, condition, rows),
         Some(count) => leading_rows(alloc, query, condition, rows, count),
     }
 }
@@ -203,4 +203,22 @@ fn leading_rows(
 {
     let first = leading(alloc, query.terms.as_slice(), condition, rows, count)?;
     rows_where(alloc, query, condition, first.as_slice())
+}
+
+/// The same, where all rows are put in order: where ORDER BY is there, by keys that are made once beside the rows of the result.
+fn ordered_rows(
+    alloc: Global,
+    query: &Query,
+    condition: &Condition,
+    rows: &[Joined],
+) -> Result<RowList, NoMemory>
+    requires ungrouped { query.now.is_grouped ≡ false }
+    requires all { query.now.is_distinct ≡ false }
+    ensures { IfOk result (λ made. made ≡ behind_from (asked_by (map expr_of condition.now.parts) (query_of query.now)) (map values_in rows.now)) }
+{
+    if query.terms.as_slice().is_empty() {
+        rows_where(alloc, query, condition, rows)
+    } else {
+        sorted_rows(alloc, query, condition, rows)
+    }
 }
