@@ -6,6 +6,7 @@ mod Fitting
 mod Halved
 mod Joined
 mod OneTable
+mod Paired
 mod Pieces
 mod Pushed
 mod Seen

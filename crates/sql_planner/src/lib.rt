@@ -5,6 +5,7 @@ mod column_test;
 mod comparison;
 mod constants;
 mod explaining;
+mod folding;
 mod item_set;
 mod joining;
 pub mod plan;
