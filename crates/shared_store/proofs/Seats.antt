@@ -9,8 +9,8 @@ use Rattle.turn_lock.specs.declared.lock.TurnSeat.{TurnSeat}
 use Rattle.turn_lock.specs.Turns.{Grows, IsAbsent}
 use Rattle.turn_lock.specs.Words.{number, seen, split_off, joined, seats_out, IsAtRest, IsFirst, IsOther, Overhears}
 use Rattle.turn_lock.proofs.Lists.{all_head, all_tail, all_right, all_more, grows_none, grows_more}
+use Rattle.session_state.specs.Kept.{Kept}
 use Rattle.shared_store.specs.declared.noted.Noted.{Noted}
-use Rattle.entry_model.specs.declared.restored.Restored.{Restored}
 use Rattle.shared_store.specs.declared.shared.Shared.{Shared}
 use Rattle.shared_store.specs.declared.store.Store.{Store}
 use Rattle.shared_store.specs.Words.{IsSeatOf}
@@ -39,9 +39,9 @@ pub the_same : {X Y : Type 0} (f : X → Y) (y z : Y) (xs : List X) → All (λ 
 the_same {X} {Y} f y z xs a has =
     sym has.2 ∙ All-cons (λ (w : Y). w ≡ y) y (map f xs) refl (all_mapped (λ (w : Y). w ≡ y) f xs a) has.0 z has.1
 
-module _ {g : Ghosts Shared Restored Noted} where
+module _ {g : Ghosts Shared Kept Noted} where
   -- the first seat has split these off
-  pub record Splits (store : Store) (old new : TurnSeat Shared Restored Noted g) (seats : List (TurnSeat Shared Restored Noted g)) : Type 0 where
+  pub record Splits (store : Store) (old new : TurnSeat Shared Kept Noted g) (seats : List (TurnSeat Shared Kept Noted g)) : Type 0 where
     pub seat : IsSeatOf store new × IsAtRest new × IsFirst new
     pub sees : seen new ≡ seen old
     pub splits : split_off new ≡ split_off old + length seats
@@ -50,10 +50,10 @@ module _ {g : Ghosts Shared Restored Noted} where
     pub numbers : map number seats ≡ range_with_len (split_off old + 1) (length seats)
     pub all : All (IsSplitFrom store old) seats
 
-  pub splits_none : (store : Store) (old : TurnSeat Shared Restored Noted g) → IsSeatOf store old × IsAtRest old × IsFirst old → Splits store old old []
+  pub splits_none : (store : Store) (old : TurnSeat Shared Kept Noted g) → IsSeatOf store old × IsAtRest old × IsFirst old → Splits store old old []
   splits_none store old is = record { seat = is; sees = refl; splits = omega arith; joins = refl; out = omega arith; numbers = refl; all = All-nil (IsSplitFrom store old) }
 
-  pub splits_one : (store : Store) (old mid new split : TurnSeat Shared Restored Noted g) (seats : List (TurnSeat Shared Restored Noted g)) → Splits store old mid seats
+  pub splits_one : (store : Store) (old mid new split : TurnSeat Shared Kept Noted g) (seats : List (TurnSeat Shared Kept Noted g)) → Splits store old mid seats
       → IsSeatOf store new × IsAtRest new × IsFirst new → (split_off new ≡ split_off mid + 1) × (joined new ≡ joined mid) × (seen new ≡ seen mid) → seats_out new ≡ seats_out mid + 1
       → IsSeatOf store split × IsAtRest split → (number split ≡ split_off new) × (seen split ≡ seen mid) → All (λ x. x.0 ≢ number split) (seen split) → Splits store old new (seats ++ split ∷ [])
   splits_one store old mid new split seats s is counts out of same fresh =
@@ -76,7 +76,7 @@ module _ {g : Ghosts Shared Restored Noted} where
       }
 
   -- the first seat has joined these
-  pub record Joins (store : Store) (old new : TurnSeat Shared Restored Noted g) (seats : List (TurnSeat Shared Restored Noted g)) : Type 0 where
+  pub record Joins (store : Store) (old new : TurnSeat Shared Kept Noted g) (seats : List (TurnSeat Shared Kept Noted g)) : Type 0 where
     pub seat : IsSeatOf store new × IsAtRest new × IsFirst new
     pub splits : split_off new ≡ split_off old
     pub joins : joined new ≡ reverse (map number seats) ++ joined old
@@ -87,7 +87,7 @@ module _ {g : Ghosts Shared Restored Noted} where
     pub gone : All (λ s. (n : ℕ) → IsAbsent (joined new) n → n ≢ number s) seats
     pub numbered : 0 < length seats → All (λ x. x.0 ≤ split_off new) (seen new)
 
-  pub joins_none : (store : Store) (old : TurnSeat Shared Restored Noted g) → IsSeatOf store old × IsAtRest old × IsFirst old → Joins store old old []
+  pub joins_none : (store : Store) (old : TurnSeat Shared Kept Noted g) → IsSeatOf store old × IsAtRest old × IsFirst old → Joins store old old []
   joins_none store old is = record {
     seat = is;
     splits = refl;
@@ -100,7 +100,7 @@ module _ {g : Ghosts Shared Restored Noted} where
     numbered = λ h. absurd (omega (arith, h));
   }
 
-  pub joins_one : (store : Store) (old mid new other : TurnSeat Shared Restored Noted g) (seats : List (TurnSeat Shared Restored Noted g)) → IsFirst old → Joins store old mid seats
+  pub joins_one : (store : Store) (old mid new other : TurnSeat Shared Kept Noted g) (seats : List (TurnSeat Shared Kept Noted g)) → IsFirst old → Joins store old mid seats
       → IsSeatOf store new × IsAtRest new × IsFirst new → (split_off new ≡ split_off mid) × (joined new ≡ number other ∷ joined mid) → seats_out mid ≡ seats_out new + 1
       → (seen new ≡ seen mid) ⊎ (seen new ≡ seen other) → Overhears mid new → Grows (λ n. n ≢ number other) (seen other) (seen new) → All (λ x. x.0 ≤ split_off new) (seen new) → Joins store old new (seats ++ other ∷ [])
   joins_one store old mid new other seats first j is counts out one own theirs numbered =

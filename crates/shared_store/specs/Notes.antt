@@ -1,9 +1,7 @@
 -- What the list of a store's lock says.
-use Rattle.std.specs.Prelude.{◌≡◌, ◌+◌, List, [], ◌∷◌, ◌++◌, map, drop, length, Option, Some, None, Result, Ok, Err}
+use Rattle.std.specs.Prelude.{◌≡◌, List, [], ◌∷◌, ◌++◌, map, drop, length, Option, Some, None, Result, Ok, Err}
 use Rattle.osq_value.specs.declared.memory.NoMemory.{NoMemory}
 use Rattle.entry_model.specs.declared.entry.Entry.{Entry}
-use Rattle.entry_model.specs.declared.entry.Entry.TheVariants.{Opened}
-use Rattle.entry_model.specs.declared.restored.Restored.{Restored}
 use Rattle.session_state.specs.Cut.{CutValue}
 use Rattle.shared_store.specs.declared.noted.Noted.{Noted}
 use Rattle.shared_store.specs.declared.noted.Noted.TheVariants.{Added, Taken, Given}
@@ -15,20 +13,12 @@ entries_in (Added entry ∷ rest) = entry ∷ entries_in rest
 entries_in (Taken ∷ rest) = entries_in rest
 entries_in (Given cut ∷ rest) = entries_in rest
 
--- all entries of the session: the one that opens it, and those that were added
-abbrev pub session_of : Restored → List Noted → List Entry
-session_of start notes = Opened (start.sessions + 1) ∷ entries_in notes
-
 -- the entries that are not taken: behind the last mark those that were added since, and where there is no mark, what was there before and all that were added
 abbrev pub untaken : List Entry → List Noted → List Entry
 untaken before [] = before
 untaken before (Added entry ∷ rest) = untaken (before ++ entry ∷ []) rest
 untaken before (Taken ∷ rest) = untaken [] rest
 untaken before (Given cut ∷ rest) = untaken before rest
-
--- of a session the entry that opens it is there before
-abbrev pub tail_of : Restored → List Noted → List Entry
-tail_of start notes = untaken (Opened (start.sessions + 1) ∷ []) notes
 
 -- the cut was given
 abbrev pub WasGiven : CutValue → List Noted → Type 0

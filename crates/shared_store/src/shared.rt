@@ -1,11 +1,10 @@
 //! What the lock of a store holds.
 
 use crate::noted::Noted;
-use entry_model::restored::Restored;
 use session_state::State;
 use turn_lock::Stands;
 
-/// A session's state, which stands for the list of a lock over the values that the session began from.
+/// A session's state, which stands for the list of a lock behind the state that the store was made over.
 #[derive(Drop)]
 pub struct Shared {
     pub(crate) state: State,
@@ -14,7 +13,7 @@ pub struct Shared {
 impl Stands for Shared {
     ghost use Rattle.shared_store.specs.Shares.{StandsFor};
 
-    type Start = Restored;
+    type Start = State;
 
     type Entry = Noted;
 

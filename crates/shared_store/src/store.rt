@@ -13,6 +13,7 @@ ghost use Rattle.entry_model.specs.Fits.{Fits};
 ghost use Rattle.pack_rules.specs.Sound.{IsSound};
 ghost use Rattle.event_store.specs.Contents.{rows_in};
 ghost use Rattle.session_state.specs.Readings.{IsReading, event_count};
+ghost use Rattle.session_state.specs.StateOf.{Begins};
 ghost use Rattle.turn_lock.specs.Turns.{Grows, stamp};
 ghost use Rattle.shared_store.specs.Notes.{WasGiven, grown};
 ghost use Rattle.shared_store.specs.Shares.{StandsFor, IsNoOlder};
@@ -58,12 +59,23 @@ impl Store {
     ) -> Result<(Store, StoreSeat), NoMemory>
         requires fits { Fits restored }
         requires seats { 1 ≤ seats }
-        ensures store { IfOk result (λ r. (start_of r.0 ≡ restored) × (most_seats r.0 ≡ seats)) }
+        ensures store { IfOk result (λ r. Begins restored (start_of r.0) × (most_seats r.0 ≡ seats)) }
         ensures seat { IfOk result (λ r. IsSeatOf r.0 r.1 × IsAtRest r.1) }
         ensures first { IfOk result (λ r. (number r.1 ≡ 0) × (split_off r.1 ≡ 0) × (joined r.1 ≡ []) × (seen r.1 ≡ [])) }
     {
-        let start = Snapshot::of(&restored);
         let state = State::begin(alloc, restored)?;
+        Store::over(alloc, state, seats)
+    }
+
+    /// A store over this state, and the first seat, of at most so many seats that are out at once. The list is empty: what the
+    /// state stands for stands before it. Where memory is wanting the state is dropped.
+    pub fn over(alloc: Global, state: State, seats: u32) -> Result<(Store, StoreSeat), NoMemory>
+        requires { 1 ≤ seats }
+        ensures store { IfOk result (λ r. (start_of r.0 ≡ state) × (most_seats r.0 ≡ seats)) }
+        ensures seat { IfOk result (λ r. IsSeatOf r.0 r.1 × IsAtRest r.1) }
+        ensures first { IfOk result (λ r. (number r.1 ≡ 0) × (split_off r.1 ≡ 0) × (joined r.1 ≡ []) × (seen r.1 ≡ [])) }
+    {
+        let start = Snapshot::of(&state);
         let (lock, seat) = TurnLock::make(alloc, Shared { state }, start, seats)?;
         Ok((Store { lock }, seat))
     }
@@ -314,7 +326,7 @@ impl Store {
         result
     }
 
-    /// Takes the entries behind the last mark, to be sealed, or where there is none all of the session, and leaves a mark:
+    /// Takes the entries behind the last mark, to be sealed, or where there is none the start's tail and all that were added, and leaves a mark:
     /// `State::take_tail` in one turn.
     pub fn take_tail<R: Wait>(
         &self,

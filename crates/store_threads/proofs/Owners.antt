@@ -15,7 +15,7 @@ use Rattle.turn_lock.proofs.Owned.{own_none, own-grows, own-passed}
 use Rattle.osq_value.specs.declared.reading.Reading.{Reading}
 use Rattle.session_state.specs.declared.state.AppendError.{AppendError}
 use Rattle.shared_store.specs.declared.noted.Noted.{Noted}
-use Rattle.entry_model.specs.declared.restored.Restored.{Restored}
+use Rattle.session_state.specs.Kept.{Kept}
 use Rattle.shared_store.specs.declared.shared.Shared.{Shared}
 use Rattle.shared_store.specs.declared.store.Store.{Store}
 use Rattle.shared_store.specs.Words.{IsSeatOf}
@@ -94,9 +94,9 @@ zip_total R P Q f h same (x ∷ xs) (y ∷ ys) z a b =
     let more = zip_total R P Q f h same xs ys z.1 (all_tail P x xs a) (all_tail Q y ys b) in
     omega (arith, here, more)
 
-module _ {g : Ghosts Shared Restored Noted} where
+module _ {g : Ghosts Shared Kept Noted} where
   -- a turn adds its notes to the seat's own
-  pub own_turn : (old mid new : TurnSeat Shared Restored Noted g) (notes : List Noted) → Overhears old mid → number mid ≡ number old → seen new ≡ seen mid ++ stamp (number mid) notes → number new ≡ number old
+  pub own_turn : (old mid new : TurnSeat Shared Kept Noted g) (notes : List Noted) → Overhears old mid → number mid ≡ number old → seen new ≡ seen mid ++ stamp (number mid) notes → number new ≡ number old
       → own_count new ≡ own_count old + length notes
   own_turn old mid new notes hears same sees still =
       ap (λ (k : ℕ). length (own k (seen new))) still
@@ -104,7 +104,7 @@ module _ {g : Ghosts Shared Restored Noted} where
       ∙ length-append (own (number old) (seen old)) notes
 
   -- a reading that was added is one note, and one that was refused is none
-  pub own_append : (start : Restored) (old new : TurnSeat Shared Restored Noted g) (source : List ℕ) (reading : Reading) (result : Result (ℕ × ℕ) AppendError) → IsSame old new → InTurn start old new (Appends source reading result)
+  pub own_append : (start : Kept) (old new : TurnSeat Shared Kept Noted g) (source : List ℕ) (reading : Reading) (result : Result (ℕ × ℕ) AppendError) → IsSame old new → InTurn start old new (Appends source reading result)
       → OnOk result (own_count new ≡ own_count old + 1) × OnErr result (own_count new ≡ own_count old)
   own_append start old new source reading (Ok numbers) same t =
       (own_turn old t.0 new t.3 t.4.overhears t.4.same.number t.5.sees same.number ∙ ap (λ (l : List Noted). own_count old + length l) t.6.added.1, tt)
@@ -113,7 +113,7 @@ module _ {g : Ghosts Shared Restored Noted} where
       let all = own_turn old t.0 new t.3 t.4.overhears t.4.same.number t.5.sees same.number in (tt, omega (arith, all, none))
 
   -- what a seat that was split off and came back has added stands in what the first has then seen
-  has_own : (store : Store) (old new seat : TurnSeat Shared Restored Noted g) (worked : TurnSeat Shared Restored Noted g × ℕ) → HasAdded seat worked → IsSplitFrom store old seat → Grows (λ n. n ≢ number worked.0) (seen worked.0) (seen new)
+  has_own : (store : Store) (old new seat : TurnSeat Shared Kept Noted g) (worked : TurnSeat Shared Kept Noted g × ℕ) → HasAdded seat worked → IsSplitFrom store old seat → Grows (λ n. n ≢ number worked.0) (seen worked.0) (seen new)
       → length (own (number seat) (seen new)) ≡ worked.1
   has_own store old new seat worked has is grows =
       let none : own_count seat ≡ 0 = ap (λ (l : List Noted). length l) (own_none (number seat) (seen seat) is.fresh) in
@@ -122,7 +122,7 @@ module _ {g : Ghosts Shared Restored Noted} where
       ap (λ (k : ℕ). length (own k (seen new))) (sym has.same.number) ∙ omega (arith, all, added, none)
 
   -- what the first seat has seen behind the joins is what it had added, and what all others have
-  pub adds_all : (store : Store) (old mid new : TurnSeat Shared Restored Noted g) (n : ℕ) (seats : List (TurnSeat Shared Restored Noted g)) (worked : List (TurnSeat Shared Restored Noted g × ℕ))
+  pub adds_all : (store : Store) (old mid new : TurnSeat Shared Kept Noted g) (n : ℕ) (seats : List (TurnSeat Shared Kept Noted g)) (worked : List (TurnSeat Shared Kept Noted g × ℕ))
       → IsFirst old → split_off old ≡ 0 → IsFirst mid → split_off mid ≡ split_off old + n → seen mid ≡ seen old → map number seats ≡ range_with_len (split_off old + 1) n → All (IsSplitFrom store old) seats
       → AllZip HasAdded seats worked → split_off new ≡ split_off mid → Overhears mid new → All (λ s. Grows (λ k. k ≢ number s) (seen s) (seen new)) (map (λ w. w.0) worked) → All (λ x. x.0 ≤ split_off new) (seen new)
       → length (seen new) ≡ own_count old + total (λ w. w.1) worked
@@ -150,9 +150,9 @@ zip_length R [] (y ∷ ys) z = absurd z
 zip_length R (x ∷ xs) [] z = absurd z
 zip_length R (x ∷ xs) (y ∷ ys) z = let more = zip_length R xs ys z.1 in omega (arith, more)
 
-module _ {g : Ghosts Shared Restored Noted} where
+module _ {g : Ghosts Shared Kept Noted} where
   -- seats that were split off and came back can be joined
-  pub came_back : (store : Store) (old : TurnSeat Shared Restored Noted g) (seats : List (TurnSeat Shared Restored Noted g)) (worked : List (TurnSeat Shared Restored Noted g × ℕ)) → All (IsSplitFrom store old) seats → AllZip HasAdded seats worked
+  pub came_back : (store : Store) (old : TurnSeat Shared Kept Noted g) (seats : List (TurnSeat Shared Kept Noted g)) (worked : List (TurnSeat Shared Kept Noted g × ℕ)) → All (IsSplitFrom store old) seats → AllZip HasAdded seats worked
       → All (λ s. IsSeatOf store s × IsAtRest s × (number s ≢ 0)) (map (λ w. w.0) worked)
   came_back store old [] [] a z = λ k d h. absurd (omega (arith, h))
   came_back store old [] (w ∷ ws) a z = absurd z
@@ -163,6 +163,6 @@ module _ {g : Ghosts Shared Restored Noted} where
       ((z.0.same.table ∙ is.of.0, z.0.same.start ∙ is.of.1), z.0.rest, λ e. is.later (sym z.0.same.number ∙ e))
       (came_back store old ss ws (all_tail (IsSplitFrom store old) s ss a) z.1)
 
-  pub joinable : (store : Store) (old : TurnSeat Shared Restored Noted g) (seats back : List (TurnSeat Shared Restored Noted g)) (worked : List (TurnSeat Shared Restored Noted g × ℕ)) → All (IsSplitFrom store old) seats → AllZip HasAdded seats worked → back ≡ map (λ w. w.0) worked
+  pub joinable : (store : Store) (old : TurnSeat Shared Kept Noted g) (seats back : List (TurnSeat Shared Kept Noted g)) (worked : List (TurnSeat Shared Kept Noted g × ℕ)) → All (IsSplitFrom store old) seats → AllZip HasAdded seats worked → back ≡ map (λ w. w.0) worked
       → All (λ s. IsSeatOf store s × IsAtRest s × (number s ≢ 0)) back
   joinable store old seats back worked a z is = subst (All (λ s. IsSeatOf store s × IsAtRest s × (number s ≢ 0))) (sym is) (came_back store old seats worked a z)

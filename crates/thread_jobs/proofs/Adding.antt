@@ -8,12 +8,11 @@ use Rattle.osq_value.specs.declared.reading.Reading.{Reading}
 use Rattle.osq_value.specs.declared.reading.Reading.TheVariants.{Events, Table}
 use Rattle.entry_model.specs.declared.entry.Entry.{Entry}
 use Rattle.entry_model.specs.declared.entry.Entry.TheVariants.{Opened, Configured, Ticked, Appended, TableSet, Expired, Committed, Acked}
-use Rattle.entry_model.specs.declared.restored.Restored.{Restored}
 use Rattle.entry_model.specs.Next.{offset_at}
 use Rattle.session_model.specs.Taking.{is_from}
 use Rattle.session_state.specs.declared.state.AppendError.{AppendError}
 use Rattle.session_state.specs.declared.state.AppendError.TheVariants as append
-use Rattle.session_state.specs.Kept.{Counts, Kept, counts_next, counts_of}
+use Rattle.session_state.specs.Kept.{Counts, Kept, counts_next}
 use Rattle.session_state.specs.Readings.{IsReading, entry_of, event_count, taken_of}
 use Rattle.turn_lock.specs.declared.board.Stands.{Ghosts}
 use Rattle.turn_lock.specs.declared.lock.TurnSeat.{TurnSeat}
@@ -66,12 +65,11 @@ counts_after-append c [] ys = refl
 counts_after-append c (x ∷ xs) ys = counts_after-append (counts_next c x) xs ys
 
 -- the counts behind notes more
-counts_more : (start : Restored) (xs ys : List Noted) → counts_at start (xs ++ ys) ≡ counts_after (counts_at start xs) (entries_in ys)
+counts_more : (start : Kept) (xs ys : List Noted) → counts_at start (xs ++ ys) ≡ counts_after (counts_at start xs) (entries_in ys)
 counts_more start xs ys =
-    let opened = counts_next (counts_of start) (Opened (start.sessions + 1)) in
-    ap (counts_after opened) (entries_in-append xs ys) ∙ counts_after-append opened (entries_in xs) (entries_in ys)
+    ap (counts_after start.counts) (entries_in-append xs ys) ∙ counts_after-append start.counts (entries_in xs) (entries_in ys)
 
-offset_unmoved : (start : Restored) (name : List ℕ) (xs ys : List Noted) → list_any (is_noted_from name) ys ≡ false → offset_after start (xs ++ ys) name ≡ offset_after start xs name
+offset_unmoved : (start : Kept) (name : List ℕ) (xs ys : List Noted) → list_any (is_noted_from name) ys ≡ false → offset_after start (xs ++ ys) name ≡ offset_after start xs name
 offset_unmoved start name xs ys none =
     ap (λ (c : Counts). offset_at c.taken name) (counts_more start xs ys) ∙ unmoved name (counts_at start xs) ys none
 
@@ -79,7 +77,7 @@ offset_read : (name : List ℕ) (c : Counts) (moment : ℕ) (reading : Reading) 
 offset_read name c moment (Events taken events skipped) = offset_here name taken c.taken
 offset_read name c moment (Table taken table rows) = offset_here name taken c.taken
 
-offset_added : (start : Restored) (name : List ℕ) (xs : List Noted) (moment : ℕ) (reading : Reading) → offset_after start (xs ++ Added (entry_of name moment reading) ∷ []) name ≡ taken_of reading
+offset_added : (start : Kept) (name : List ℕ) (xs : List Noted) (moment : ℕ) (reading : Reading) → offset_after start (xs ++ Added (entry_of name moment reading) ∷ []) name ≡ taken_of reading
 offset_added start name xs moment reading =
     ap (λ (c : Counts). offset_at c.taken name) (counts_more start xs (Added (entry_of name moment reading) ∷ [])) ∙ offset_read name (counts_at start xs) moment reading
 
@@ -113,7 +111,7 @@ intruded_more n first old new more name i grown = record {
 }
 
 -- ---- some readings are added
-pub record IsAdding (start : Restored) (n : ℕ) (first : Stamped) (name : List ℕ) (all rest : List Reading) (now : Stamped) : Type 0 where
+pub record IsAdding (start : Kept) (n : ℕ) (first : Stamped) (name : List ℕ) (all rest : List Reading) (now : Stamped) : Type 0 where
   pub done : List Reading
   pub whole : all ≡ done ++ rest
   pub notes : List Noted
@@ -123,7 +121,7 @@ pub record IsAdding (start : Restored) (n : ℕ) (first : Stamped) (name : List 
   pub rising : AreRising (end_behind (offset_after start (entries first) name) done) rest
   pub place : IsIntruded n first now name ⊎ (offset_after start (entries now) name ≡ end_behind (offset_after start (entries first) name) done)
 
-pub adding_none : (start : Restored) (n : ℕ) (first : Stamped) (name : List ℕ) (all : List Reading) → All IsReading all → AreRising (offset_after start (entries first) name) all → IsAdding start n first name all all first
+pub adding_none : (start : Kept) (n : ℕ) (first : Stamped) (name : List ℕ) (all : List Reading) → All IsReading all → AreRising (offset_after start (entries first) name) all → IsAdding start n first name all all first
 adding_none start n first name all good rising = record {
   done = [];
   whole = refl;
@@ -140,7 +138,7 @@ end_push offset [] reading = refl
 end_push offset (first ∷ done) reading = end_push (taken_of first) done reading
 
 -- the seat has added those that are done, and nothing else
-pub has_front : (start : Restored) (n : ℕ) (first : Stamped) (name : List ℕ) (all readings rest : List Reading) (now : Stamped) → all ≡ readings → IsAdding start n first name all rest now → AddsFront n first now name readings
+pub has_front : (start : Kept) (n : ℕ) (first : Stamped) (name : List ℕ) (all readings rest : List Reading) (now : Stamped) → all ≡ readings → IsAdding start n first name all rest now → AddsFront n first now name readings
 has_front start n first name all readings rest now is so = record {
   done = so.done;
   rest = rest;
@@ -149,7 +147,7 @@ has_front start n first name all readings rest now is so = record {
 }
 
 -- all of them are added
-pub has_published : (start : Restored) (n : ℕ) (first : Stamped) (name : List ℕ) (all readings rest : List Reading) (now : Stamped) → all ≡ readings → rest ≡ [] → IsAdding start n first name all rest now → IsPublished n first now name readings
+pub has_published : (start : Kept) (n : ℕ) (first : Stamped) (name : List ℕ) (all readings rest : List Reading) (now : Stamped) → all ≡ readings → rest ≡ [] → IsAdding start n first name all rest now → IsPublished n first now name readings
 has_published start n first name all readings rest now is none so =
     let whole : so.done ≡ readings = sym (append-nil so.done) ∙ ap (λ (rs : List Reading). so.done ++ rs) (sym none) ∙ sym so.whole ∙ is in
     record {
@@ -158,12 +156,12 @@ has_published start n first name all readings rest now is none so =
       each = subst (λ (rs : List Reading). AllZip (IsNoteOf name) rs so.notes) whole so.each;
     }
 
-module _ {g : Ghosts Shared Restored Noted} (start : Restored) (n : ℕ) (first : Stamped) (name : List ℕ) (all : List Reading) (reading : Reading) (rest : List Reading) (old new : TurnSeat Shared Restored Noted g) (same : number old ≡ n) (so : IsAdding start n first name all (reading ∷ rest) (seen old)) where
+module _ {g : Ghosts Shared Kept Noted} (start : Kept) (n : ℕ) (first : Stamped) (name : List ℕ) (all : List Reading) (reading : Reading) (rest : List Reading) (old new : TurnSeat Shared Kept Noted g) (same : number old ≡ n) (so : IsAdding start n first name all (reading ∷ rest) (seen old)) where
   not_own : (k : ℕ) → IsOther old k → k ≢ n
   not_own k h e = h.0 (e ∙ sym same)
 
   -- another seat's reading of the source among the notes that a turn finds
-  found_here : (mid : TurnSeat Shared Restored Noted g) (grows : Grows (IsOther old) (seen old) (seen mid)) → IsFound name grows.0 → IsIntruded n first (seen mid) name
+  found_here : (mid : TurnSeat Shared Kept Noted g) (grows : Grows (IsOther old) (seen old) (seen mid)) → IsFound name grows.0 → IsIntruded n first (seen mid) name
   found_here mid grows f = record {
     front = so.adds.more ++ f.front;
     stamped = f.stamped;
@@ -178,7 +176,7 @@ module _ {g : Ghosts Shared Restored Noted} (start : Restored) (n : ℕ) (first 
   }
 
   -- the list that a turn finds either has a reading of another seat, or has the source up to where the seat's own list has it
-  found : (mid : TurnSeat Shared Restored Noted g) → Grows (IsOther old) (seen old) (seen mid) → IsIntruded n first (seen mid) name ⊎ (offset_after start (notes_of mid) name ≡ end_behind (offset_after start (entries first) name) so.done)
+  found : (mid : TurnSeat Shared Kept Noted g) → Grows (IsOther old) (seen old) (seen mid) → IsIntruded n first (seen mid) name ⊎ (offset_after start (notes_of mid) name ≡ end_behind (offset_after start (entries first) name) so.done)
   found mid grows = by_place so.place (find_from name grows.0)
     where
       by_place : IsIntruded n first (seen old) name ⊎ (offset_after start (notes_of old) name ≡ end_behind (offset_after start (entries first) name) so.done) → IsFound name grows.0 ⊎ (list_any (is_noted_from name) (entries grows.0) ≡ false)
@@ -191,12 +189,12 @@ module _ {g : Ghosts Shared Restored Noted} (start : Restored) (n : ℕ) (first 
           ∙ e)
 
   -- the notes that the seat has seen behind a turn
-  notes_behind : (mid : TurnSeat Shared Restored Noted g) (now : Kept) (notes : List Noted) → EndsTurn start mid new now notes → notes_of new ≡ notes_of mid ++ notes
+  notes_behind : (mid : TurnSeat Shared Kept Noted g) (now : Kept) (notes : List Noted) → EndsTurn start mid new now notes → notes_of new ≡ notes_of mid ++ notes
   notes_behind mid now notes ends =
       ap (λ (l : Stamped). entries l) ends.sees ∙ entries-stamp (seen mid) (number mid) notes
 
   -- one more is added, in a turn whose state had this moment
-  added_at : (moment : ℕ) (mid : TurnSeat Shared Restored Noted g) (was now : Kept) (notes : List Noted) → BeginsTurn start old mid was → EndsTurn start mid new now notes → notes ≡ Added (entry_of name moment reading) ∷ [] → IsAdding start n first name all rest (seen new)
+  added_at : (moment : ℕ) (mid : TurnSeat Shared Kept Noted g) (was now : Kept) (notes : List Noted) → BeginsTurn start old mid was → EndsTurn start mid new now notes → notes ≡ Added (entry_of name moment reading) ∷ [] → IsAdding start n first name all rest (seen new)
   added_at moment mid was now notes begins ends one = record {
     done = so.done ++ reading ∷ [];
     whole = so.whole ∙ sym (append_assoc so.done (reading ∷ []) rest);

@@ -2,7 +2,7 @@
 use Rattle.std.proofs.Common.{◌≡◌, ℕ, ◌+◌, List, [], ◌∷◌, ◌++◌, length, get_or, set, All, Some, sym, ◌∙◌, subst, arith}
 use Rattle.std.specs.List.{AllZip}
 use Rattle.source_feeds.specs.Feeding.{Feeding}
-use Rattle.entry_model.specs.declared.restored.Restored.{Restored}
+use Rattle.session_state.specs.Kept.{Kept}
 use Rattle.turn_lock.specs.declared.board.Stands.{Ghosts}
 use Rattle.turn_lock.specs.declared.lock.TurnSeat.{TurnSeat}
 use Rattle.turn_lock.proofs.Lists.{all_head, all_left, all_right}
@@ -14,9 +14,9 @@ use Rattle.thread_jobs.specs.declared.forking.Job.{Job}
 use Rattle.thread_jobs.specs.Forking.{ArePaired, ArePublishersDone, IsPublisherDone, IsWorkerDone, MayPublish, MayPublishAll, MayWork, MayWorkAll, PublishersDone, WorkersDone}
 use Rattle.thread_jobs.proofs.Halves.{halves, zip_apart}
 
-module _ {g : Ghosts Shared Restored Noted} where
+module _ {g : Ghosts Shared Kept Noted} where
   -- the stores of one seat began from the same values
-  pub same_start : (store other : Store) (seat : TurnSeat Shared Restored Noted g) → IsSeatOf store seat → IsSeatOf other seat → start_of store ≡ start_of other
+  pub same_start : (store other : Store) (seat : TurnSeat Shared Kept Noted g) → IsSeatOf store seat → IsSeatOf other seat → start_of store ≡ start_of other
   same_start store other seat of also =
       let both : Some (start_of store) ≡ Some (start_of other) = sym of.1 ∙ also.1 in cc
 

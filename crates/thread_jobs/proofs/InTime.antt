@@ -5,15 +5,13 @@ use Rattle.std.proofs.lemmas.List.Elements.{All-head, All-tail}
 use mathlib.Core.List.{map-append}
 use Rattle.osq_value.specs.declared.memory.NoMemory.{NoMemory}
 use Rattle.osq_value.specs.declared.value.Value.{Value}
-use Rattle.entry_model.specs.declared.entry.Entry.TheVariants.{Opened}
-use Rattle.entry_model.specs.declared.restored.Restored.{Restored}
 use Rattle.query_cursors.specs.Due.{number_of}
 use Rattle.session_state.specs.declared.state.CommitRefusal.{CommitRefusal}
 use Rattle.session_state.specs.declared.state.CommitRefusal.TheVariants.{Superseded}
 use Rattle.session_state.specs.Commits.{commit_refusal, committed, refusal_by}
 use Rattle.session_state.specs.Cut.{CutValue}
 use Rattle.session_state.specs.CutOf.{IsCutOf, mark_from}
-use Rattle.session_state.specs.Kept.{Kept, counts_next, counts_of}
+use Rattle.session_state.specs.Kept.{Kept}
 use Rattle.turn_lock.specs.declared.board.Stands.{Ghosts}
 use Rattle.turn_lock.specs.declared.lock.TurnSeat.{TurnSeat}
 use Rattle.turn_lock.specs.Turns.{entries, stamp}
@@ -31,23 +29,23 @@ use Rattle.thread_laws.proofs.Timely.{counts_moment}
 use Rattle.thread_jobs.specs.Working.{AreInTime}
 
 -- notes of other seats
-others_timely : (start : Restored) (n : ℕ) (before more : Stamped) → All (λ (note : ℕ × Noted). note.0 ≢ n) more → AreTimely start n before more
+others_timely : (start : Kept) (n : ℕ) (before more : Stamped) → All (λ (note : ℕ × Noted). note.0 ≢ n) more → AreTimely start n before more
 others_timely start n before [] none = tt
 others_timely start n before (note ∷ more) none = (
   λ same. absurd (All-head (λ (note : ℕ × Noted). note.0 ≢ n) note more none same),
   others_timely start n (before ++ note ∷ []) more (All-tail (λ (note : ℕ × Noted). note.0 ≢ n) note more none),
 )
 
-timely_then : (start : Restored) (n : ℕ) (before front rest : Stamped) → AreTimely start n before front → AreTimely start n (before ++ front) rest → AreTimely start n before (front ++ rest)
+timely_then : (start : Kept) (n : ℕ) (before front rest : Stamped) → AreTimely start n before front → AreTimely start n (before ++ front) rest → AreTimely start n before (front ++ rest)
 timely_then start n before [] rest x y = subst (λ (l : Stamped). AreTimely start n l rest) (append-nil before) y
 timely_then start n before (note ∷ front) rest x y =
     (x.0, timely_then start n (before ++ note ∷ []) front rest x.1 (subst (λ (l : Stamped). AreTimely start n l rest) (sym (append_assoc before (note ∷ []) front)) y))
 
-pub in_time_none : (start : Restored) (n : ℕ) (xs : Stamped) → AreInTime start n xs xs
+pub in_time_none : (start : Kept) (n : ℕ) (xs : Stamped) → AreInTime start n xs xs
 in_time_none start n xs = record { more = []; grown = sym (append-nil xs); timely = tt }
 
 -- one stretch behind another
-pub in_time_then : (start : Restored) (n : ℕ) (first mid last : Stamped) → AreInTime start n first mid → AreInTime start n mid last → AreInTime start n first last
+pub in_time_then : (start : Kept) (n : ℕ) (first mid last : Stamped) → AreInTime start n first mid → AreInTime start n mid last → AreInTime start n first last
 in_time_then start n first mid last x y = record {
   more = x.more ++ y.more;
   grown = y.grown ∙ ap (λ (l : Stamped). l ++ y.more) x.grown ∙ append_assoc first x.more y.more;
@@ -55,9 +53,9 @@ in_time_then start n first mid last x y = record {
 }
 
 -- the moment of a state is that behind the notes for which it stands
-present : (start : Restored) (notes : List Noted) (state : Kept) → StandsFor start notes state → state.counts.moment ≡ moment_at start notes
+present : (start : Kept) (notes : List Noted) (state : Kept) → StandsFor start notes state → state.counts.moment ≡ moment_at start notes
 present start notes state stands =
-    ap (λ c. c.moment) stands.comes.counts ∙ counts_moment (counts_next (counts_of start) (Opened (start.sessions + 1))) (entries_in notes)
+    ap (λ c. c.moment) stands.comes.counts ∙ counts_moment start.counts (entries_in notes)
 
 -- a cut that isn't refused is one of the present tick
 unmarked : (s : Kept) (cut : CutValue) → commit_refusal s cut ≡ None → mark_from s cut.position ≡ None
@@ -71,15 +69,15 @@ unmarked s cut h = by_number (number_of s.counts.runs cut.key == cut.last) h
     by_number true h = by_mark (mark_from s cut.position) h
     by_number false h = absurd (cc)
 
-not_refused : (s : Kept) (cut : CutValue) (number : ℕ) → ((refusal : CommitRefusal) → (Ok number ≡ Err refusal) ↔ (commit_refusal s cut ≡ Some refusal)) → commit_refusal s cut ≡ None
+pub not_refused : (s : Kept) (cut : CutValue) (number : ℕ) → ((refusal : CommitRefusal) → (Ok number ≡ Err refusal) ↔ (commit_refusal s cut ≡ Some refusal)) → commit_refusal s cut ≡ None
 not_refused s cut number refused = by_refusal (commit_refusal s cut) refl
   where
     by_refusal : (o : Option CommitRefusal) → commit_refusal s cut ≡ o → commit_refusal s cut ≡ None
     by_refusal (Some refusal) e = let never = (refused refusal).1 e in absurd (cc)
     by_refusal None e = e
 
-module _ {g : Ghosts Shared Restored Noted} (start : Restored) (old new : TurnSeat Shared Restored Noted g) where
-  by_turn : (mid : TurnSeat Shared Restored Noted g) (was now : Kept) (notes : List Noted) → BeginsTurn start old mid was → EndsTurn start mid new now notes → AreTimely start (number old) (seen mid) (stamp (number old) notes)
+module _ {g : Ghosts Shared Kept Noted} (start : Kept) (old new : TurnSeat Shared Kept Noted g) where
+  by_turn : (mid : TurnSeat Shared Kept Noted g) (was now : Kept) (notes : List Noted) → BeginsTurn start old mid was → EndsTurn start mid new now notes → AreTimely start (number old) (seen mid) (stamp (number old) notes)
       → AreInTime start (number old) (seen old) (seen new)
   by_turn mid was now notes begins ends timely = record {
     more = begins.overhears.0 ++ stamp (number old) notes;
@@ -93,10 +91,10 @@ module _ {g : Ghosts Shared Restored Noted} (start : Restored) (old new : TurnSe
         (subst (λ (l : Stamped). AreTimely start (number old) l (stamp (number old) notes)) begins.overhears.1 timely);
   }
 
-  no_note : (mid : TurnSeat Shared Restored Noted g) (notes : List Noted) → notes ≡ [] → AreTimely start (number old) (seen mid) (stamp (number old) notes)
+  no_note : (mid : TurnSeat Shared Kept Noted g) (notes : List Noted) → notes ≡ [] → AreTimely start (number old) (seen mid) (stamp (number old) notes)
   no_note mid notes none = subst (λ (l : List Noted). AreTimely start (number old) (seen mid) (stamp (number old) l)) (sym none) tt
 
-  one_note : (mid : TurnSeat Shared Restored Noted g) (note : Noted) (notes : List Noted) → notes ≡ note ∷ [] → IsNotedAt (moment_at start (notes_of mid)) note → AreTimely start (number old) (seen mid) (stamp (number old) notes)
+  one_note : (mid : TurnSeat Shared Kept Noted g) (note : Noted) (notes : List Noted) → notes ≡ note ∷ [] → IsNotedAt (moment_at start (notes_of mid)) note → AreTimely start (number old) (seen mid) (stamp (number old) notes)
   one_note mid note notes one is =
       subst (λ (l : List Noted). AreTimely start (number old) (seen mid) (stamp (number old) l)) (sym one) ((λ same. is), tt)
 
@@ -109,7 +107,7 @@ module _ {g : Ghosts Shared Restored Noted} (start : Restored) (old new : TurnSe
   timely_release cut turn = by_turn turn.0 turn.1 turn.2 turn.3 turn.4 turn.5 (no_note turn.0 turn.3 turn.6.1)
 
   -- the state of a turn knows each cut that its seat had seen given
-  knows : (cut : CutValue) (mid : TurnSeat Shared Restored Noted g) (was : Kept) → WasGiven cut (notes_of old) → BeginsTurn start old mid was → IsCutOf was cut
+  pub knows : (cut : CutValue) (mid : TurnSeat Shared Kept Noted g) (was : Kept) → WasGiven cut (notes_of old) → BeginsTurn start old mid was → IsCutOf was cut
   knows cut mid was given begins = (begins.stands.cuts given.0 (given.1 ++ entries begins.overhears.0) cut are).own
     where
       are : notes_of mid ≡ given.0 ++ Given cut ∷ (given.1 ++ entries begins.overhears.0)
@@ -128,8 +126,8 @@ module _ {g : Ghosts Shared Restored Noted} (start : Restored) (old new : TurnSe
           ∙ present start (notes_of turn.0) turn.1 turn.4.stands
   timely_commit cut rows (Err refusal) given turn = by_turn turn.0 turn.1 turn.2 turn.3 turn.4 turn.5 (no_note turn.0 turn.3 turn.6.err.1)
 
-module _ {g : Ghosts Shared Restored Noted} where
+module _ {g : Ghosts Shared Kept Noted} where
   -- two stretches of one seat
-  pub timely_seat : (start : Restored) (old mid new : TurnSeat Shared Restored Noted g) → IsSame old mid → AreInTime start (number old) (seen old) (seen mid) → AreInTime start (number mid) (seen mid) (seen new) → AreInTime start (number old) (seen old) (seen new)
+  pub timely_seat : (start : Kept) (old mid new : TurnSeat Shared Kept Noted g) → IsSame old mid → AreInTime start (number old) (seen old) (seen mid) → AreInTime start (number mid) (seen mid) (seen new) → AreInTime start (number old) (seen old) (seen new)
   timely_seat start old mid new same x y =
       in_time_then start (number old) (seen old) (seen mid) (seen new) x (subst (λ (k : ℕ). AreInTime start k (seen mid) (seen new)) same.number y)

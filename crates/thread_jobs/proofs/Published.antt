@@ -3,7 +3,7 @@ use Rattle.std.proofs.Common.{◌≡◌, ℕ, List, sym, ap, ◌∙◌, subst}
 use Rattle.osq_value.specs.declared.reading.Reading.{Reading}
 use Rattle.source_feeds.specs.Feeding.{Feeding}
 use Rattle.source_feeds.specs.Joining.{Rise}
-use Rattle.entry_model.specs.declared.restored.Restored.{Restored}
+use Rattle.session_state.specs.Kept.{Kept}
 use Rattle.shared_store.specs.declared.noted.Noted.{Noted}
 use Rattle.daemon_rounds.specs.Appending.{AreRising}
 use Rattle.daemon_rounds.specs.Turns.{Gave}
@@ -12,7 +12,7 @@ use Rattle.thread_laws.specs.Jobs.{IsPublished, Stamped}
 use Rattle.thread_jobs.specs.Publishing.{AddsFront, Exceeds, HasTakenPart, HasTooMuch, IsGoingFrom, IsTaken, offset_after}
 
 -- what a feed gives rises from the offset up to which the notes have its source
-pub rising_from : (start : Restored) (notes : List Noted) (feed next : Feeding) (name : List ℕ) (readings : List Reading) → name ≡ feed.name → IsGoingFrom start notes feed → Rise feed.reader.taken readings next.reader.taken → AreRising (offset_after start notes name) readings
+pub rising_from : (start : Kept) (notes : List Noted) (feed next : Feeding) (name : List ℕ) (readings : List Reading) → name ≡ feed.name → IsGoingFrom start notes feed → Rise feed.reader.taken readings next.reader.taken → AreRising (offset_after start notes name) readings
 rising_from start notes feed next name readings named going rise =
     subst (λ (offset : ℕ). AreRising offset readings) (going.place ∙ ap (offset_after start notes) (sym named)) (rising feed.reader.taken next.reader.taken readings rise).0
 
@@ -31,7 +31,7 @@ module _ (tells : Type 0) (left_before left_after : List ℕ) (most n : ℕ) (be
     published = subst (λ (l : List ℕ). IsPublished n before after l readings) named published;
   }
 
-  pub too_much : (start : Restored) → Exceeds start n before after name readings → HasTooMuch tells left_before left_after most start n before after feed next
+  pub too_much : (start : Kept) → Exceeds start n before after name readings → HasTooMuch tells left_before left_after most start n before after feed next
   too_much start exceeds = record {
     readings = readings;
     gave = gave;

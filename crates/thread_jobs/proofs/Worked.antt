@@ -6,15 +6,17 @@ use Rattle.std.proofs.lemmas.List.Elements.{All-append, All-cons, All-nil}
 use mathlib.Core.List.{map-append}
 use Rattle.osq_value.specs.declared.memory.NoMemory.{NoMemory}
 use Rattle.osq_value.specs.declared.value.Value.{Value}
-use Rattle.sql_texts.specs.Meaning.{is_accepted}
-use Rattle.entry_model.specs.declared.restored.Restored.{Restored}
+use Rattle.sql_texts.specs.Meaning.{is_accepted, meaning}
+use Rattle.event_store.specs.Contents.{rows_in}
 use Rattle.query_cursors.specs.Due.{number_of}
 use Rattle.session_state.specs.declared.state.CommitRefusal.{CommitRefusal}
 use Rattle.session_state.specs.declared.state.CommitRefusal.TheVariants.{Superseded, Stale, NumbersSpent}
-use Rattle.session_state.specs.Commits.{commit_refusal, refusal_by}
-use Rattle.session_state.specs.Cut.{CutValue}
+use Rattle.session_state.specs.Commits.{commit_refusal, committed, refusal_by}
+use Rattle.session_state.specs.Cut.{CutValue, batch_of}
 use Rattle.session_state.specs.CutOf.{mark_from}
 use Rattle.session_state.specs.Kept.{Kept}
+use Rattle.session_state.specs.Sealing.{IsSendable}
+use Rattle.session_state.proofs.Committing.{IsReady, ready, sendable}
 use Rattle.turn_lock.specs.declared.board.Stands.{Ghosts}
 use Rattle.turn_lock.specs.declared.lock.TurnSeat.{TurnSeat}
 use Rattle.turn_lock.specs.Turns.{Grows, entries, stamp}
@@ -22,15 +24,17 @@ use Rattle.turn_lock.specs.Words.{number, seen, IsOther, IsSame}
 use Rattle.turn_lock.proofs.Lists.{entries-stamp}
 use Rattle.turn_lock.proofs.Owned.{own-append}
 use Rattle.shared_store.specs.declared.noted.Noted.{Noted}
-use Rattle.shared_store.specs.declared.noted.Noted.TheVariants.{Given}
+use Rattle.shared_store.specs.declared.noted.Noted.TheVariants.{Added, Given}
 use Rattle.shared_store.specs.declared.shared.Shared.{Shared}
 use Rattle.shared_store.specs.Answers.{CommitsAt, Cuts, Notes, Releases}
+use Rattle.shared_store.specs.Notes.{WasGiven}
 use Rattle.shared_store.specs.Shares.{StandsFor}
 use Rattle.shared_store.specs.Turns.{BeginsTurn, EndsTurn, InTurn, notes_of}
 use Rattle.daemon_rounds.proofs.Answered.{accepted, given}
 use Rattle.thread_laws.specs.Jobs.{IsAnswerNote, IsWorked, Stamped}
 use Rattle.thread_laws.specs.Reached.{NoneDue}
 use Rattle.thread_jobs.specs.Working.{BatchesSpent}
+use Rattle.thread_jobs.proofs.InTime.{knows, not_refused}
 use Rattle.thread_jobs.proofs.Owning.{adds_none, adds_turn}
 
 pub worked_none : (n : ℕ) (xs : Stamped) → IsWorked n xs xs
@@ -49,11 +53,11 @@ worked_then n first mid last x y = record {
 }
 
 -- the list that the seat has seen behind a turn
-pub notes_behind : {g : Ghosts Shared Restored Noted} (start : Restored) (mid new : TurnSeat Shared Restored Noted g) (now : Kept) (notes : List Noted) → EndsTurn start mid new now notes → notes_of new ≡ notes_of mid ++ notes
+pub notes_behind : {g : Ghosts Shared Kept Noted} (start : Kept) (mid new : TurnSeat Shared Kept Noted g) (now : Kept) (notes : List Noted) → EndsTurn start mid new now notes → notes_of new ≡ notes_of mid ++ notes
 notes_behind start mid new now notes ends = ap (λ (l : Stamped). entries l) ends.sees ∙ entries-stamp (seen mid) (number mid) notes
 
 -- a state of before stands at the end of a turn that noted nothing
-pub stands_still : {g : Ghosts Shared Restored Noted} (start : Restored) (mid new : TurnSeat Shared Restored Noted g) (was now : Kept) (notes : List Noted) → StandsFor start (notes_of mid) was → EndsTurn start mid new now notes → notes ≡ []
+pub stands_still : {g : Ghosts Shared Kept Noted} (start : Kept) (mid new : TurnSeat Shared Kept Noted g) (was now : Kept) (notes : List Noted) → StandsFor start (notes_of mid) was → EndsTurn start mid new now notes → notes ≡ []
     → StandsFor start (notes_of new) was
 stands_still start mid new was now notes stands ends none =
     subst (λ (l : List Noted). StandsFor start l was) (sym (notes_behind start mid new now notes ends ∙ ap (λ (l : List Noted). notes_of mid ++ l) none ∙ append-nil (notes_of mid))) stands
@@ -74,9 +78,9 @@ spends s cut other h = by_number (number_of s.counts.runs cut.key == cut.last) h
     by_number true h = by_mark (mark_from s cut.position) h
     by_number false h = absurd (cc)
 
-module _ {g : Ghosts Shared Restored Noted} (start : Restored) (old new : TurnSeat Shared Restored Noted g) where
+module _ {g : Ghosts Shared Kept Noted} (start : Kept) (old new : TurnSeat Shared Kept Noted g) where
   -- a turn that notes answers alone
-  by_turn : (mid : TurnSeat Shared Restored Noted g) (was now : Kept) (notes : List Noted) → BeginsTurn start old mid was → EndsTurn start mid new now notes → All IsAnswerNote notes → IsWorked (number old) (seen old) (seen new)
+  by_turn : (mid : TurnSeat Shared Kept Noted g) (was now : Kept) (notes : List Noted) → BeginsTurn start old mid was → EndsTurn start mid new now notes → All IsAnswerNote notes → IsWorked (number old) (seen old) (seen new)
   by_turn mid was now notes begins ends answers = record {
     notes = notes;
     adds = adds_turn (number old) (IsOther old) (λ k h. h.0) (seen old) (seen old) (seen mid) (seen new) (number mid) [] notes (adds_none (number old) (seen old)) begins.overhears ends.sees begins.same.number;
@@ -94,9 +98,16 @@ module _ {g : Ghosts Shared Restored Noted} (start : Restored) (old new : TurnSe
   worked_cut before after (Ok (Some cut)) turn = by_turn turn.0 turn.1 turn.2 turn.3 turn.4 turn.5 (one_answer (Given cut) turn.3 turn.6.noted tt)
   worked_cut before after (Err error) turn = by_turn turn.0 turn.1 turn.2 turn.3 turn.4 turn.5 (nothing turn.3 turn.6.err.1)
 
-  pub worked_commit : (cut : CutValue) (rows : List (List Value)) (result : Result ℕ CommitRefusal) → InTurn start old new (CommitsAt cut rows result) → IsWorked (number old) (seen old) (seen new)
-  worked_commit cut rows (Ok number) turn = by_turn turn.0 turn.1 turn.2 turn.3 turn.4 turn.5 (one_answer _ turn.3 turn.6.committed.1 tt)
-  worked_commit cut rows (Err refusal) turn = by_turn turn.0 turn.1 turn.2 turn.3 turn.4 turn.5 (nothing turn.3 turn.6.err.1)
+  pub worked_commit : (cut : CutValue) (rows : List (List Value)) (result : Result ℕ CommitRefusal) → WasGiven cut (notes_of old) → rows ≡ meaning cut.key.text (rows_in cut.view) → InTurn start old new (CommitsAt cut rows result)
+      → IsWorked (number old) (seen old) (seen new)
+  worked_commit cut rows (Ok number) given answers turn = by_turn turn.0 turn.1 turn.2 turn.3 turn.4 turn.5 (one_answer (Added (committed turn.1 cut rows)) turn.3 turn.6.committed.1 can_send)
+    where
+      is_ready : IsReady turn.1 cut
+      is_ready = ready turn.1 turn.1 refl cut cut refl turn.4.known (knows start old new cut turn.0 turn.1 given turn.4) (not_refused turn.1 cut number turn.6.refused)
+
+      can_send : IsSendable (batch_of cut (turn.1.counts.batches + 1) rows)
+      can_send = sendable turn.1 cut is_ready (turn.1.counts.batches + 1) rows answers (batch_of cut (turn.1.counts.batches + 1) rows) refl
+  worked_commit cut rows (Err refusal) given answers turn = by_turn turn.0 turn.1 turn.2 turn.3 turn.4 turn.5 (nothing turn.3 turn.6.err.1)
 
   pub worked_release : (cut : CutValue) → InTurn start old new (Releases cut) → IsWorked (number old) (seen old) (seen new)
   worked_release cut turn = by_turn turn.0 turn.1 turn.2 turn.3 turn.4 turn.5 (nothing turn.3 turn.6.1)
@@ -124,7 +135,7 @@ module _ {g : Ghosts Shared Restored Noted} (start : Restored) (old new : TurnSe
   }
 
 -- it stays so behind notes more
-pub spent_more : (start : Restored) (old new more : Stamped) → new ≡ old ++ more → BatchesSpent start (entries old) → BatchesSpent start (entries new)
+pub spent_more : (start : Kept) (old new more : Stamped) → new ≡ old ++ more → BatchesSpent start (entries old) → BatchesSpent start (entries new)
 spent_more start old new more grown s = record {
   front = s.front;
   rest = s.rest ++ entries more;
@@ -137,13 +148,13 @@ spent_more start old new more grown s = record {
   beyond = s.beyond;
 }
 
-module _ {g : Ghosts Shared Restored Noted} where
+module _ {g : Ghosts Shared Kept Noted} where
   -- two stretches of one seat
-  pub seat_then : (old mid new : TurnSeat Shared Restored Noted g) → IsSame old mid → IsWorked (number old) (seen old) (seen mid) → IsWorked (number mid) (seen mid) (seen new) → IsWorked (number old) (seen old) (seen new)
+  pub seat_then : (old mid new : TurnSeat Shared Kept Noted g) → IsSame old mid → IsWorked (number old) (seen old) (seen mid) → IsWorked (number mid) (seen mid) (seen new) → IsWorked (number old) (seen old) (seen new)
   seat_then old mid new same x y =
       worked_then (number old) (seen old) (seen mid) (seen new) x (subst (λ (k : ℕ). IsWorked k (seen mid) (seen new)) same.number y)
 
-module _ {g : Ghosts Shared Restored Noted} (start : Restored) (old new : TurnSeat Shared Restored Noted g) where
+module _ {g : Ghosts Shared Kept Noted} (start : Kept) (old new : TurnSeat Shared Kept Noted g) where
   -- by what the call answered
   pub none_at : (before after : ℕ) (answer : Result (Option CutValue) NoMemory) → answer ≡ Ok None → InTurn start old new (Cuts before after answer) → NoneDue start (notes_of new)
   none_at before after answer is turn =

@@ -8,6 +8,7 @@ use Rattle.turn_lock.specs.Words.{number, seen, IsAtRest, IsSame}
 use Rattle.shared_store.specs.declared.store.Store.{Store}
 use Rattle.shared_store.specs.Turns.{notes_of}
 use Rattle.shared_store.specs.Words.{IsSeatOf, start_of}
+use Rattle.daemon_rounds.specs.Turns.{StillCounts}
 use Rattle.thread_laws.specs.Jobs.{AddsOwn}
 use Rattle.thread_laws.specs.Reached.{NoneDue}
 use Rattle.thread_jobs.specs.declared.error.JobError.{JobError}
@@ -37,6 +38,7 @@ pub record IsPublisherDone {S : Type 0} (tells : Type 0) (left : S → List ℕ)
   pub back : ComesBack old new
   pub name : next.name ≡ feed.name
   pub kind : next.kind ≡ feed.kind
+  pub counts : StillCounts tells (left source) feed next
   pub part : TakesPart tells (left source) (left rest) most (number old.seat) (seen old.seat) (seen new.seat) feed next
   pub unread : new.end ≡ Err job.SourceFault → AddsOwn (number old.seat) (seen old.seat) (seen new.seat) []
   pub taken : OnOk new.end (IsTaken tells (left source) (left rest) most (number old.seat) (seen old.seat) (seen new.seat) feed next)

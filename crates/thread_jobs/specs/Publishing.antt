@@ -1,13 +1,11 @@
 -- What a publisher does by its own seat.
 use Rattle.std.specs.Prelude.{◌≡◌, ◌≢◌, ◌⊎◌, ℕ, ◌+◌, ◌<◌, ◌^◌, true, false, List, [], ◌∷◌, ◌++◌}
 use Rattle.osq_value.specs.declared.reading.Reading.{Reading}
-use Rattle.entry_model.specs.declared.entry.Entry.TheVariants.{Opened}
-use Rattle.entry_model.specs.declared.restored.Restored.{Restored}
 use Rattle.entry_model.specs.Next.{offset_at}
 use Rattle.source_feeds.specs.Feeding.{Feeding}
 use Rattle.session_state.specs.declared.state.AppendError.{AppendError}
 use Rattle.session_state.specs.declared.state.AppendError.TheVariants as append
-use Rattle.session_state.specs.Kept.{Counts, Kept, counts_next, counts_of}
+use Rattle.session_state.specs.Kept.{Counts, Kept}
 use Rattle.session_state.specs.Readings.{event_count}
 use Rattle.turn_lock.specs.Turns.{entries}
 use Rattle.shared_store.specs.declared.noted.Noted.{Noted}
@@ -20,15 +18,15 @@ use Rattle.thread_jobs.specs.declared.error.JobError.{JobError}
 use Rattle.thread_jobs.specs.declared.error.JobError.TheVariants as job
 
 -- the counts of each state that stands for these notes
-abbrev pub counts_at : Restored → List Noted → Counts
-counts_at start notes = counts_after (counts_next (counts_of start) (Opened (start.sessions + 1))) (entries_in notes)
+abbrev pub counts_at : Kept → List Noted → Counts
+counts_at start notes = counts_after start.counts (entries_in notes)
 
 -- the offset up to which the source is then taken
-abbrev pub offset_after : Restored → List Noted → List ℕ → ℕ
+abbrev pub offset_after : Kept → List Noted → List ℕ → ℕ
 offset_after start notes name = offset_at (counts_at start notes).taken name
 
 -- a feed that may take a step, and goes on from the offset up to which the notes have its source
-pub record IsGoingFrom (start : Restored) (notes : List Noted) (feed : Feeding) : Type 0 where
+pub record IsGoingFrom (start : Kept) (notes : List Noted) (feed : Feeding) : Type 0 where
   pub begun : feed.reader.is_begun ≡ true
   pub unspent : feed.reader.is_spent ≡ false
   pub place : feed.reader.taken ≡ offset_after start notes feed.name
@@ -59,7 +57,7 @@ pub record IsTaken (tells : Type 0) (left_before left_after : List ℕ) (most nu
   pub published : IsPublished number before after feed.name readings
 
 -- some of these readings are added, and the next one has events whose numbers would pass 2^62
-pub record Exceeds (start : Restored) (number : ℕ) (before after : Stamped) (name : List ℕ) (readings : List Reading) : Type 0 where
+pub record Exceeds (start : Kept) (number : ℕ) (before after : Stamped) (name : List ℕ) (readings : List Reading) : Type 0 where
   pub done : List Reading
   pub next : Reading
   pub rest : List Reading
@@ -70,7 +68,7 @@ pub record Exceeds (start : Restored) (number : ℕ) (before after : Stamped) (n
   pub beyond : 2 ^ 62 < state.image.last + event_count next
 
 -- the source took one step, and one of its readings has too many events
-pub record HasTooMuch (tells : Type 0) (left_before left_after : List ℕ) (most : ℕ) (start : Restored) (number : ℕ) (before after : Stamped) (feed next : Feeding) : Type 0 where
+pub record HasTooMuch (tells : Type 0) (left_before left_after : List ℕ) (most : ℕ) (start : Kept) (number : ℕ) (before after : Stamped) (feed next : Feeding) : Type 0 where
   pub readings : List Reading
   pub gave : Gave tells left_before left_after feed next most readings
   pub exceeds : Exceeds start number before after feed.name readings

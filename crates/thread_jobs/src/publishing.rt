@@ -7,6 +7,7 @@ ghost use Rattle.turn_lock.specs.Words.{number, seen, IsAtRest, IsSame};
 ghost use Rattle.shared_store.specs.Turns.{notes_of};
 ghost use Rattle.shared_store.specs.Words.{start_of, IsSeatOf};
 ghost use Rattle.daemon_rounds.specs.Appending.{AreRising};
+ghost use Rattle.daemon_rounds.specs.Turns.{StillCounts};
 ghost use Rattle.thread_laws.specs.Jobs.{AddsOwn, IsPublished};
 ghost use Rattle.thread_jobs.specs.Publishing.{AddsFront, Exceeds, HasTooMuch, IsGoingFrom, IsIntruded, IsTaken, TakesPart, offset_after, unadded_by};
 ghost use Rattle.thread_jobs.specs.declared.error.JobError.{JobError};
@@ -98,6 +99,7 @@ pub fn publish<R: Wait, S: Source, G: Gate>(
     ensures intruded { result ≡ Err JobError.Intruded → IsIntruded (number seat.old) (seen seat.old) (seen seat.new) feed.old.name }
     ensures spent { result ≡ Err JobError.NumbersSpent → HasTooMuch S.tells (S.left source.old) (S.left source.new) most (start_of store.now) (number seat.old) (seen seat.old) (seen seat.new) feed.old feed.new }
     ensures same { (feed.new.name ≡ feed.old.name) × (feed.new.kind ≡ feed.old.kind) }
+    ensures counts { StillCounts S.tells (S.left source.old) feed.old feed.new }
     ensures cause { FaultHasCause JobError.SourceFault (S.faults source.old) (S.faults source.new) result }
 {
     let readings = match feed.step(source, most) {

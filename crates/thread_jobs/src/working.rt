@@ -133,7 +133,7 @@ fn answer_each<R: Wait, G: Gate, L: Ledger>(
 
 /// A worker: cuts due queries, evaluates each outside any turn and commits its rows, between the gate's points behind the cut and before the
 /// commit, until no query is due. A cut that is refused is given back, and where another batch of its query, another schedule or another tick
-/// came before it, the next one is cut. Whatever comes of it, the seat adds batches alone, each of which was made at the moment of its turn.
+/// came before it, the next one is cut. Whatever comes of it, the seat adds batches alone, each of which can be sent and was made at the moment of its turn.
 ///
 /// NumbersSpent where the next batch's number would pass 2^62.
 pub fn work<R: Wait, G: Gate>(

@@ -1,13 +1,12 @@
 -- The kinds of entries that a step adds.
-use Rattle.std.proofs.Common.{◌≡◌, ℕ, ◌||◌, Bool, true, false, cond, List, [], ◌∷◌, ◌++◌, map, get_or, refl, ap, sym, ◌∙◌, subst, true≢false}
-use Rattle.std.specs.Prelude.{All, bytes_eq, filter, unwrap_or, Option, Some, None}
-use Rattle.std.specs.List.{AllZip, list_any}
+use Rattle.std.proofs.Common.{◌≡◌, ℕ, ◌||◌, Bool, true, false, cond, List, [], ◌∷◌, get_or, refl, ap, sym, ◌∙◌, true≢false}
+use Rattle.std.specs.Prelude.{All, bytes_eq, filter, None}
+use Rattle.std.specs.List.{list_any}
 use Rattle.std.proofs.lemmas.Slice.Eq.{bytes_eq-Decides}
 use Rattle.std.proofs.lemmas.List.Elements.{All-nil, All-cons, All-head, All-tail, All-weaker}
 use Rattle.osq_value.specs.declared.reading.Reading.{Reading}
 use Rattle.osq_value.specs.declared.reading.Reading.TheVariants.{Events, Table}
-use Rattle.entry_model.specs.Legal.{Follow, LegalNext}
-use Rattle.entry_model.specs.Values.{moment_in, moment_of, taken_in, taken_from, last_of}
+use Rattle.entry_model.specs.Values.{moment_in}
 use Rattle.entry_model.specs.declared.entry.Entry.{Entry}
 use Rattle.entry_model.specs.declared.entry.Entry.TheVariants.{Opened, Configured, Ticked, Appended, TableSet, Expired, Committed, Acked}
 use Rattle.session_state.specs.Readings.{entry_of}
@@ -17,10 +16,9 @@ use Rattle.shared_store.specs.declared.noted.Noted.TheVariants.{Added, Taken, Gi
 use Rattle.session_model.specs.Laws.{is_within}
 use Rattle.session_model.specs.Taking.{is_from, from_source}
 use Rattle.session_model.specs.Working.{is_batch}
-use Rattle.thread_laws.specs.Jobs.{IsAnswer, IsAnswerNote, IsNoteOf, is_noted_from}
+use Rattle.thread_laws.specs.Jobs.{IsAnswer, IsAnswerNote, is_noted_from}
 use Rattle.thread_laws.specs.Joining.{Part}
-use Rattle.thread_laws.specs.Laws.{is_added, TakenBySource}
-use Rattle.entry_model.proofs.Lasts.{last_of-append}
+use Rattle.thread_laws.specs.Laws.{is_added}
 
 -- the entries of the notes of a source are those of the source
 pub entries_from : (name : List ℕ) (notes : List Noted) → entries_in (filter (is_noted_from name) notes) ≡ from_source name (entries_in notes)
@@ -46,7 +44,7 @@ entries_all Q (Added entry ∷ notes) all =
 entries_all Q (Taken ∷ notes) all = entries_all Q notes (All-tail (HoldsIn Q) Taken notes all)
 entries_all Q (Given cut ∷ notes) all = entries_all Q notes (All-tail (HoldsIn Q) (Given cut) notes all)
 
-or_right : (a b : Bool) → b ≡ true → (a || b) ≡ true
+pub or_right : (a b : Bool) → b ≡ true → (a || b) ≡ true
 or_right true b h = refl
 or_right false b h = h
 
@@ -54,7 +52,7 @@ or_left : (a b : Bool) → a ≡ true → (a || b) ≡ true
 or_left true b h = refl
 or_left false b h = absurd (true≢false (sym h))
 
-any_at : {X : Type 0} (test : X → Bool) (xs : List X) → All (λ (x : X). test x ≡ true → list_any test xs ≡ true) xs
+pub any_at : {X : Type 0} (test : X → Bool) (xs : List X) → All (λ (x : X). test x ≡ true → list_any test xs ≡ true) xs
 any_at test [] = All-nil (λ x. test x ≡ true → list_any test [] ≡ true)
 any_at {X} test (x ∷ xs) =
     All-cons (λ (y : X). test y ≡ true → list_any test (x ∷ xs) ≡ true) x xs (or_left (test x) (list_any test xs))
@@ -108,66 +106,3 @@ added_still parts (TableSet source table rows taken) is = (refl, refl)
 added_still parts (Expired table floor moment) is = (refl, refl)
 added_still parts (Committed batch) is = (refl, refl)
 added_still parts (Acked upto) is = (refl, refl)
-
--- the entry has this moment, where it has one
-abbrev pub IsAt : ℕ → Entry → Type 0
-IsAt now (Appended source taken events skipped moment) = moment ≡ now
-IsAt now _ = Unit {0}
-
-next_at : (before : List Entry) (entry : Entry) (now : ℕ) → moment_of before ≡ now → LegalNext before entry → IsAt now entry
-next_at before (Opened session) now at may = tt
-next_at before (Configured document schedule moment) now at may = tt
-next_at before (Ticked moment) now at may = tt
-next_at before (Appended source taken events skipped moment) now at may = may.1 ∙ at
-next_at before (TableSet source table rows taken) now at may = tt
-next_at before (Expired table floor moment) now at may = tt
-next_at before (Committed batch) now at may = tt
-next_at before (Acked upto) now at may = tt
-
--- in a legal list each entry of a step has the present moment
-pub all_at : (before more : List Entry) (now : ℕ) → moment_of before ≡ now → All IsStill more → Follow before more → All (IsAt now) more
-all_at before [] now at still follow = All-nil (IsAt now)
-all_at before (entry ∷ more) now at still follow =
-    let here = All-head IsStill entry more still in
-    let next : moment_of (before ++ entry ∷ []) ≡ now = last_of-append moment_in 0 before (entry ∷ []) ∙ ap (λ (o : Option ℕ). unwrap_or o (moment_of before)) here.1 ∙ at in
-    All-cons (IsAt now) entry more (next_at before entry now at follow.0) (all_at (before ++ entry ∷ []) more now next (All-tail IsStill entry more still) follow.1)
-
--- the entry of a note of this reading, at the moment that it has
-entry_at : (name : List ℕ) (now moment : ℕ) (reading : Reading) → IsAt now (entry_of name moment reading) → entry_of name moment reading ≡ entry_of name now reading
-entry_at name now moment (Events taken events skipped) at = ap (Appended name taken events skipped) at
-entry_at name now moment (Table taken table rows) at = refl
-
-pub readings_at : (name : List ℕ) (now : ℕ) (readings : List Reading) (notes : List Noted) → AllZip (IsNoteOf name) readings notes → All (IsAt now) (entries_in notes) → entries_in notes ≡ map (entry_of name now) readings
-readings_at name now [] [] zip at = refl
-readings_at name now [] (note ∷ notes) zip at = absurd zip
-readings_at name now (reading ∷ readings) [] zip at = absurd zip
-readings_at name now (reading ∷ readings) (note ∷ notes) zip at =
-    let moment = zip.0.0 in
-    let entry = entry_of name moment reading in
-    let are : entries_in (note ∷ notes) ≡ entry ∷ entries_in notes = ap (λ (n : Noted). entries_in (n ∷ notes)) zip.0.1 in
-    let all = subst (All (IsAt now)) are at in
-    are ∙ ap (λ (e : Entry). e ∷ entries_in notes) (entry_at name now moment reading (All-head (IsAt now) entry (entries_in notes) all)) ∙ ap (λ (l : List Entry). entry_of name now reading ∷ l) (readings_at name now readings notes zip.1 (All-tail (IsAt now) entry (entries_in notes) all))
-
--- an entry of another source leaves how far this one is taken
-taken_other : (name : List ℕ) (entry : Entry) → is_from name entry ≡ false → taken_in name entry ≡ None
-taken_other name (Opened session) other = refl
-taken_other name (Configured document schedule moment) other = refl
-taken_other name (Ticked moment) other = refl
-taken_other name (Appended source taken events skipped moment) other = ap (λ (t : Bool). cond t (Some taken) None) other
-taken_other name (TableSet source table rows taken) other = ap (λ (t : Bool). cond t (Some taken) None) other
-taken_other name (Expired table floor moment) other = refl
-taken_other name (Committed batch) other = refl
-taken_other name (Acked upto) other = refl
-
-last_taken : (name : List ℕ) (offset : ℕ) (more : List Entry) → last_of (taken_in name) offset more ≡ last_of (taken_in name) offset (from_source name more)
-last_taken name offset [] = refl
-last_taken name offset (entry ∷ more) = by (is_from name entry) refl (last_taken name offset more) (last_taken name (unwrap_or (taken_in name entry) offset) more)
-  where
-    by : (b : Bool) → is_from name entry ≡ b → last_of (taken_in name) offset more ≡ last_of (taken_in name) offset (from_source name more) → last_of (taken_in name) (unwrap_or (taken_in name entry) offset) more ≡ last_of (taken_in name) (unwrap_or (taken_in name entry) offset) (from_source name more)
-        → last_of (taken_in name) (unwrap_or (taken_in name entry) offset) more ≡ last_of (taken_in name) offset (cond b (entry ∷ from_source name more) (from_source name more))
-    by true is same later = later
-    by false is same later = ap (λ (o : Option ℕ). last_of (taken_in name) (unwrap_or o offset) more) (taken_other name entry is) ∙ same
-
-pub taken_by_source : TakenBySource
-taken_by_source kept more name =
-    last_of-append (taken_in name) 0 kept more ∙ last_taken name (taken_from kept name) more ∙ sym (last_of-append (taken_in name) 0 kept (from_source name more))

@@ -1,12 +1,7 @@
 pub mod Adding
 pub mod Agreed
-pub mod Alike
 pub mod Bodies
-pub mod InTurn
 pub mod Joined
 pub mod Numbers
 pub mod Seats
-pub mod Sessions
-pub mod Steps
-pub mod Threads
 pub mod Timely

@@ -12,13 +12,12 @@ use Rattle.osq_value.specs.declared.reading.Reading.{Reading}
 use Rattle.osq_value.specs.declared.reading.Reading.TheVariants.{Events, Table}
 use Rattle.entry_model.specs.declared.entry.Entry.{Entry}
 use Rattle.entry_model.specs.declared.entry.Entry.TheVariants.{Opened, Configured, Ticked, Appended, TableSet, Expired, Committed, Acked}
-use Rattle.entry_model.specs.declared.restored.Restored.{Restored}
 use Rattle.entry_model.specs.declared.restored.Run.{Run}
 use Rattle.entry_model.specs.Runs.{with_batch}
-use Rattle.entry_model.specs.Values.{last_of, moment_in, no_schedule, schedule_in, tick_in}
+use Rattle.entry_model.specs.Values.{last_of, moment_in, schedule_in, tick_in}
 use Rattle.entry_model.proofs.Lasts.{last_of-append}
 use Rattle.query_cursors.specs.Due.{is_due_by}
-use Rattle.session_state.specs.Kept.{Counts, Kept, counts_next, counts_of}
+use Rattle.session_state.specs.Kept.{Counts, Kept, counts_next}
 use Rattle.session_state.specs.Readings.{entry_of}
 use Rattle.session_state.specs.Ticks.{first_due}
 use Rattle.session_state.proofs.Dues.{no_position, none_pass}
@@ -39,14 +38,14 @@ use Rattle.thread_laws.proofs.Agreed.{each_added}
 use Rattle.thread_laws.proofs.Bodies.{all_still}
 
 -- ---- in the joined list
-none_timely : (start : Restored) (number : ℕ) (before more : Stamped) → All (λ (note : ℕ × Noted). note.0 ≢ number) more → AreTimely start number before more
+none_timely : (start : Kept) (number : ℕ) (before more : Stamped) → All (λ (note : ℕ × Noted). note.0 ≢ number) more → AreTimely start number before more
 none_timely start number before [] none = tt
 none_timely start number before (note ∷ more) none = (
   λ same. absurd (All-head (λ (note : ℕ × Noted). note.0 ≢ number) note more none same),
   none_timely start number (before ++ note ∷ []) more (All-tail (λ (note : ℕ × Noted). note.0 ≢ number) note more none),
 )
 
-more_timely : (start : Restored) (number : ℕ) (before front rest : Stamped) → AreTimely start number before front → All (λ (note : ℕ × Noted). note.0 ≢ number) rest → AreTimely start number before (front ++ rest)
+more_timely : (start : Kept) (number : ℕ) (before front rest : Stamped) → AreTimely start number before front → All (λ (note : ℕ × Noted). note.0 ≢ number) rest → AreTimely start number before (front ++ rest)
 more_timely start number before [] rest timely none = none_timely start number before rest none
 more_timely start number before (note ∷ front) rest timely none =
     (timely.0, more_timely start number (before ++ note ∷ []) front rest timely.1 none)
@@ -64,7 +63,7 @@ reading_note : (name : List ℕ) (moment : ℕ) (reading : Reading) → IsReadin
 reading_note name moment (Events taken events skipped) now = tt
 reading_note name moment (Table taken table rows) now = tt
 
-module _ (start : Restored) (workers : List ℕ) where
+module _ (start : Kept) (workers : List ℕ) where
   abbrev IsEither : ℕ × Noted → Type 0
   IsEither note = Contains workers note.0 ⊎ IsReadingNote note.1
 
@@ -82,7 +81,7 @@ module _ (start : Restored) (workers : List ℕ) where
       (all_now now (before ++ note ∷ []) more (moment_next before note (All-head S note more still) ∙ at) rest (All-tail IsEither note more either) (All-tail S note more still))
     where
       moment_noted : (before : List Noted) (note : Noted) → HoldsIn (λ (entry : Entry). moment_in entry ≡ None) note → moment_at start (before ++ note ∷ []) ≡ moment_at start before
-      moment_noted before note still = ap (last_of moment_in start.moment) (entries_in-append before (note ∷ [])) ∙ last_of-append moment_in start.moment (entries_in before) (entries_in (note ∷ [])) ∙ by note still
+      moment_noted before note still = ap (last_of moment_in start.counts.moment) (entries_in-append before (note ∷ [])) ∙ last_of-append moment_in start.counts.moment (entries_in before) (entries_in (note ∷ [])) ∙ by note still
         where
           by : (note : Noted) → HoldsIn (λ (entry : Entry). moment_in entry ≡ None) note → last_of moment_in (moment_at start before) (entries_in (note ∷ [])) ≡ moment_at start before
           by (Added entry) still = ap (λ (o : Option ℕ). unwrap_or o (moment_at start before)) still
@@ -250,18 +249,18 @@ stay_undue start parts workers before more front rest state added timely are due
 
     counts : state.counts ≡ counts_after one.counts rest_entries
     counts =
-        stands.comes.counts ∙ ap (counts_after (counts_next (counts_of start) (Opened (start.sessions + 1)))) all ∙ counts_more (counts_next (counts_of start) (Opened (start.sessions + 1))) seen rest_entries
+        stands.comes.counts ∙ ap (counts_after start.counts) all ∙ counts_more start.counts seen rest_entries
         ∙ ap (λ (c : Counts). counts_after c rest_entries) (sym due.stands.comes.counts)
 
     schedule : state.schedule ≡ one.schedule
     schedule =
-        stands.comes.schedule ∙ ap (last_of schedule_in no_schedule) all ∙ last_of-append schedule_in no_schedule seen rest_entries
-        ∙ none_last schedule_in (last_of schedule_in no_schedule seen) rest_entries (All-weaker IsStill (λ (entry : Entry). schedule_in entry ≡ None) (λ entry s. no_scheduled entry s.0) rest_entries still) ∙ sym due.stands.comes.schedule
+        stands.comes.schedule ∙ ap (last_of schedule_in start.schedule) all ∙ last_of-append schedule_in start.schedule seen rest_entries
+        ∙ none_last schedule_in (last_of schedule_in start.schedule seen) rest_entries (All-weaker IsStill (λ (entry : Entry). schedule_in entry ≡ None) (λ entry s. no_scheduled entry s.0) rest_entries still) ∙ sym due.stands.comes.schedule
 
     ticked : state.ticked ≡ one.ticked
     ticked =
-        stands.comes.ticked ∙ ap (last_of tick_in false) all ∙ last_of-append tick_in false seen rest_entries
-        ∙ none_last tick_in (last_of tick_in false seen) rest_entries (All-weaker IsStill (λ (entry : Entry). tick_in entry ≡ None) (λ entry s. no_tick entry s.0) rest_entries still) ∙ sym due.stands.comes.ticked
+        stands.comes.ticked ∙ ap (last_of tick_in start.ticked) all ∙ last_of-append tick_in start.ticked seen rest_entries
+        ∙ none_last tick_in (last_of tick_in start.ticked seen) rest_entries (All-weaker IsStill (λ (entry : Entry). tick_in entry ≡ None) (λ entry s. no_tick entry s.0) rest_entries still) ∙ sym due.stands.comes.ticked
 
     moment : state.counts.moment ≡ one.counts.moment
     moment =
@@ -273,8 +272,8 @@ stay_undue start parts workers before more front rest state added timely are due
     -- the moment of the state is that before the step
     same : one.counts.moment ≡ now
     same =
-        ap (λ (c : Counts). c.moment) due.stands.comes.counts ∙ counts_moment (counts_next (counts_of start) (Opened (start.sessions + 1))) seen
-        ∙ ap (last_of moment_in start.moment) (ap entries_in (map-append (λ (x : ℕ × Noted). x.1) before front) ∙ entries_in-append (entries before) (entries front)) ∙ last_of-append moment_in start.moment (entries_in (entries before)) (entries_in (entries front))
+        ap (λ (c : Counts). c.moment) due.stands.comes.counts ∙ counts_moment start.counts seen
+        ∙ ap (last_of moment_in start.counts.moment) (ap entries_in (map-append (λ (x : ℕ × Noted). x.1) before front) ∙ entries_in-append (entries before) (entries front)) ∙ last_of-append moment_in start.counts.moment (entries_in (entries before)) (entries_in (entries front))
         ∙ none_last moment_in now (entries_in (entries front)) (All-weaker IsStill (λ (entry : Entry). moment_in entry ≡ None) (λ entry s. s.1) (entries_in (entries front)) front_still)
       where
         whole : entries_in (entries more) ≡ entries_in (entries front) ++ rest_entries

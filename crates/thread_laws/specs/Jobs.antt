@@ -6,6 +6,7 @@ use Rattle.entry_model.specs.declared.entry.Entry.{Entry}
 use Rattle.entry_model.specs.declared.entry.Entry.TheVariants.{Committed}
 use Rattle.session_model.specs.Taking.{is_from}
 use Rattle.session_state.specs.Readings.{entry_of}
+use Rattle.session_state.specs.Sealing.{IsSendable}
 use Rattle.turn_lock.specs.Own.{own}
 use Rattle.shared_store.specs.declared.noted.Noted.{Noted}
 use Rattle.shared_store.specs.declared.noted.Noted.TheVariants.{Added, Given, Taken}
@@ -35,17 +36,18 @@ is_noted_from name (Added entry) = is_from name entry
 is_noted_from name Taken = false
 is_noted_from name (Given cut) = false
 
+-- a batch that can be sent
 abbrev pub IsAnswer : Entry → Type 0
-IsAnswer (Committed batch) = Unit {0}
+IsAnswer (Committed batch) = IsSendable batch
 IsAnswer _ = ⊥
 
--- the note of a cut that was given, or of a batch
+-- the note of a cut that was given, or of a batch that can be sent
 abbrev pub IsAnswerNote : Noted → Type 0
 IsAnswerNote (Added entry) = IsAnswer entry
 IsAnswerNote Taken = ⊥
 IsAnswerNote (Given cut) = Unit {0}
 
--- A worker's seat has added batches alone.
+-- A worker's seat has added batches alone, each of which can be sent.
 pub record IsWorked (number : ℕ) (before after : Stamped) : Type 0 where
   pub notes : List Noted
   pub adds : AddsOwn number before after notes

@@ -1,20 +1,14 @@
 -- What the threads of a step have added together, once their seats are joined.
-use Rattle.std.specs.Prelude.{◌≡◌, ◌≢◌, ℕ, ◌<◌, ◌≤◌, ◌==◌, true, All, Contains, List, [], ◌++◌, map, bytes_eq}
+use Rattle.std.specs.Prelude.{◌≡◌, ◌≢◌, ℕ, ◌<◌, ◌≤◌, ◌==◌, true, All, Contains, List, ◌++◌, map, bytes_eq}
 use Rattle.std.specs.List.{AllZip}
 use Rattle.osq_value.specs.declared.reading.Reading.{Reading}
-use Rattle.entry_model.specs.declared.entry.Entry.{Entry}
-use Rattle.entry_model.specs.declared.restored.Restored.{Restored}
 use Rattle.entry_model.specs.Fits.{IsDistinct}
-use Rattle.entry_model.specs.Values.{moment_of}
-use Rattle.entry_model.specs.Views.{due_queries}
-use Rattle.session_model.specs.Given.{Given, Source}
-use Rattle.session_model.specs.Taking.{GivesStep}
-use Rattle.session_state.specs.Readings.{entry_of}
+use Rattle.session_state.specs.Kept.{Kept}
 use Rattle.turn_lock.specs.Own.{own}
 use Rattle.turn_lock.specs.Turns.{Grows, entries}
 use Rattle.shared_store.specs.declared.noted.Noted.{Noted}
 use Rattle.thread_laws.specs.Jobs.{IsAnswerNote, IsNoteOf, IsPublished, IsWorked, Stamped, is_noted_from}
-use Rattle.thread_laws.specs.Reached.{NoneDue, list_of}
+use Rattle.thread_laws.specs.Reached.{NoneDue}
 
 -- A publisher's part of a step: the number of its seat, the name of its source, and what that gave.
 pub record Part : Type 0 where
@@ -38,7 +32,7 @@ pub record HasWorked (before all : Stamped) (worker : ℕ) : Type 0 where
   pub joined : Grows (λ number. number ≢ worker) after all
 
 -- the same of a worker's seat whose thread ended where no query was due
-pub record HasEnded (start : Restored) (before all : Stamped) (worker : ℕ) : Type 0 where
+pub record HasEnded (start : Kept) (before all : Stamped) (worker : ℕ) : Type 0 where
   pub worked : HasWorked before all worker
   pub none : NoneDue start (entries worked.after)
 
@@ -62,15 +56,3 @@ pub record AreApart (publishers : List (ℕ × List ℕ)) (workers : List ℕ) (
 -- the numbers 1, 2, .. up to this one are all among these
 abbrev pub HasEach : ℕ → List ℕ → Type 0
 HasEach most numbers = (number : ℕ) → 0 < number → number ≤ most → Contains numbers number
-
--- the part is that of the source, and what it gave is one step of the source behind this list
-pub record GivesPart (tells : Type 0) (given : Given) (kept : List Entry) (source : Source) (part : Part) : Type 0 where
-  pub name : part.name ≡ source.name
-  pub step : GivesStep tells given kept source (map (entry_of source.name (moment_of kept)) part.readings)
-
--- one of the lists that seats had seen during the step, behind which no query is due
-pub record IsAnswered (kept : List Entry) (start : Restored) (before more : Stamped) : Type 0 where
-  pub front : Stamped
-  pub rest : Stamped
-  pub are : more ≡ front ++ rest
-  pub none : due_queries (list_of kept start (entries (before ++ front))) ≡ []

@@ -5,3 +5,5 @@ pub mod Seated
 pub mod Stepped
 pub mod Taken
 pub mod Together
+pub mod Works
+pub mod AtOnce

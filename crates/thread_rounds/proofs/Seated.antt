@@ -5,7 +5,7 @@ use Rattle.std.proofs.lemmas.List.{length-map}
 use Rattle.std.proofs.lemmas.List.Elements.{All-cons, All-contains_itself, All-head, All-nil, All-tail, All-weaker, Contains-append_left, Contains-append_right}
 use Rattle.std.specs.Prelude.{Contains}
 use mathlib.Core.List.{map-append}
-use Rattle.entry_model.specs.declared.restored.Restored.{Restored}
+use Rattle.session_state.specs.Kept.{Kept}
 use Rattle.turn_lock.specs.declared.board.Stands.{Ghosts}
 use Rattle.turn_lock.specs.declared.lock.TurnSeat.{TurnSeat}
 use Rattle.turn_lock.specs.Turns.{Grows, IsAbsent}
@@ -46,12 +46,12 @@ grows_on P Q weaker xs ys zs g h =
     let more = grows_more P xs ys h.0 g (All-weaker (λ x. Q x.0) (λ x. P x.0) (λ x. weaker x.0) h.0 h.2) in
     subst (λ l. Grows P xs l) (sym h.1) more
 
-module _ {g : Ghosts Shared Restored Noted} where
-  pub split_none : (store : Store) (old : TurnSeat Shared Restored Noted g) → StaysFirst store old → AreSplit store old old []
+module _ {g : Ghosts Shared Kept Noted} where
+  pub split_none : (store : Store) (old : TurnSeat Shared Kept Noted g) → StaysFirst store old → AreSplit store old old []
   split_none store old stays = record { stays = stays; sees = refl; splits = omega arith; joins = refl; out = omega arith; numbers = refl; each = All-nil (IsSplitFrom store old) }
 
   -- one more is split off
-  pub split_one : (store : Store) (old mid new seat : TurnSeat Shared Restored Noted g) (seats : List (TurnSeat Shared Restored Noted g)) → AreSplit store old mid seats
+  pub split_one : (store : Store) (old mid new seat : TurnSeat Shared Kept Noted g) (seats : List (TurnSeat Shared Kept Noted g)) → AreSplit store old mid seats
       → IsSeatOf store new × IsAtRest new × IsFirst new → (split_off new ≡ split_off mid + 1) × (joined new ≡ joined mid) × (seen new ≡ seen mid) → seats_out new ≡ seats_out mid + 1
       → IsSeatOf store seat × IsAtRest seat → (number seat ≡ split_off new) × (seen seat ≡ seen mid) → All (λ x. x.0 ≢ number seat) (seen seat) → AreSplit store old new (seats ++ seat ∷ [])
   split_one store old mid new seat seats so is counts out of same fresh =
@@ -59,7 +59,7 @@ module _ {g : Ghosts Shared Restored Noted} where
       let more = splits_one store old mid new seat seats before is counts out of same fresh in
       record { stays = record { of = is.0; rest = is.1; first = is.2 }; sees = more.sees; splits = more.splits; joins = more.joins; out = more.out; numbers = more.numbers; each = more.all }
 
-  pub join_none : (store : Store) (old : TurnSeat Shared Restored Noted g) → StaysFirst store old → AreJoined store old old []
+  pub join_none : (store : Store) (old : TurnSeat Shared Kept Noted g) → StaysFirst store old → AreJoined store old old []
   join_none store old stays = record {
     stays = stays;
     splits = refl;
@@ -71,20 +71,20 @@ module _ {g : Ghosts Shared Restored Noted} where
   }
 
   -- what is neither the first seat's nor that of one that it has joined by then, is neither before that
-  others_before : (store : Store) (old mid : TurnSeat Shared Restored Noted g) (seats : List (TurnSeat Shared Restored Noted g)) → IsFirst old → AreJoined store old mid seats → (n : ℕ) → IsOther mid n → IsOther old n
+  others_before : (store : Store) (old mid : TurnSeat Shared Kept Noted g) (seats : List (TurnSeat Shared Kept Noted g)) → IsFirst old → AreJoined store old mid seats → (n : ℕ) → IsOther mid n → IsOther old n
   others_before store old mid seats first so n other = (
     (λ e. other.0 (e ∙ first ∙ sym so.stays.first)),
     all_right (λ (k : ℕ). k ≢ n) (map number seats) (joined old) (subst (λ (ks : List ℕ). IsAbsent ks n) so.joins other.1),
   )
 
   -- and it isn't of one of those
-  pub others_apart : (store : Store) (old mid : TurnSeat Shared Restored Noted g) (seats : List (TurnSeat Shared Restored Noted g)) → AreJoined store old mid seats → (n : ℕ) → IsOther mid n → All (λ seat. n ≢ number seat) seats
+  pub others_apart : (store : Store) (old mid : TurnSeat Shared Kept Noted g) (seats : List (TurnSeat Shared Kept Noted g)) → AreJoined store old mid seats → (n : ℕ) → IsOther mid n → All (λ seat. n ≢ number seat) seats
   others_apart store old mid seats so n other =
       All-weaker (λ seat. number seat ≢ n) (λ seat. n ≢ number seat) (λ seat differ e. differ (sym e)) seats
       (all_unmapped (λ (k : ℕ). k ≢ n) number seats (all_left (λ (k : ℕ). k ≢ n) (map number seats) (joined old) (subst (λ (ks : List ℕ). IsAbsent ks n) so.joins other.1)))
 
   -- one more is joined
-  pub join_one : (store : Store) (old mid new seat : TurnSeat Shared Restored Noted g) (seats : List (TurnSeat Shared Restored Noted g)) → IsFirst old → AreJoined store old mid seats
+  pub join_one : (store : Store) (old mid new seat : TurnSeat Shared Kept Noted g) (seats : List (TurnSeat Shared Kept Noted g)) → IsFirst old → AreJoined store old mid seats
       → IsSeatOf store new × IsAtRest new × IsFirst new → (split_off new ≡ split_off mid) × (joined new ≡ number seat ∷ joined mid) → seats_out mid ≡ seats_out new + 1
       → Overhears mid new → Grows (λ n. n ≢ number seat) (seen seat) (seen new) → All (λ note. note.0 ≤ split_off new) (seen new) → AreJoined store old new (seat ∷ seats)
   join_one store old mid new seat seats first so is counts out own theirs numbered =
@@ -101,7 +101,7 @@ module _ {g : Ghosts Shared Restored Noted} where
       }
 
   -- Where the first seat was alone, split off some, and joined as many with the same numbers, it is alone again.
-  pub alone_again : (store : Store) (old mid new : TurnSeat Shared Restored Noted g) (seats others : List (TurnSeat Shared Restored Noted g)) → IsAlone store old → AreSplit store old mid seats → AreJoined store mid new others → map number others ≡ map number seats → IsAlone store new
+  pub alone_again : (store : Store) (old mid new : TurnSeat Shared Kept Noted g) (seats others : List (TurnSeat Shared Kept Noted g)) → IsAlone store old → AreSplit store old mid seats → AreJoined store mid new others → map number others ≡ map number seats → IsAlone store new
   alone_again store old mid new seats others was split join same =
       let outs = split.out in
       let ins = join.out in
@@ -121,18 +121,18 @@ module _ {g : Ghosts Shared Restored Noted} where
       }
 
   -- a seat that was split off and came back can be joined
-  pub later_again : (store : Store) (first old new : TurnSeat Shared Restored Noted g) → IsSplitFrom store first old → IsSame old new → IsAtRest new → IsLater store new
+  pub later_again : (store : Store) (first old new : TurnSeat Shared Kept Noted g) → IsSplitFrom store first old → IsSame old new → IsAtRest new → IsLater store new
   later_again store first old new was same rest = record {
     of = (same.table ∙ was.of.0, same.start ∙ was.of.1);
     rest = rest;
     later = λ e. was.later (sym same.number ∙ e);
   }
 
-  pub later_split : (store : Store) (first seat : TurnSeat Shared Restored Noted g) → IsSplitFrom store first seat → IsLater store seat
+  pub later_split : (store : Store) (first seat : TurnSeat Shared Kept Noted g) → IsSplitFrom store first seat → IsLater store seat
   later_split store first seat is = record { of = is.of; rest = is.rest; later = is.later }
 
   -- What the first seat has come to with these, which it had split off and then joined: by the list that it had seen before, and by that which it has seen then.
-  pub record AreBack (store : Store) (before all : Stamped) (given : ℕ) (gone : List ℕ) (seats backs : List (TurnSeat Shared Restored Noted g)) : Type 0 where
+  pub record AreBack (store : Store) (before all : Stamped) (given : ℕ) (gone : List ℕ) (seats backs : List (TurnSeat Shared Kept Noted g)) : Type 0 where
     pub each : HasEach given gone
     pub numbers : map number seats ≡ range_with_len (given + 1) (length seats)
     pub sees : All (λ seat. seen seat ≡ before) seats
@@ -141,7 +141,7 @@ module _ {g : Ghosts Shared Restored Noted} where
     pub grows : Grows (λ n. (n ≢ 0) × IsAbsent gone n) before all
     pub most : 0 < length backs → All (λ note. note.0 ≤ given + length seats) all
 
-  pub are_back : (store : Store) (old mid new : TurnSeat Shared Restored Noted g) (seats backs : List (TurnSeat Shared Restored Noted g)) → IsAlone store old → AreSplit store old mid seats → AreJoined store mid new backs
+  pub are_back : (store : Store) (old mid new : TurnSeat Shared Kept Noted g) (seats backs : List (TurnSeat Shared Kept Noted g)) → IsAlone store old → AreSplit store old mid seats → AreJoined store mid new backs
       → AreBack store (seen old) (seen new) (split_off old) (joined old) seats backs
   are_back store old mid new seats backs was split join = record {
     each = was.joined_all;

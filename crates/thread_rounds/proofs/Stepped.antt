@@ -6,7 +6,7 @@ use Rattle.std.proofs.lemmas.List.{length-map}
 use Rattle.std.proofs.lemmas.List.Elements.{All-append, All-cons, All-head, All-nil, All-tail, All-weaker, length_all_zip}
 use mathlib.Core.List.{map-append}
 use Rattle.entry_model.specs.Fits.{IsDistinct}
-use Rattle.entry_model.specs.declared.restored.Restored.{Restored}
+use Rattle.session_state.specs.Kept.{Kept}
 use Rattle.source_feeds.specs.Feeding.{Feeding}
 use Rattle.turn_lock.specs.declared.board.Stands.{Ghosts}
 use Rattle.turn_lock.specs.declared.lock.TurnSeat.{TurnSeat}
@@ -17,7 +17,7 @@ use Rattle.shared_store.specs.declared.noted.Noted.{Noted}
 use Rattle.shared_store.specs.declared.shared.Shared.{Shared}
 use Rattle.shared_store.specs.declared.store.Store.{Store}
 use Rattle.shared_store.specs.Words.{IsSeatOf, start_of}
-use Rattle.daemon_rounds.specs.Rounding.{FailsAt}
+use Rattle.daemon_rounds.specs.Rounding.{AllCount, FailsAt, names_of}
 use Rattle.thread_laws.specs.Jobs.{Stamped}
 use Rattle.thread_laws.specs.Joining.{HasEnded, HasPublished}
 use Rattle.thread_laws.specs.Laws.{AreNumbered}
@@ -31,19 +31,19 @@ use Rattle.thread_rounds.specs.declared.error.StepRefusal.{StepRefusal}
 use Rattle.thread_rounds.specs.declared.error.StepRefusal.TheVariants as step
 use Rattle.thread_rounds.specs.Ends.{ended_by, first_refused}
 use Rattle.thread_rounds.specs.Seats.{AreSplit, IsLater}
-use Rattle.thread_rounds.specs.Stepping.{IsStepDone, SpendsStep}
+use Rattle.thread_rounds.specs.Stepping.{AreWorkOf, IsStepDone, SpendsStep}
 use Rattle.thread_rounds.proofs.Ended.{all_done}
 use Rattle.thread_rounds.proofs.Numbered.{contains_turned, distinct_turned}
 use Rattle.thread_rounds.proofs.Seated.{AreBack, all_mapped, all_unmapped, later_split, map_twice}
 use Rattle.thread_rounds.proofs.Taken.{IsDone, IsRefusedOne, IsRefusedWorker, One, Ones, all_at, mapped_at, ones_of, refused_one_of}
-use Rattle.thread_rounds.proofs.Together.{IsOk, Parts, SeenBefore, StandsIn, ended_each, going_each, not_intruded, one_name, one_number, parts_of, timely_each, worker_number}
+use Rattle.thread_rounds.proofs.Together.{IsOk, Parts, SeenBefore, StandsIn, ended_each, going_each, not_intruded, one_name, one_number, parts_of, timely_each, worker_number, works_each}
 
 -- ---- jobs before they work
-module _ {g : Ghosts Shared Restored Noted} where
-  pub later_seats : (store : Store) (old new : TurnSeat Shared Restored Noted g) (seats : List (TurnSeat Shared Restored Noted g)) → AreSplit store old new seats → All (IsLater store) seats
+module _ {g : Ghosts Shared Kept Noted} where
+  pub later_seats : (store : Store) (old new : TurnSeat Shared Kept Noted g) (seats : List (TurnSeat Shared Kept Noted g)) → AreSplit store old new seats → All (IsLater store) seats
   later_seats store old new seats so = λ k d h. later_split store old _ (so.each k d h)
 
-  pub seen_seats : (store : Store) (old new : TurnSeat Shared Restored Noted g) (seats : List (TurnSeat Shared Restored Noted g)) → AreSplit store old new seats → All (λ seat. seen seat ≡ seen old) seats
+  pub seen_seats : (store : Store) (old new : TurnSeat Shared Kept Noted g) (seats : List (TurnSeat Shared Kept Noted g)) → AreSplit store old new seats → All (λ seat. seen seat ≡ seen old) seats
   seen_seats store old new seats so = λ k d h. (so.each k d h).sees
 
 may_work_each : (store : Store) (jobs : List Job) → All (λ (job : Job). IsLater store job.seat) jobs → All (MayWork store) jobs
@@ -105,6 +105,17 @@ module _ {S : Type 0} (tells : Type 0) (left : S → List ℕ) (faults : S → �
 
   abbrev ones : List (One S)
   ones = so.ones
+
+  -- each feed goes on counting
+  counts_each : (ones : List (One S)) → All (IsDone tells left faults most) ones → AllCount tells left (map (λ (one : One S). one.feed) ones) (map (λ (one : One S). one.next) ones) (map (λ (one : One S). one.source) ones)
+  counts_each [] done = tt
+  counts_each (one ∷ ones) done = ((All-head (IsDone tells left faults most) one ones done).counts, counts_each ones (All-tail (IsDone tells left faults most) one ones done))
+
+  pub counts_all : AllCount tells left feeds nexts sources
+  counts_all =
+      subst (λ (l : List Feeding). AllCount tells left l nexts sources) (sym so.are.feeds_are)
+      (subst (λ (l : List Feeding). AllCount tells left (map (λ (one : One S). one.feed) ones) l sources) (sym so.are.nexts_are)
+      (subst (λ (l : List S). AllCount tells left (map (λ (one : One S). one.feed) ones) (map (λ (one : One S). one.next) ones) l) (sym so.are.sources_are) (counts_each ones so.each)))
 
   -- each seat comes back under its number, and can be joined
   pub same_numbers : map worker_number backs ≡ map worker_number jobs
@@ -230,8 +241,14 @@ module _ {S : Type 0} (tells : Type 0) (left : S → List ℕ) (faults : S → �
         All-weaker (λ (note : ℕ × Noted). Contains (range_with_len (given + 1) count) note.0) (λ (note : ℕ × Noted). Contains (map worker_number ws ++ map one_number ones) note.0)
         (λ note at. contains_turned (map one_number ones) (map worker_number ws) note.0 (subst (λ (l : List ℕ). Contains l note.0) range_is at)) more nums.numbered
 
+    named : names_of feeds ≡ map one_name ones
+    named = ap (map (λ (feed : Feeding). feed.name)) so.are.feeds_are ∙ map_twice (λ (feed : Feeding). feed.name) (λ (one : One S). one.feed) ones
+
     names_ones : IsDistinct bytes_eq (map one_name ones)
-    names_ones = subst (IsDistinct bytes_eq) (ap (map (λ (feed : Feeding). feed.name)) so.are.feeds_are ∙ map_twice (λ (feed : Feeding). feed.name) (λ (one : One S). one.feed) ones) names
+    names_ones = subst (IsDistinct bytes_eq) named names
+
+    works_is : AreWorkOf (names_of feeds) more
+    works_is = subst (λ (names : List (List ℕ)). AreWorkOf names more) (sym named) (works_each tells left faults most before more ones so.each sees_ones stands_ones store ws vs worked.each of_ws sees_ws stands_vs names_ones distinct_is numbered_is)
 
     ok_backs : first_refused 0 backs ≡ None → All IsOk (qs ++ vs)
     ok_backs none = subst (All IsOk) backs_are (all_done 0 backs none)
@@ -262,6 +279,7 @@ module _ {S : Type 0} (tells : Type 0) (left : S → List ℕ) (faults : S → �
       some = let long = length-map ws worker_number in omega (arith, some, long);
       distinct = subst (λ (l : List ℕ). IsDistinct ◌==◌ (map worker_number ws ++ l)) (sym parts.numbers) distinct_is;
       numbered = subst (λ (l : List ℕ). All (λ (note : ℕ × Noted). Contains (map worker_number ws ++ l) note.0) more) (sym parts.numbers) numbered_is;
+      works = works_is;
     }
       where
         parts : Parts tells left faults most before more ones
@@ -293,6 +311,9 @@ module _ {S : Type 0} (tells : Type 0) (left : S → List ℕ) (faults : S → �
           let of = all_at (λ (one : One S). IsSeatOf store one.old.seat) ones at.0 one at.2.there (all_unmapped (λ (job : Job). IsSeatOf store job.seat) (λ (one : One S). one.old) ones (subst (All (λ (job : Job). IsSeatOf store job.seat)) so.are.olds_are (all_left (λ (job : Job). IsSeatOf store job.seat) ps ws of_jobs))) in
           let done = all_at (IsDone tells left faults most) ones at.0 one at.2.there so.each in
           record {
+            more = more;
+            grown = nums.are;
+            works = works_is;
             spent =
                 inl (record {
                   place = at.0;
@@ -317,6 +338,9 @@ module _ {S : Type 0} (tells : Type 0) (left : S → List ℕ) (faults : S → �
           let of = all_at (λ (job : Job). IsSeatOf store job.seat) ws worker.place worker.old worker.old_there of_ws in
           let spent = done.spent store of worker.is in
           record {
+            more = more;
+            grown = nums.are;
+            works = works_is;
             spent =
                 inr (record {
                   front = spent.front;

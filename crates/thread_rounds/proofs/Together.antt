@@ -8,9 +8,7 @@ use mathlib.Core.List.{map-append}
 use Rattle.entry_model.specs.Fits.{IsDistinct}
 use Rattle.entry_model.specs.Next.{offset_at}
 use Rattle.entry_model.specs.declared.entry.Entry.{Entry}
-use Rattle.entry_model.specs.declared.entry.Entry.TheVariants.{Opened}
-use Rattle.entry_model.specs.declared.restored.Restored.{Restored}
-use Rattle.session_state.specs.Kept.{Counts, counts_next, counts_of}
+use Rattle.session_state.specs.Kept.{Counts, Kept, counts_next}
 use Rattle.source_feeds.specs.Feeding.{Feeding}
 use Rattle.turn_lock.specs.Own.{own}
 use Rattle.turn_lock.specs.Turns.{Grows, entries}
@@ -34,13 +32,14 @@ use Rattle.thread_jobs.specs.declared.error.JobError.TheVariants as job
 use Rattle.thread_jobs.specs.declared.forking.Job.{Job}
 use Rattle.thread_jobs.specs.Forking.{IsWorkerDone}
 use Rattle.thread_jobs.specs.Publishing.{IsGoingFrom, IsTaken, counts_at, offset_after}
-use Rattle.thread_rounds.specs.Stepping.{IsPartOf}
+use Rattle.thread_rounds.specs.Stepping.{AreWorkOf, IsPartOf}
 use Rattle.thread_rounds.proofs.Handed.{answered_own, has_ended, noted_own, offset_own, part_of, published_part, readings_own, timely_own, turn_taken}
 use Rattle.thread_rounds.proofs.Seated.{all_mapped, all_unmapped, map_twice}
 use Rattle.thread_rounds.proofs.Taken.{IsDone, IsRefusedOne, One, all_at}
+use Rattle.thread_rounds.proofs.Works.{apart_works}
 
 -- what holds of the elements of one list by those beside them in another
-zip_all : {A B : Type 0} (Z : A → B → Type 0) (P : A → Type 0) (Q : B → Type 0) (R : A → Type 0) → ((a : A) (b : B) → Z a b → P a → Q b → R a) → (xs : List A) (ys : List B) → AllZip Z xs ys → All P xs → All Q ys → All R xs
+pub zip_all : {A B : Type 0} (Z : A → B → Type 0) (P : A → Type 0) (Q : B → Type 0) (R : A → Type 0) → ((a : A) (b : B) → Z a b → P a → Q b → R a) → (xs : List A) (ys : List B) → AllZip Z xs ys → All P xs → All Q ys → All R xs
 zip_all Z P Q R each [] [] zip ps qs = All-nil R
 zip_all Z P Q R each [] (y ∷ ys) zip ps qs = absurd zip
 zip_all Z P Q R each (x ∷ xs) [] zip ps qs = absurd zip
@@ -73,12 +72,11 @@ counts_after-append c [] ys = refl
 counts_after-append c (x ∷ xs) ys = counts_after-append (counts_next c x) xs ys
 
 -- the counts behind notes more
-counts_more : (start : Restored) (before more : Stamped) → counts_at start (entries (before ++ more)) ≡ counts_after (counts_at start (entries before)) (entries_in (entries more))
+counts_more : (start : Kept) (before more : Stamped) → counts_at start (entries (before ++ more)) ≡ counts_after (counts_at start (entries before)) (entries_in (entries more))
 counts_more start before more =
-    let opened = counts_next (counts_of start) (Opened (start.sessions + 1)) in
     ap (λ (notes : List Noted). counts_at start notes) (map-append (λ (x : ℕ × Noted). x.1) before more)
-    ∙ ap (counts_after opened) (entries_in-append (entries before) (entries more))
-    ∙ counts_after-append opened (entries_in (entries before)) (entries_in (entries more))
+    ∙ ap (counts_after start.counts) (entries_in-append (entries before) (entries more))
+    ∙ counts_after-append start.counts (entries_in (entries before)) (entries_in (entries more))
 
 module _ {S : Type 0} (tells : Type 0) (left : S → List ℕ) (faults : S → ℕ) (most : ℕ) (before more : Stamped) where
   ok_taken : (one : One S) → IsDone tells left faults most one → IsOk one.new → IsTaken tells (left one.source) (left one.rest) most (number one.old.seat) (seen one.old.seat) (seen one.new.seat) one.feed one.next
@@ -158,15 +156,21 @@ module _ {S : Type 0} (tells : Type 0) (left : S → List ℕ) (faults : S → �
           numbered = subst (λ (l : List ℕ). All (λ (note : ℕ × Noted). Contains (map worker_number olds ++ l) note.0) more) (sym same) numbered;
         }
 
+    -- what was added is work of theirs
+    pub works_each : AreWorkOf (map one_name ones) more
+    works_each =
+        subst (λ (names : List (List ℕ)). AreWorkOf names more) (map_twice (λ (pair : ℕ × List ℕ). pair.1) one_pair ones)
+        (apart_works (map one_pair ones) (map worker_number olds) more apart)
+
     -- no other seat has added a reading of a publisher's source
     only : All (λ (one : One S). All (λ (note : ℕ × Noted). is_noted_from one.feed.name note.1 ≡ true → note.0 ≡ number one.old.seat) more) ones
     only = all_unmapped (λ (pair : ℕ × List ℕ). All (λ (note : ℕ × Noted). is_noted_from pair.1 note.1 ≡ true → note.0 ≡ pair.0) more) one_pair ones (none_intrudes (map one_pair ones) (map worker_number olds) more apart)
 
-    pub timely_each : (start : Restored) → start_of store ≡ start → All (λ (worker : ℕ). AreTimely start worker before more) (map worker_number olds)
+    pub timely_each : (start : Kept) → start_of store ≡ start → All (λ (worker : ℕ). AreTimely start worker before more) (map worker_number olds)
     timely_each start is =
         all_mapped (λ (worker : ℕ). AreTimely start worker before more) worker_number olds
         (zip_all IsWorkerDone Good (StandsIn (before ++ more)) (λ (job : Job). AreTimely start (worker_number job) before more)
-        (λ old new is_done so there. subst (λ (s : Restored). AreTimely s (worker_number old) before more) is (timely_own store before more old new is_done so.0 so.1 there)) olds news worked good stood)
+        (λ old new is_done so there. subst (λ (s : Kept). AreTimely s (worker_number old) before more) is (timely_own store before more old new is_done so.0 so.1 there)) olds news worked good stood)
 
     pub ended_each : All IsOk news → All (HasEnded (start_of store) before (before ++ more)) (map worker_number olds)
     ended_each ok =
@@ -175,7 +179,7 @@ module _ {S : Type 0} (tells : Type 0) (left : S → List ℕ) (faults : S → �
         (λ old new is so there. has_ended store before more old new is so.0 so.1 there.0 there.1) olds news worked good (λ k d h. (stood k d h, ok k d h)))
 
     -- each feed goes on from where the joined list has its source
-    pub going_each : (start : Restored) → All (λ (one : One S). IsOk one.new) ones → All (λ (one : One S). IsGoingFrom start (entries before) one.feed) ones → All (λ (one : One S). IsGoingFrom start (entries (before ++ more)) one.next) ones
+    pub going_each : (start : Kept) → All (λ (one : One S). IsOk one.new) ones → All (λ (one : One S). IsGoingFrom start (entries before) one.feed) ones → All (λ (one : One S). IsGoingFrom start (entries (before ++ more)) one.next) ones
     going_each start ok going = λ k d h. goes (get_or ones k d) (done k d h) (sees k d h) (stands k d h) (ok k d h) (going k d h) (only k d h)
       where
         goes : (one : One S) → IsDone tells left faults most one → SeenBefore before one.old → StandsIn (before ++ more) one.new → IsOk one.new → IsGoingFrom start (entries before) one.feed

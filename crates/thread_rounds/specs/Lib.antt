@@ -1,3 +1,4 @@
 pub mod Seats
 pub mod Ends
 pub mod Stepping
+pub mod AtOnce

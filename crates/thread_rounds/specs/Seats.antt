@@ -1,7 +1,7 @@
 -- The first seat of a store, and those that are split off from it and joined into it.
 use Rattle.std.specs.Prelude.{◌≡◌, ◌≢◌, ◌+◌, ◌<◌, ◌≤◌, All, List, ◌++◌, length, map}
 use Rattle.std.specs.List.{range_with_len}
-use Rattle.entry_model.specs.declared.restored.Restored.{Restored}
+use Rattle.session_state.specs.Kept.{Kept}
 use Rattle.turn_lock.specs.declared.board.Stands.{Ghosts}
 use Rattle.turn_lock.specs.declared.lock.TurnSeat.{TurnSeat}
 use Rattle.turn_lock.specs.Turns.{Grows}
@@ -13,21 +13,21 @@ use Rattle.shared_store.specs.Seats.{IsSplitFrom}
 use Rattle.shared_store.specs.Words.{IsSeatOf}
 use Rattle.thread_laws.specs.Joining.{HasEach}
 
-module _ {g : Ghosts Shared Restored Noted} where
+module _ {g : Ghosts Shared Kept Noted} where
   -- the first seat of the store, at rest
-  pub record StaysFirst (store : Store) (seat : TurnSeat Shared Restored Noted g) : Type 0 where
+  pub record StaysFirst (store : Store) (seat : TurnSeat Shared Kept Noted g) : Type 0 where
     pub of : IsSeatOf store seat
     pub rest : IsAtRest seat
     pub first : IsFirst seat
 
   -- It alone is out, and has joined each seat that it ever split off.
-  pub record IsAlone (store : Store) (first : TurnSeat Shared Restored Noted g) : Type 0 where
+  pub record IsAlone (store : Store) (first : TurnSeat Shared Kept Noted g) : Type 0 where
     pub stays : StaysFirst store first
     pub alone : seats_out first ≡ 1
     pub joined_all : HasEach (split_off first) (joined first)
 
   -- The first seat, which was the old one, has split off these: their numbers follow one another, and each has seen what the first has.
-  pub record AreSplit (store : Store) (old new : TurnSeat Shared Restored Noted g) (seats : List (TurnSeat Shared Restored Noted g)) : Type 0 where
+  pub record AreSplit (store : Store) (old new : TurnSeat Shared Kept Noted g) (seats : List (TurnSeat Shared Kept Noted g)) : Type 0 where
     pub stays : StaysFirst store new
     pub sees : seen new ≡ seen old
     pub splits : split_off new ≡ split_off old + length seats
@@ -37,13 +37,13 @@ module _ {g : Ghosts Shared Restored Noted} where
     pub each : All (IsSplitFrom store old) seats
 
   -- it is one of the store, at rest and not the first
-  pub record IsLater (store : Store) (seat : TurnSeat Shared Restored Noted g) : Type 0 where
+  pub record IsLater (store : Store) (seat : TurnSeat Shared Kept Noted g) : Type 0 where
     pub of : IsSeatOf store seat
     pub rest : IsAtRest seat
     pub later : number seat ≢ 0
 
   -- The first seat, which was the old one, has joined these: its list begins with each of theirs, and behind that has nothing of their numbers.
-  pub record AreJoined (store : Store) (old new : TurnSeat Shared Restored Noted g) (seats : List (TurnSeat Shared Restored Noted g)) : Type 0 where
+  pub record AreJoined (store : Store) (old new : TurnSeat Shared Kept Noted g) (seats : List (TurnSeat Shared Kept Noted g)) : Type 0 where
     pub stays : StaysFirst store new
     pub splits : split_off new ≡ split_off old
     pub joins : joined new ≡ map number seats ++ joined old

@@ -5,7 +5,7 @@ ghost use Rattle.entry_model.specs.Fits.{IsDistinct};
 ghost use Rattle.turn_lock.specs.Words.{seen};
 ghost use Rattle.shared_store.specs.Turns.{notes_of};
 ghost use Rattle.shared_store.specs.Words.{most_seats, start_of};
-ghost use Rattle.daemon_rounds.specs.Rounding.{FailsAt};
+ghost use Rattle.daemon_rounds.specs.Rounding.{AllCount, FailsAt};
 ghost use Rattle.thread_jobs.specs.Publishing.{IsGoingFrom};
 ghost use Rattle.thread_jobs.specs.declared.error.JobError.{JobError};
 ghost use Rattle.thread_rounds.specs.Ends.{ended_by};
@@ -62,6 +62,7 @@ pub fn work_step<R: Threads + Wait + Sync, S: Source, G: Gate>(
     ensures seat { IsAlone store.now first.new }
     ensures done { OnOk result (IsStepDone S.tells S.left S.faults terms.now.most (start_of store.now) (seen first.old) (seen first.new) feeds.old feeds.new sources.old sources.new) }
     ensures going { OnOk result (All (IsGoingFrom (start_of store.now) (notes_of first.new)) feeds.new) }
+    ensures counts { AllCount S.tells S.left feeds.old feeds.new sources.old }
     ensures fault { (place : ℕ) → result ≡ Err (StepRefusal.SourceFault place) → FailsAt S.faults place sources.old sources.new }
     ensures spent { result ≡ Err StepRefusal.NumbersSpent → SpendsStep S.tells S.left terms.now.most (start_of store.now) (seen first.old) (seen first.new) feeds.old feeds.new sources.old sources.new }
 {

@@ -1,5 +1,5 @@
 use Rattle.std.proofs.Common.{refl, subst}
-use Rattle.entry_model.specs.declared.restored.Restored.{Restored}
+use Rattle.session_state.specs.Kept.{Kept}
 use Rattle.turn_lock.specs.Words.{number, seen}
 use Rattle.thread_jobs.specs.Publishing.{HasTooMuch}
 use Rattle.thread_jobs.proofs.Forked.{same_start}
@@ -16,12 +16,13 @@ returns g c = record {
   back = record { same = c.publish-job.ensures.seat.0; rest = c.publish-job.ensures.seat.1; who = refl };
   name = c.publish-job.ensures.same.0;
   kind = c.publish-job.ensures.same.1;
+  counts = c.publish-job.ensures.counts;
   part = c.publish-job.ensures.part;
   unread = c.publish-job.ensures.unread;
   taken = c.publish-job.ensures.published;
   intruded = c.publish-job.ensures.intruded;
   spent = λ store of is.
-      subst (λ (start : Restored). HasTooMuch g.S.Source.tells (g.S.Source.left c.args.source.now) (g.S.Source.left c.publish-job.new.source) c.args.terms.now.most start (number c.args.job.now.seat) (seen c.args.job.now.seat) (seen c.publish-job.new.seat) c.args.feed.now c.publish-job.new.feed)
+      subst (λ (start : Kept). HasTooMuch g.S.Source.tells (g.S.Source.left c.args.source.now) (g.S.Source.left c.publish-job.new.source) c.args.terms.now.most start (number c.args.job.now.seat) (seen c.args.job.now.seat) (seen c.publish-job.new.seat) c.args.feed.now c.publish-job.new.feed)
       (same_start c.args.store.now store c.args.job.now.seat c.requires.may.of of) (c.publish-job.ensures.spent is);
   cause = c.publish-job.ensures.cause;
 }

@@ -1,6 +1,6 @@
 use Rattle.std.proofs.Common.{refl, subst}
 use Rattle.std.specs.Prelude.{OnOk}
-use Rattle.entry_model.specs.declared.restored.Restored.{Restored}
+use Rattle.session_state.specs.Kept.{Kept}
 use Rattle.turn_lock.specs.Turns.{entries}
 use Rattle.turn_lock.specs.Words.{number, seen}
 use Rattle.thread_laws.specs.Reached.{NoneDue}
@@ -15,10 +15,10 @@ pub returns : goal.returns
 returns g c = record {
   back = record { same = c.work-job.ensures.seat.0; rest = c.work-job.ensures.seat.1; who = refl };
   own = λ store of.
-      subst (λ (start : Restored). AnswersOf start (number c.args.job.now.seat) (seen c.args.job.now.seat) (seen c.work-job.new.seat)) (same_start c.args.store.now store c.args.job.now.seat c.requires.of of) c.work-job.ensures.own;
+      subst (λ (start : Kept). AnswersOf start (number c.args.job.now.seat) (seen c.args.job.now.seat) (seen c.work-job.new.seat)) (same_start c.args.store.now store c.args.job.now.seat c.requires.of of) c.work-job.ensures.own;
   none = λ store of.
-      subst (λ (start : Restored). OnOk c.work-job.result (NoneDue start (entries (seen c.work-job.new.seat)))) (same_start c.args.store.now store c.args.job.now.seat c.requires.of of) c.work-job.ensures.none;
+      subst (λ (start : Kept). OnOk c.work-job.result (NoneDue start (entries (seen c.work-job.new.seat)))) (same_start c.args.store.now store c.args.job.now.seat c.requires.of of) c.work-job.ensures.none;
   spent = λ store of is.
-      subst (λ (start : Restored). BatchesSpent start (entries (seen c.work-job.new.seat))) (same_start c.args.store.now store c.args.job.now.seat c.requires.of of) (c.work-job.ensures.spent is);
+      subst (λ (start : Kept). BatchesSpent start (entries (seen c.work-job.new.seat))) (same_start c.args.store.now store c.args.job.now.seat c.requires.of of) (c.work-job.ensures.spent is);
   only = c.work-job.ensures.only;
 }

@@ -4,6 +4,7 @@ use Rattle.turn_lock.specs.Words.{number, seen}
 use Rattle.shared_store.specs.Turns.{notes_of}
 use Rattle.shared_store.specs.Words.{start_of}
 use Rattle.daemon_rounds.specs.Turns.{Gave}
+use Rattle.daemon_rounds.proofs.Counting.{step_counts, still_counts}
 use Rattle.daemon_rounds.proofs.Turned.{may_append}
 use Rattle.thread_jobs.specs.Publishing.{IsIntruded}
 use Rattle.thread_jobs.proofs.Owning.{adds_none, same_self}
@@ -60,3 +61,13 @@ returns-clause-unread g c is = absurd (c.append_each.ensures.source is)
 
 pub returns-clause-cause : goal.returns-clause-cause
 returns-clause-cause g c = record { later = c.step.ensures.cause.later; failed = λ is. absurd (c.append_each.ensures.source is) }
+
+pub returns-in-Err-SourceFault-clause-counts : goal.returns-in-Err-SourceFault-clause-counts
+returns-in-Err-SourceFault-clause-counts g c = still_counts g.S.Source.tells (g.S.Source.left c.args.source.now) c.args.feed.now c.step.new.self c.step.ensures.source.0 c.step.ensures.source.1 c.in-Err-SourceFault.ensures.uncounted
+
+pub returns-in-Err-NoMemory-clause-counts : goal.returns-in-Err-NoMemory-clause-counts
+returns-in-Err-NoMemory-clause-counts g c = still_counts g.S.Source.tells (g.S.Source.left c.args.source.now) c.args.feed.now c.step.new.self c.step.ensures.source.0 c.step.ensures.source.1 c.in-Err-NoMemory.ensures.uncounted
+
+pub returns-clause-counts : goal.returns-clause-counts
+returns-clause-counts g c =
+    step_counts g.S.Source.tells (g.S.Source.left c.args.source.now) (g.S.Source.left c.step.new.source) c.args.feed.now c.step.new.self c.args.most c.in-Ok.readings (record { steps = c.in-Ok.ensures.steps; each = c.in-Ok.ensures.each; rise = c.in-Ok.ensures.rise; same = c.in-Ok.ensures.same })

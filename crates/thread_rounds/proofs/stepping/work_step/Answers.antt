@@ -1,12 +1,13 @@
 use Rattle.std.proofs.Common.{rules, ◌≡◌, ◌<◌, ◌++◌, All, List, length, map, refl, sym, subst, ap, ◌∙◌, arith, length-append}
 use Rattle.std.proofs.lemmas.List.{with_items_is}
 use Rattle.turn_lock.specs.Words.{joined, number, seen, split_off}
+use Rattle.daemon_rounds.proofs.Counting.{all_count}
 use Rattle.thread_jobs.specs.declared.forking.Job.{Job}
 use Rattle.thread_jobs.specs.Forking.{ArePaired, MayPublishAll, MayWorkAll}
 use Rattle.thread_rounds.specs.Ends.{first_refused}
 use Rattle.thread_rounds.specs.Seats.{AreJoined, IsLater}
 use Rattle.thread_rounds.proofs.Seated.{alone_again, all_unmapped, are_back, map_twice}
-use Rattle.thread_rounds.proofs.Stepped.{ended_fault, ended_ok, ended_spent, fails_first, going_done, later_backs, later_seats, may_publish_all, may_work_all, none_intruded, same_numbers, seen_seats, spent_first, step_done}
+use Rattle.thread_rounds.proofs.Stepped.{counts_all, ended_fault, ended_ok, ended_spent, fails_first, going_done, later_backs, later_seats, may_publish_all, may_work_all, none_intruded, same_numbers, seen_seats, spent_first, step_done}
 use Rattle.thread_rounds.proofs.stepping.work_step.Goals as goal
 
 pub split_jobs-requires-clause-seat : goal.split_jobs-requires-clause-seat
@@ -211,3 +212,19 @@ returns-in-Err-clause-seat g c =
     let jobs = c.split_jobs.new.jobs.items in
     let seats = map (λ (job : Job). job.seat) jobs in
     alone_again c.args.store.now c.args.first.now c.split_jobs.new.first c.join_jobs-refused.new.first seats seats c.requires.seat c.split_jobs.ensures.split c.join_jobs-refused.ensures.joined refl
+
+pub returns-in-Ok-split_jobs-clause-counts : goal.returns-in-Ok-split_jobs-clause-counts
+returns-in-Ok-split_jobs-clause-counts g c =
+    let jobs = c.split_jobs.new.jobs.items in
+    let ps = c.split_at_mut-front.result.0.now in
+    let ws = c.split_at_mut-front.result.1.now in
+    let jobs_are : jobs ≡ ps ++ ws = sym c.as_mut_slice.ensures.value ∙ c.split_at_mut-front.ensures.value in
+    let qs = c.do_all.new.publishers in
+    let vs = c.do_all.new.workers in
+    counts_all g.S.Source.tells g.S.Source.left g.S.Source.faults c.args.terms.now.most jobs (qs ++ vs) ps ws qs vs c.args.feeds.now c.do_all.new.feeds c.args.sources.now c.do_all.new.sources jobs_are refl c.do_all.ensures.publishers c.do_all.ensures.workers
+
+pub returns-in-Err-clause-counts : goal.returns-in-Err-clause-counts
+returns-in-Err-clause-counts g c = all_count g.S.Source.tells g.S.Source.left c.args.feeds.now c.args.sources.now c.requires.paired
+
+pub returns-in_default-clause-counts : goal.returns-in_default-clause-counts
+returns-in_default-clause-counts g c = all_count g.S.Source.tells g.S.Source.left c.args.feeds.now c.args.sources.now c.requires.paired

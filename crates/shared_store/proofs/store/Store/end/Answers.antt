@@ -1,7 +1,6 @@
-use Rattle.std.proofs.Common.{◌++◌, ap, ◌∙◌}
+use Rattle.std.proofs.Common.{◌++◌, ◌∙◌}
 use Rattle.turn_lock.specs.Turns.{stamp}
 use Rattle.turn_lock.specs.Words.{number, seen}
-use Rattle.shared_store.specs.declared.noted.Grown.{Grown}
 use Rattle.shared_store.specs.Notes.{grown}
 use Rattle.shared_store.proofs.store.Store.end.Goals as goal
 
