@@ -13,6 +13,7 @@ use Rattle.session_state.specs.Kept.{Counts, Kept, counts_next}
 use Rattle.session_state.specs.StateOf.{IsStateOf, Adds}
 use Rattle.session_state.specs.Expiries.{AddsAll}
 use Rattle.daemon_rounds.specs.Adding.{AreFree, AddsEntries, counts_after}
+use Rattle.daemon_rounds.specs.AtOnce.{Gains}
 
 -- a state with the same values, but for its claims and room
 pub record IsLike (s t : Kept) : Type 0 where
@@ -39,20 +40,15 @@ stands_like s t same base added stands = record {
 }
 
 -- new claims are free
+pub none_claimed : (t : Kept) (count : ℕ) → t.claims ≡ replicate count false → AreFree t.claims
+none_claimed t count fresh = subst AreFree (sym fresh) (All-replicate (λ (claim : Bool). claim ≡ false) count false refl)
+
 pub all_free : (s t : Kept) (count : ℕ) → t.claims ≡ replicate count false → AreFree s.claims → AreFree t.claims
-all_free s t count fresh free = subst AreFree (sym fresh) (All-replicate (λ (claim : Bool). claim ≡ false) count false refl)
+all_free s t count fresh free = none_claimed t count fresh
 
 -- claims that stay are free where they were
 pub still_free : (s t : Kept) → t.claims ≡ s.claims → AreFree s.claims → AreFree t.claims
 still_free s t same free = subst AreFree (sym same) free
-
--- what a state gains, whatever becomes of its claims
-record Gains (s : Kept) (entries : List Entry) (t : Kept) : Type 0 where
-  pub stands : (base : Restored) (added : List Entry) → IsStateOf base added s → IsStateOf base (added ++ entries) t
-  pub counts : t.counts ≡ counts_after s.counts entries
-  pub schedule : t.schedule ≡ last_of schedule_in s.schedule entries
-  pub ticked : t.ticked ≡ last_of tick_in s.ticked entries
-  pub tail : t.tail ≡ s.tail ++ entries
 
 gains_none : (s t : Kept) → IsLike s t → Gains s [] t
 gains_none s t same = record {
@@ -71,7 +67,7 @@ pub counts-append : (c : Counts) (xs ys : List Entry) → counts_after c (xs ++ 
 counts-append c [] ys = refl
 counts-append c (x ∷ xs) ys = counts-append (counts_next c x) xs ys
 
-gains_then : (s t u : Kept) (xs ys : List Entry) → Gains s xs t → Gains t ys u → Gains s (xs ++ ys) u
+pub gains_then : (s t u : Kept) (xs ys : List Entry) → Gains s xs t → Gains t ys u → Gains s (xs ++ ys) u
 gains_then s t u xs ys first second = record {
   stands = λ base added stands. subst (λ (es : List Entry). IsStateOf base es u) (append_assoc added xs ys) (second.stands base (added ++ xs) (first.stands base added stands));
   counts = second.counts ∙ ap (λ (c : Counts). counts_after c ys) first.counts ∙ sym (counts-append s.counts xs ys);
@@ -85,7 +81,8 @@ gains_all s t [] h =
     gains_none s t (record { counts = h.counts; image = h.image; schedule = h.schedule; ticked = h.ticked; marks = h.marks; tail = h.tail })
 gains_all s t (e ∷ es) h = gains_then s h.0 t (e ∷ []) es (gains_one s h.0 e h.1) (gains_all h.0 t es h.2)
 
-gains_of : (s t : Kept) (es : List Entry) → AddsEntries s es t → Gains s es t
+-- which queries are claimed set aside
+pub gains_of : (s t : Kept) (es : List Entry) → AddsEntries s es t → Gains s es t
 gains_of s t es b =
     record { stands = b.stands; counts = b.counts; schedule = b.schedule; ticked = b.ticked; tail = b.tail }
 

@@ -23,7 +23,8 @@ use Rattle.daemon_rounds.specs.Answering.{AnswersDue, AreOwn, committed_all}
 use Rattle.daemon_rounds.specs.Appending.{entries_of}
 use Rattle.daemon_rounds.specs.Keeping.{GoesOn, Settles}
 use Rattle.daemon_rounds.specs.Telling.{AreTellable}
-use Rattle.daemon_rounds.proofs.Adding.{brings_then}
+use Rattle.daemon_rounds.proofs.Adding.{brings_then, gains_of}
+use Rattle.daemon_rounds.specs.AtOnce.{Gains}
 
 -- what the state has in its tail may be sealed
 pub may_seal : (tells : Type 0) (kept : List Entry) (s : Kept) → GoesOn tells kept s → tells → Legal kept → Legal (kept ++ s.tail)
@@ -34,7 +35,7 @@ may_seal tells kept s g told legal =
     subst Legal (sym (ap (λ (es : List Entry). es ++ s.tail) list.is ∙ append_assoc list.before g.sealed s.tail)) whole
 
 -- it goes on with what it gains
-pub still_on : (tells : Type 0) (kept : List Entry) (s t : Kept) (es : List Entry) → GoesOn tells kept s → AddsEntries s es t → GoesOn tells kept t
+pub still_on : (tells : Type 0) (kept : List Entry) (s t : Kept) (es : List Entry) → GoesOn tells kept s → Gains s es t → GoesOn tells kept t
 still_on tells kept s t es g more = record {
   base = g.base;
   sealed = g.sealed;
@@ -109,7 +110,7 @@ settled_tellable s t h tellable =
     subst AreTellable (sym h.brings.tail) (tellable-append s.tail (committed_all h.batches ++ h.expired) tellable h.tellable)
 
 pub settled_on : (tells : Type 0) (kept : List Entry) (s t : Kept) → GoesOn tells kept s → Settles s t → GoesOn tells kept t
-settled_on tells kept s t g h = still_on tells kept s t (committed_all h.batches ++ h.expired) g h.brings
+settled_on tells kept s t g h = still_on tells kept s t (committed_all h.batches ++ h.expired) g (gains_of s t (committed_all h.batches ++ h.expired) h.brings)
 
 -- behind the seal
 pub finished_on : (tells : Type 0) (kept now : List Entry) (s t u : Kept) → GoesOn tells kept s → Settles s t → u ≡ record t { tail = [] } → (tells → now ≡ kept ++ t.tail) → GoesOn tells now u

@@ -6,7 +6,7 @@ use Rattle.osq_outside.specs.Causes.{Rose}
 use Rattle.source_feeds.specs.Feeding.{Feeding}
 use Rattle.session_state.specs.Kept.{Kept}
 use Rattle.daemon_rounds.specs.Turns.{IsTurn, Turn}
-use Rattle.daemon_rounds.specs.Rounding.{FailsAt, Rounds, Whole}
+use Rattle.daemon_rounds.specs.Rounding.{FailsAt, Whole}
 use Rattle.daemon_rounds.specs.Starting.{IsStart, Starts}
 use Rattle.daemon_rounds.specs.declared.turning.Which.{Which}
 
@@ -26,9 +26,10 @@ whole_later : {S : Type 0} (faults : S → ℕ) (feeds nexts : List Feeding) (so
 whole_later {S} faults feeds nexts sources rests turns whole later =
     subst (λ (xs : List S). AreLater faults xs rests) (sym whole.sources_are) (subst (λ (ys : List S). AreLater faults (map (λ (turn : Turn S). turn.source) turns) ys) (sym whole.rests_are) later)
 
-pub round_later : {S : Type 0} (tells : Type 0) (left : S → List ℕ) (faults : S → ℕ) (which : Which) (most : ℕ) (feeds nexts : List Feeding) (sources rests : List S) (s t : Kept) → Rounds tells left faults which most feeds nexts sources rests s t → AreLater faults sources rests
-round_later tells left faults which most feeds nexts sources rests s t r =
-    whole_later faults feeds nexts sources rests r.turns r.whole (turns_later faults (IsTurn tells left faults which most) (λ turn is. is.later) r.turns r.each)
+-- in one turn of each
+pub round_later : {S : Type 0} (tells : Type 0) (left : S → List ℕ) (faults : S → ℕ) (which : Which) (most : ℕ) (feeds nexts : List Feeding) (sources rests : List S) (turns : List (Turn S)) → Whole feeds nexts sources rests turns → All (IsTurn tells left faults which most) turns → AreLater faults sources rests
+round_later tells left faults which most feeds nexts sources rests turns whole each =
+    whole_later faults feeds nexts sources rests turns whole (turns_later faults (IsTurn tells left faults which most) (λ turn is. is.later) turns each)
 
 pub start_later : {S : Type 0} (tells : Type 0) (left : S → List ℕ) (faults : S → ℕ) (feeds nexts : List Feeding) (sources rests : List S) → Starts tells left faults feeds nexts sources rests → AreLater faults sources rests
 start_later tells left faults feeds nexts sources rests r =

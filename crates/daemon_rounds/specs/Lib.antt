@@ -1,10 +1,12 @@
 pub mod Adding
 pub mod Answering
 pub mod Appending
+pub mod AtOnce
 pub mod Configuring
 pub mod Keeping
 pub mod Moments
 pub mod Opening
+pub mod Orders
 pub mod Refusals
 pub mod Rounding
 pub mod Session

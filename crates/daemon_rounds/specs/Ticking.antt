@@ -7,11 +7,11 @@ use Rattle.pack_rules.specs.declared.host.Host.{Host}
 use Rattle.source_feeds.specs.Feeding.{Feeding}
 use Rattle.entry_model.specs.declared.entry.Entry.TheVariants.{Ticked}
 use Rattle.session_state.specs.Kept.{Kept}
-use Rattle.daemon_rounds.specs.Adding.{AddsEntries}
+use Rattle.session_model.specs.Orders.{Order}
+use Rattle.daemon_rounds.specs.Adding.{AddsEntries, AreFree}
 use Rattle.daemon_rounds.specs.Configuring.{Configures}
-use Rattle.daemon_rounds.specs.Rounding.{Overflows, Rounds}
+use Rattle.daemon_rounds.specs.Orders.{RoundsIn, SpendsIn}
 use Rattle.daemon_rounds.specs.declared.setup.Setup.{Setup}
-use Rattle.daemon_rounds.specs.declared.turning.Which.TheVariants as which
 
 -- some pack has discovery queries
 abbrev pub has_discovery : Config → Bool
@@ -29,19 +29,21 @@ abbrev pub configured_last : Bool → ℕ → ℕ → ℕ
 configured_last true configured_at moment = moment
 configured_last false configured_at moment = configured_at
 
--- A tick begins at this moment; directly behind that the session is configured again, where discovery is asked again; and then each source has one
--- turn.
-pub record Fills {S : Type 0} (tells : Type 0) (left : S → List ℕ) (faults : S → ℕ) (setup : Setup) (config : Config) (documents : List (List ℕ)) (configured_at moment : ℕ) (feeds nexts : List Feeding) (sources rests : List S) (old new : Kept) : Type 0 where
+-- A tick begins at this moment, and no query is claimed; directly behind that the session is configured again, where discovery is asked again; and then
+-- each source has one turn, in this order.
+pub record Fills {S : Type 0} (order : Order) (tells : Type 0) (left : S → List ℕ) (faults : S → ℕ) (setup : Setup) (config : Config) (documents : List (List ℕ)) (configured_at moment : ℕ) (feeds nexts : List Feeding) (sources rests : List S) (old new : Kept) : Type 0 where
   pub ticked : Kept
   pub ticks : AddsEntries old (Ticked moment ∷ []) ticked
+  pub free : AreFree ticked.claims
   pub configured : Kept
   pub again : ConfiguresAgain (asks_again config configured_at moment) config documents setup.host moment ticked configured
-  pub rounds : Rounds tells left faults which.Every setup.records feeds nexts sources rests configured new
+  pub rounds : RoundsIn order tells left faults setup.records feeds nexts sources rests configured new
 
--- the same, but a source gave too much
-pub record FillsTooMuch {S : Type 0} (tells : Type 0) (left : S → List ℕ) (faults : S → ℕ) (setup : Setup) (config : Config) (documents : List (List ℕ)) (configured_at moment : ℕ) (feeds nexts : List Feeding) (sources rests : List S) (old new : Kept) : Type 0 where
+-- the same, but no number was left in it
+pub record FillsTooMuch {S : Type 0} (order : Order) (tells : Type 0) (left : S → List ℕ) (faults : S → ℕ) (setup : Setup) (config : Config) (documents : List (List ℕ)) (configured_at moment : ℕ) (feeds nexts : List Feeding) (sources rests : List S) (old new : Kept) : Type 0 where
   pub ticked : Kept
   pub ticks : AddsEntries old (Ticked moment ∷ []) ticked
+  pub free : AreFree ticked.claims
   pub configured : Kept
   pub again : ConfiguresAgain (asks_again config configured_at moment) config documents setup.host moment ticked configured
-  pub overflows : Overflows tells left faults which.Every setup.records feeds nexts sources rests configured new
+  pub overflows : SpendsIn order tells left faults setup.records feeds nexts sources rests configured new

@@ -11,10 +11,9 @@ ghost use Rattle.daemon_rounds.specs.declared.error.TakeError.{TakeError};
 
 use crate::configuring::configure;
 use crate::error::TakeError;
-use crate::rounding::take_round;
+use crate::order::TakesRound;
 use crate::setup::Setup;
 use crate::ticking::begin_tick;
-use crate::turning::Which;
 use config_files::Configured;
 use osq_config::Config;
 use osq_outside::Source;
@@ -76,10 +75,11 @@ fn configure_again(
 }
 
 /// Begins a tick at this moment, which isn't before the last one; configures the session again, where discovery is asked again; and takes a
-/// round of all sources. It answers when the session was configured last.
+/// round of all sources in this order. It answers when the session was configured last.
 /// SourceFault with the place of the source that failed; NumbersSpent where the next event's number would pass 2^62.
-pub fn fill_tick<S: Source>(
+pub fn fill_tick<T: TakesRound<S>, S: Source>(
     alloc: Global,
+    order: &T,
     setup: &Setup,
     configured: &Configured,
     state: &mut State,
@@ -88,6 +88,7 @@ pub fn fill_tick<S: Source>(
     configured_at: u64,
     moment: u64,
 ) -> Result<u64, TakeError>
+    requires takes { T.takes order.now }
     requires bounded { IsBounded configured.now.config }
     requires before { configured_at ≤ moment }
     requires later { state.old.counts.moment ≤ moment }
@@ -96,12 +97,12 @@ pub fn fill_tick<S: Source>(
     requires settled { (table : ℕ) → is_evented_table table ≡ true → owed_at state.old table ≡ None }
     requires paired { length sources.old ≡ length feeds.old }
     requires going { AreGoing state.old.counts.taken feeds.old }
-    ensures fills { IfOk result (λ last. Fills S.tells S.left S.faults setup.now configured.now.config configured.now.documents configured_at moment feeds.old feeds.new sources.old sources.new state.old state.new) }
+    ensures fills { IfOk result (λ last. Fills T.order S.tells S.left S.faults setup.now configured.now.config configured.now.documents configured_at moment feeds.old feeds.new sources.old sources.new state.old state.new) }
     ensures last { IfOk result (λ last. last ≡ configured_last (asks_again configured.now.config configured_at moment) configured_at moment) }
     ensures going { IfOk result (λ last. AreGoing state.new.counts.taken feeds.new) }
     ensures counts { AllCount S.tells S.left feeds.old feeds.new sources.old }
     ensures fault { (place : ℕ) → result ≡ Err (TakeError.SourceFault place) → FailsAt S.faults place sources.old sources.new }
-    ensures spent { result ≡ Err TakeError.NumbersSpent → FillsTooMuch S.tells S.left S.faults setup.now configured.now.config configured.now.documents configured_at moment feeds.old feeds.new sources.old sources.new state.old state.new }
+    ensures spent { result ≡ Err TakeError.NumbersSpent → FillsTooMuch T.order S.tells S.left S.faults setup.now configured.now.config configured.now.documents configured_at moment feeds.old feeds.new sources.old sources.new state.old state.new }
 {
     let Ok(()) = begin_tick(state, moment) else {
         return Err(TakeError::NoMemory);
@@ -109,7 +110,7 @@ pub fn fill_tick<S: Source>(
     let Ok(last) = configure_again(alloc, setup, configured, state, configured_at, moment) else {
         return Err(TakeError::NoMemory);
     };
-    match take_round(alloc, state, feeds, sources, Which::Every, setup.records) {
+    match order.round(alloc, state, feeds, sources, setup.records) {
         Ok(()) => Ok(last),
         Err(error) => Err(error),
     }

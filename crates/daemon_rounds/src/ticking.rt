@@ -5,7 +5,7 @@ ghost use Rattle.osq_value.specs.declared.moment.TheConstants.{LAST_MOMENT};
 ghost use Rattle.entry_model.specs.declared.entry.Entry.TheVariants.{Ticked};
 ghost use Rattle.entry_model.specs.Views.{is_evented_table};
 ghost use Rattle.session_state.specs.Ticks.{first_due, owed_at};
-ghost use Rattle.daemon_rounds.specs.Adding.{AddsEntries};
+ghost use Rattle.daemon_rounds.specs.Adding.{AddsEntries, AreFree};
 
 use osq_value::NoMemory;
 use session_state::{State, TickRefusal};
@@ -17,6 +17,7 @@ pub fn begin_tick(state: &mut State, moment: u64) -> Result<(), NoMemory>
     requires answered { first_due state.old ≡ None }
     requires settled { (table : ℕ) → is_evented_table table ≡ true → owed_at state.old table ≡ None }
     ensures ticked { OnOk result (AddsEntries state.old (Ticked (max moment state.old.counts.moment) ∷ []) state.new) }
+    ensures free { OnOk result (AreFree state.new.claims) }
     ensures err { OnErr result (state.new ≡ state.old) }
 {
     match state.tick(moment) {

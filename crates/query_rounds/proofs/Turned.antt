@@ -15,4 +15,4 @@ module _ {S : Type 0} (tells : Type 0) (left : S → List ℕ) (faults : S → �
   turned_later zero from to same =
       subst (λ (at : Place S). AreLater faults from.sources at.sources) (sym same) (none_later faults from.sources)
   turned_later (suc count) from to (between, before, last) =
-      later_then faults from.sources between.sources to.sources (turned_later count from between before) (round_later tells left faults which.Every most between.feeds to.feeds between.sources to.sources between.state to.state last)
+      later_then faults from.sources between.sources to.sources (turned_later count from between before) (round_later tells left faults which.Every most between.feeds to.feeds between.sources to.sources last.turns last.whole last.each)

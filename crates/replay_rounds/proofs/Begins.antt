@@ -21,6 +21,7 @@ use Rattle.replay_rounds.proofs.Again.{again_brings, again_configured, again_ent
 use Rattle.replay_rounds.proofs.Feeds.{fed_on}
 use Rattle.replay_rounds.proofs.Nothing.{TakeNothing, nothing-append, nothing_behind, ticked_nothing}
 use Rattle.replay_rounds.proofs.Ticks.{NoTick, again_tickless}
+use Rattle.daemon_rounds.specs.AtOnce.{Gains}
 
 -- By the list: behind what the session has added a tick begins at this moment, and the session is configured again where that is due. No source
 -- had its turn yet.
@@ -35,7 +36,7 @@ pub record BeginsTick {S : Type 0} (left : S → List ℕ) (x : Fixed) (added : 
 
 module _ {S : Type 0} (left : S → List ℕ) (x : Fixed) (added kept : List Entry) (feeds : List Feeding) (objects : List S) (configured_at : ℕ) (old : Kept) (standing : Standing left x added kept feeds objects configured_at old) where
   -- the list with what a state gains has the state's values
-  pub values_behind : (es : List Entry) (s : Kept) → AddsEntries old es s → x.keeper_tells → Legal x.start → HasValues ((x.start ++ added) ++ es) s
+  pub values_behind : (es : List Entry) (s : Kept) → Gains old es s → x.keeper_tells → Legal x.start → HasValues ((x.start ++ added) ++ es) s
   values_behind es s more tells legal =
       subst (λ (list : List Entry). HasValues list s) (sym (append_assoc x.start added es)) ((more.stands standing.base added standing.stands).values x.start legal (standing.same tells))
 

@@ -25,7 +25,6 @@ use Rattle.daemon_rounds.specs.Ticking.{ConfiguresAgain, asks_again, has_discove
 use Rattle.daemon_rounds.specs.Turns.{Turn, turn_entries}
 use Rattle.daemon_rounds.specs.declared.setup.Setup.{Setup}
 use Rattle.replay_rounds.specs.Noting.{configurations}
-use Rattle.replay_rounds.specs.Ticked.{TickDone}
 use Rattle.replay_rounds.proofs.Again.{again_brings, again_entries}
 
 pub configurations-append : (xs ys : List Entry) → configurations (xs ++ ys) ≡ configurations xs + configurations ys
@@ -72,29 +71,13 @@ abbrev pub count_of : Bool → ℕ
 count_of true = 1
 count_of false = 0
 
-again_counted : (asks : Bool) (config : Config) (documents : List (List ℕ)) (host : Host) (moment : ℕ) (old new : Kept) (again : ConfiguresAgain asks config documents host moment old new) → configurations (again_entries asks config documents host moment old new again) ≡ count_of asks
+pub again_counted : (asks : Bool) (config : Config) (documents : List (List ℕ)) (host : Host) (moment : ℕ) (old new : Kept) (again : ConfiguresAgain asks config documents host moment old new) → configurations (again_entries asks config documents host moment old new again) ≡ count_of asks
 again_counted true config documents host moment old new configures = refl
 again_counted false config documents host moment old new same = refl
 
-adds_counted : (old : Kept) (entries : List Entry) (new : Kept) → AddsEntries old entries new → configurations new.tail ≡ configurations old.tail + configurations entries
-adds_counted old entries new adds =
-    ap (λ (es : List Entry). configurations es) adds.tail ∙ configurations-append old.tail entries
-
--- what a tick adds to the tail
-pub tick_counted : {S : Type 0} (tells : Type 0) (left : S → List ℕ) (faults : S → ℕ) (setup : Setup) (config : Config) (documents : List (List ℕ)) (configured_at moment : ℕ) (feeds nexts : List Feeding) (objects rests : List S) (old settled : Kept)
-    → TickDone tells left faults setup config documents configured_at moment feeds nexts objects rests old settled → configurations settled.tail ≡ configurations old.tail + count_of (asks_again config configured_at moment)
-tick_counted tells left faults setup config documents configured_at moment feeds nexts objects rests old settled done =
-    let asks = asks_again config configured_at moment in
-    let f = done.fills in
-    let begun : configurations f.ticked.tail ≡ configurations old.tail + 0 = adds_counted old (Ticked moment ∷ []) f.ticked f.ticks in
-    let anew = again_entries asks config documents setup.host moment f.ticked f.configured f.again in
-    let again : configurations f.configured.tail ≡ configurations f.ticked.tail + configurations anew = adds_counted f.ticked anew f.configured (again_brings asks config documents setup.host moment f.ticked f.configured f.again) in
-    let once : configurations anew ≡ count_of asks = again_counted asks config documents setup.host moment f.ticked f.configured f.again in
-    let taken = adds_counted f.configured (round_entries f.configured.counts.moment f.rounds.turns) done.filled f.rounds.brings in
-    let none = round_none f.configured.counts.moment f.rounds.turns in
-    let settling = adds_counted done.filled (committed_all done.settles.batches ++ done.settles.expired) settled done.settles.brings in
-    let rest = settled_none done.filled settled done.settles in
-    omega (arith, begun, again, once, taken, none, settling, rest)
+pub tail_counted : (old : Kept) (entries : List Entry) (new : Kept) → new.tail ≡ old.tail ++ entries → configurations new.tail ≡ configurations old.tail + configurations entries
+tail_counted old entries new tail =
+    ap (λ (es : List Entry). configurations es) tail ∙ configurations-append old.tail entries
 
 and_false : (b : Bool) → (b && false) ≡ false
 and_false true = refl

@@ -17,7 +17,7 @@ use Rattle.replay_rounds.specs.Running.{HasMore, HasRun, run_by}
 use Rattle.replay_rounds.specs.Standing.{IsReady}
 use Rattle.replay_rounds.specs.declared.refused.Numbers.{Numbers}
 use Rattle.replay_rounds.specs.declared.running.Ended.{Ended}
-use Rattle.replay_rounds.proofs.Endings.{all_present, all_whole, one_full_step}
+use Rattle.replay_rounds.proofs.Endings.{all_present, all_whole, one_full_tick}
 use Rattle.replay_rounds.proofs.Full.{HaveSteps}
 use Rattle.replay_rounds.proofs.Ran.{IsRunning, all_kept, grows, values}
 
@@ -38,8 +38,7 @@ module _ {S C : Type 0} (left : S → List ℕ) (x : Fixed) (reads : C → ℕ �
         moment = ends.moment;
         last = ends.last;
         are = list_is tells ∙ ap (λ (es : List Entry). x.start ++ es) ends.are ∙ sym (append_assoc x.start ends.before ends.last);
-        tick = ends.tick.tick;
-        full = one_full_step x.source_tells left x.given.config.categories x.given.records ticks x.start kept x.given ((x.start ++ ends.before) ++ (Ticked ends.moment ∷ ends.tick.tick.configured)) x.given.sources feeds objects ends.tick.tick.taken sources fed (have tells) ends.tick.full over;
+        full = one_full_tick x.order x.source_tells left x.given ticks x.start kept (x.start ++ ends.before) ends.moment feeds objects ends.last sources fed (have tells) ends.tick over;
       }
 
   pub has_run : (ended : Ended) → length (r.added.reading ∷ r.added.readings) ≡ ticks → ended.is_end ≡ all_over feeds → ended.numbers ≡ numbers_of s → HasRun (run_by x reads clock now) ticks kept written ended

@@ -11,6 +11,9 @@ use Rattle.session_model.specs.Given.{Given, Source}
 use Rattle.session_model.specs.Taking.{IsReadWhole}
 use Rattle.replay_rounds.specs.Sources.{AreFed, AreFullOrOver, AreFullSteps, HadFullSteps, HasFullStep, IsFed, IsFull, IsFullStep, IsUnended, all_over}
 use Rattle.replay_rounds.proofs.Full.{HasSteps, HaveSteps, had_steps}
+use Rattle.replay_rounds.specs.FullTicks.{AreFullParts, HasFullPart, HasFullTick, IsFullTick}
+use Rattle.session_model.specs.Orders.{Order, at_once, in_turn}
+use Rattle.entry_model.specs.declared.entry.Entry.TheVariants.{Ticked}
 
 both : (a b : Bool) → (a && b) ≡ true → (a ≡ true) × (b ≡ true)
 both true b h = (refl, h)
@@ -38,10 +41,10 @@ all_present tells left paths start now (source ∷ sources) (feed ∷ feeds) (ob
     let parts = length-append is.dropped (fed.0.fed.stream ++ left object) in
     All-cons (λ (source : Source). taken_from start source.name ≤ length source.bytes) source sources (omega (arith, size, whole, parts)) (all_present tells left paths start now sources feeds objects told fed.1)
 
-here : {X : Type 0} (x : X) (xs : List X) → Contains (x ∷ xs) x
+pub here : {X : Type 0} (x : X) (xs : List X) → Contains (x ∷ xs) x
 here x xs = (0, omega arith, refl)
 
-later : {X : Type 0} (y : X) (xs : List X) (x : X) → Contains xs x → Contains (y ∷ xs) x
+pub later : {X : Type 0} (y : X) (xs : List X) (x : X) → Contains xs x → Contains (y ∷ xs) x
 later y xs x (i, within, is) = (suc i, omega (arith, within), is)
 
 -- one of these sources gave a full step behind this list, and so many full ones in all
@@ -81,7 +84,7 @@ fed_by_all tells left paths start now (source ∷ sources) (feed ∷ feeds) (obj
     (fed_by_bytes tells left paths start now source feed object fed.0, fed_by_all tells left paths start now sources feeds objects fed.1)
 
 -- where one isn't at its end, and each such one gave a full step in its turn, there is one that did, now and in each step before
-pub one_full_step : {S : Type 0} (tells : Type 0) (left : S → List ℕ) (paths : List Category) (records steps : ℕ) (start now : List Entry) (given : Given) (kept : List Entry) (sources : List Source) (feeds : List Feeding) (objects : List S) (entries : List Entry) → tells → AreFed tells left paths start now sources feeds objects → HaveSteps tells left records steps start sources feeds objects → AreFullSteps given kept sources feeds entries → all_over feeds ≡ false → HasFullStep (IsUnended tells paths records steps start now) given kept sources entries
+one_full_step : {S : Type 0} (tells : Type 0) (left : S → List ℕ) (paths : List Category) (records steps : ℕ) (start now : List Entry) (given : Given) (kept : List Entry) (sources : List Source) (feeds : List Feeding) (objects : List S) (entries : List Entry) → tells → AreFed tells left paths start now sources feeds objects → HaveSteps tells left records steps start sources feeds objects → AreFullSteps given kept sources feeds entries → all_over feeds ≡ false → HasFullStep (IsUnended tells paths records steps start now) given kept sources entries
 one_full_step tells left paths records steps start now given kept [] [] objects entries told fed have full over = absurd (cc)
 one_full_step tells left paths records steps start now given kept [] (feed ∷ feeds) objects entries told fed have full over = absurd fed
 one_full_step tells left paths records steps start now given kept (source ∷ sources) [] objects entries told fed have full over = absurd fed
@@ -94,3 +97,26 @@ one_full_step tells left paths records steps start now given kept (source ∷ so
     by_end false e further =
         inl (record { feed = feed; rest = left object; fed = fed_by_bytes tells left paths start now source feed object fed.0; unended = e; full = had_steps tells left paths records steps start now source feed object told fed.0 have.0 e }, full e)
     by_end true e further = inr (further (sym (ap (λ (b : Bool). b && all_over feeds) e) ∙ over))
+
+-- the same where each such one gave a full step behind one list
+one_full_part : {S : Type 0} (tells : Type 0) (left : S → List ℕ) (paths : List Category) (records steps : ℕ) (start now : List Entry) (given : Given) (kept body : List Entry) (sources : List Source) (feeds : List Feeding) (objects : List S) → tells → AreFed tells left paths start now sources feeds objects → HaveSteps tells left records steps start sources feeds objects → AreFullParts given kept body sources feeds → all_over feeds ≡ false → HasFullPart (IsUnended tells paths records steps start now) given kept sources body
+one_full_part tells left paths records steps start now given kept body [] [] objects told fed have full over = absurd (cc)
+one_full_part tells left paths records steps start now given kept body [] (feed ∷ feeds) objects told fed have full over = absurd fed
+one_full_part tells left paths records steps start now given kept body (source ∷ sources) [] objects told fed have full over = absurd fed
+one_full_part tells left paths records steps start now given kept body (source ∷ sources) (feed ∷ feeds) [] told fed have full over = absurd fed
+one_full_part tells left paths records steps start now given kept body (source ∷ sources) (feed ∷ feeds) (object ∷ objects) told fed have ((step, full), behind) over =
+    by_end (is_at_end feed.reader) refl (one_full_part tells left paths records steps start now given kept body sources feeds objects told fed.1 have.1 behind)
+  where
+    by_end : (b : Bool) → is_at_end feed.reader ≡ b → (all_over feeds ≡ false → HasFullPart (IsUnended tells paths records steps start now) given kept sources body) → HasFullPart (IsUnended tells paths records steps start now) given kept (source ∷ sources) body
+    by_end false e further =
+        (source, here source sources, record { feed = feed; rest = left object; fed = fed_by_bytes tells left paths start now source feed object fed.0; unended = e; full = had_steps tells left paths records steps start now source feed object told fed.0 have.0 e }, (step, full e))
+    by_end true e further =
+        let (found, among, is, whole) = further (sym (ap (λ (b : Bool). b && all_over feeds) e) ∙ over) in
+        (found, later source sources found among, is, whole)
+
+-- and of a tick in either order
+pub one_full_tick : {S : Type 0} (order : Order) (tells : Type 0) (left : S → List ℕ) (given : Given) (steps : ℕ) (start now kept : List Entry) (moment : ℕ) (feeds : List Feeding) (objects : List S) (entries : List Entry) → tells → AreFed tells left given.config.categories start now given.sources feeds objects → HaveSteps tells left given.records steps start given.sources feeds objects → IsFullTick order tells given kept moment feeds entries → all_over feeds ≡ false → HasFullTick order (IsUnended tells given.config.categories given.records steps start now) tells given kept moment entries
+one_full_tick in_turn tells left given steps start now kept moment feeds objects entries told fed have (tick, full) over =
+    (tick, one_full_step tells left given.config.categories given.records steps start now given (kept ++ (Ticked moment ∷ tick.configured)) given.sources feeds objects tick.taken told fed have full over)
+one_full_tick at_once tells left given steps start now kept moment feeds objects entries told fed have (tick, full) over =
+    (tick, one_full_part tells left given.config.categories given.records steps start now given (kept ++ (Ticked moment ∷ tick.configured)) tick.body given.sources feeds objects told fed have full over)

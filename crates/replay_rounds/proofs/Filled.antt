@@ -11,47 +11,53 @@ use Rattle.entry_model.specs.declared.entry.Entry.TheVariants.{Expired, Ticked}
 use Rattle.entry_model.specs.declared.restored.Taken.{Taken}
 use Rattle.session_state.specs.Kept.{Counts, Kept}
 use Rattle.session_state.specs.Ticks.{owed_at}
-use Rattle.daemon_rounds.specs.Adding.{AddsEntries, counts_after}
+use Rattle.daemon_rounds.specs.Adding.{counts_after}
 use Rattle.daemon_rounds.specs.Answering.{committed_all}
 use Rattle.daemon_rounds.specs.Keeping.{GoesOn, Settles}
-use Rattle.daemon_rounds.specs.Rounding.{AreGoing, round_entries}
+use Rattle.daemon_rounds.specs.Rounding.{AreGoing}
 use Rattle.daemon_rounds.specs.Telling.{AreTellable}
 use Rattle.daemon_rounds.specs.Ticking.{ConfiguresAgain, Fills, asks_again, configured_last}
 use Rattle.daemon_rounds.specs.declared.setup.Setup.{Setup}
-use Rattle.daemon_rounds.proofs.Adding.{brings_then, counts-append}
+use Rattle.daemon_rounds.proofs.Adding.{counts-append, gains_of, gains_then}
 use Rattle.daemon_rounds.proofs.Keeping.{still_on, tellable-append}
-use Rattle.daemon_rounds.proofs.Opened.{round_moment, round_tellable}
 use Rattle.replay_rounds.specs.Standing.{IsReady}
 use Rattle.replay_rounds.proofs.Again.{again_brings, again_entries, again_moment}
+use Rattle.session_model.specs.Orders.{Order}
+use Rattle.replay_rounds.proofs.Rounds.{Gives, gives, plain_moment}
+use Rattle.daemon_rounds.specs.AtOnce.{Gains}
 
 again_tellable : (asks : Bool) (config : Config) (documents : List (List ℕ)) (host : Host) (moment : ℕ) (old new : Kept) (again : ConfiguresAgain asks config documents host moment old new) → AreTellable (again_entries asks config documents host moment old new again)
 again_tellable true config documents host moment old new configures = (tt, tt)
 again_tellable false config documents host moment old new same = tt
 
-module _ {S : Type 0} (tells : Type 0) (left : S → List ℕ) (faults : S → ℕ) (setup : Setup) (config : Config) (documents : List (List ℕ)) (configured_at moment : ℕ) (feeds nexts : List Feeding) (objects rests : List S) (old new : Kept) (fills : Fills tells left faults setup config documents configured_at moment feeds nexts objects rests old new) where
+module _ {S : Type 0} (order : Order) (tells : Type 0) (left : S → List ℕ) (faults : S → ℕ) (setup : Setup) (config : Config) (documents : List (List ℕ)) (configured_at moment : ℕ) (feeds nexts : List Feeding) (objects rests : List S) (old new : Kept) (fills : Fills order tells left faults setup config documents configured_at moment feeds nexts objects rests old new) where
   abbrev again : List Entry
   again =
       again_entries (asks_again config configured_at moment) config documents setup.host moment fills.ticked fills.configured fills.again
 
-  abbrev taken : List Entry
-  taken = round_entries fills.configured.counts.moment fills.rounds.turns
+  round : Gives tells left faults setup.records feeds nexts objects rests fills.configured new
+  round = gives order tells left faults setup.records feeds nexts objects rests fills.configured new fills.rounds
 
-  filled : AddsEntries old ((Ticked moment ∷ []) ++ again ++ taken) new
+  again_gains : Gains fills.ticked again fills.configured
+  again_gains =
+      gains_of fills.ticked fills.configured again (again_brings (asks_again config configured_at moment) config documents setup.host moment fills.ticked fills.configured fills.again)
+
+  filled : Gains old ((Ticked moment ∷ []) ++ again ++ round.body) new
   filled =
-      brings_then old fills.ticked new (Ticked moment ∷ []) (again ++ taken) fills.ticks (brings_then fills.ticked fills.configured new again taken (again_brings (asks_again config configured_at moment) config documents setup.host moment fills.ticked fills.configured fills.again) fills.rounds.brings)
+      gains_then old fills.ticked new (Ticked moment ∷ []) (again ++ round.body) (gains_of old fills.ticked (Ticked moment ∷ []) fills.ticks) (gains_then fills.ticked fills.configured new again round.body again_gains round.gains)
 
   -- the state goes on from the keeper's list
   pub filled_on : (told : Type 0) (kept : List Entry) → GoesOn told kept old → GoesOn told kept new
-  filled_on told kept on = still_on told kept old new ((Ticked moment ∷ []) ++ again ++ taken) on filled
+  filled_on told kept on = still_on told kept old new ((Ticked moment ∷ []) ++ again ++ round.body) on filled
 
   -- its tail can be told
   pub filled_tellable : AreTellable old.tail → AreTellable new.tail
   filled_tellable tellable =
-      subst AreTellable (sym filled.tail) (tellable-append old.tail ((Ticked moment ∷ []) ++ again ++ taken) tellable (tt, tellable-append again taken (again_tellable (asks_again config configured_at moment) config documents setup.host moment fills.ticked fills.configured fills.again) (round_tellable fills.configured.counts.moment fills.rounds.turns)))
+      subst AreTellable (sym filled.tail) (tellable-append old.tail ((Ticked moment ∷ []) ++ again ++ round.body) tellable (tt, tellable-append again round.body (again_tellable (asks_again config configured_at moment) config documents setup.host moment fills.ticked fills.configured fills.again) round.tellable))
 
   pub filled_moment : new.counts.moment ≡ moment
   filled_moment =
-      ap (λ (c : Counts). c.moment) fills.rounds.brings.counts ∙ round_moment fills.configured.counts fills.configured.counts.moment fills.rounds.turns
+      ap (λ (c : Counts). c.moment) round.gains.counts ∙ plain_moment round.body round.plain fills.configured.counts
       ∙ again_moment (asks_again config configured_at moment) config documents setup.host moment fills.ticked fills.configured fills.again (ap (λ (c : Counts). c.moment) fills.ticks.counts)
 
 -- entries that move neither the moment nor an offset

@@ -1,5 +1,6 @@
 pub mod Again
 pub mod Answered
+pub mod AtOnce
 pub mod Begins
 pub mod Begun
 pub mod Causes
@@ -20,6 +21,7 @@ pub mod Passed
 pub mod Pieces
 pub mod Places
 pub mod Ran
+pub mod Rounds
 pub mod Sessions
 pub mod Skips
 pub mod Spent

@@ -39,22 +39,25 @@ use Rattle.replay_rounds.specs.Standing.{Standing}
 use Rattle.replay_rounds.specs.Stopping.{AreNumbersOf, AreSealed, HasNumbers}
 use Rattle.replay_rounds.specs.Ticked.{IsPartlyTold, IsSealedTick, IsTick, IsWholeTick, TakesTick, TickDone}
 use Rattle.replay_rounds.specs.declared.refused.Numbers.{Numbers}
-use Rattle.replay_rounds.proofs.Counted.{configurations-append, count_of, not_at_once, tick_counted}
+use Rattle.replay_rounds.proofs.Counted.{configurations-append, count_of, not_at_once}
 use Rattle.replay_rounds.proofs.Endings.{fed_by_all}
 use Rattle.replay_rounds.proofs.Full.{HaveSteps, steps_begun, steps_more}
 use Rattle.replay_rounds.proofs.OpenedSession.{OpensSession, opened_session}
-use Rattle.replay_rounds.proofs.Places.{again_places, found_ticked, places-append, places_none, places_sealed, places_unsealed, tick_place, tick_places}
+use Rattle.replay_rounds.proofs.Places.{again_places, found_ticked, places-append, places_none, places_sealed, places_unsealed, tick_place, tick_places, tick_counted}
 use Rattle.replay_rounds.proofs.Ran.{HasRest, IsAdded, IsRunning, added_on, all_is_kept, all_kept, all_written, first_added, first_ran, from_opened, grows, no_tick, none_kept, none_written, numbers_are, partly_written, ran_on, reads_more, still_kept, tail_own, tick_alone, told_on, values}
 use Rattle.replay_rounds.proofs.Ticked.{takes_tick}
+use Rattle.session_model.specs.Orders.{Order}
+use Rattle.replay_rounds.proofs.Rounds.{gives}
 
 -- the counts of the sources' faults never fell in a tick
-pub tick_later : {S : Type 0} (tells : Type 0) (left : S → List ℕ) (faults : S → ℕ) (setup : Setup) (config : Config) (documents : List (List ℕ)) (configured_at moment : ℕ) (feeds nexts : List Feeding) (objects rests : List S) (old settled : Kept) → TickDone tells left faults setup config documents configured_at moment feeds nexts objects rests old settled → AreLater faults objects rests
-tick_later tells left faults setup config documents configured_at moment feeds nexts objects rests old settled done =
-    round_later tells left faults which.Every setup.records feeds nexts objects rests done.fills.configured done.filled done.fills.rounds
+pub tick_later : {S : Type 0} (order : Order) (tells : Type 0) (left : S → List ℕ) (faults : S → ℕ) (setup : Setup) (config : Config) (documents : List (List ℕ)) (configured_at moment : ℕ) (feeds nexts : List Feeding) (objects rests : List S) (old settled : Kept) → TickDone order tells left faults setup config documents configured_at moment feeds nexts objects rests old settled → AreLater faults objects rests
+tick_later order tells left faults setup config documents configured_at moment feeds nexts objects rests old settled done =
+    let round = gives order tells left faults setup.records feeds nexts objects rests done.fills.configured done.filled done.fills.rounds in
+    round_later tells left faults which.Every setup.records feeds nexts objects rests round.turns round.whole round.each
 
-module _ {S C : Type 0} (keeper_tells sink_tells tells : Type 0) (left : S → List ℕ) (faults : S → ℕ) (setup : Setup) (config : Config) (documents : List (List ℕ)) (sources : List S) (start : List Entry) (before : List ℕ) (reads : C → ℕ → C → Type 0) (clock : C) where
+module _ {S C : Type 0} (order : Order) (keeper_tells sink_tells tells : Type 0) (left : S → List ℕ) (faults : S → ℕ) (setup : Setup) (config : Config) (documents : List (List ℕ)) (sources : List S) (start : List Entry) (before : List ℕ) (reads : C → ℕ → C → Type 0) (clock : C) where
   abbrev x : Fixed
-  x = fixed_with keeper_tells sink_tells tells left setup config documents sources start before
+  x = fixed_with order keeper_tells sink_tells tells left setup config documents sources start before
 
   -- Behind so many ticks: all that they gained is kept and told, and the next one may begin.
   pub record IsLooping (now : C) (rounds : ℕ) (kept : List Entry) (written : List ℕ) (feeds : List Feeding) (objects : List S) (last : ℕ) (s : Kept) : Type 0 where
@@ -63,15 +66,15 @@ module _ {S C : Type 0} (keeper_tells sink_tells tells : Type 0) (left : S → L
     pub later : AreLater faults sources objects
     pub have : keeper_tells → HaveSteps tells left setup.records rounds start x.given.sources feeds objects
 
-  takes : (added kept : List Entry) (feeds nexts : List Feeding) (objects rests : List S) (configured_at last moment : ℕ) (old settled : Kept) → Standing left x added kept feeds objects configured_at old → AreGoing old.counts.taken feeds → TickDone tells left faults setup config documents configured_at moment feeds nexts objects rests old settled → last ≡ configured_last (asks_again config configured_at moment) configured_at moment → TakesTick left x added kept nexts rests last moment old settled
+  takes : (added kept : List Entry) (feeds nexts : List Feeding) (objects rests : List S) (configured_at last moment : ℕ) (old settled : Kept) → Standing left x added kept feeds objects configured_at old → AreGoing old.counts.taken feeds → TickDone order tells left faults setup config documents configured_at moment feeds nexts objects rests old settled → last ≡ configured_last (asks_again config configured_at moment) configured_at moment → TakesTick left x added kept nexts rests last moment old settled
   takes added kept feeds nexts objects rests configured_at last moment old settled standing going done last_is =
       takes_tick left faults x setup config documents added kept feeds nexts objects rests configured_at last moment old settled refl refl refl refl standing going.distinct done last_is
 
   -- each source that isn't at its end gave one more full step in a tick
-  pub more_steps : (steps : ℕ) (added kept : List Entry) (feeds nexts : List Feeding) (objects rests : List S) (configured_at moment : ℕ) (old settled : Kept) → Standing left x added kept feeds objects configured_at old → TickDone tells left faults setup config documents configured_at moment feeds nexts objects rests old settled → keeper_tells → HaveSteps tells left setup.records steps start x.given.sources feeds objects → HaveSteps tells left setup.records (suc steps) start x.given.sources nexts rests
+  pub more_steps : (steps : ℕ) (added kept : List Entry) (feeds nexts : List Feeding) (objects rests : List S) (configured_at moment : ℕ) (old settled : Kept) → Standing left x added kept feeds objects configured_at old → TickDone order tells left faults setup config documents configured_at moment feeds nexts objects rests old settled → keeper_tells → HaveSteps tells left setup.records steps start x.given.sources feeds objects → HaveSteps tells left setup.records (suc steps) start x.given.sources nexts rests
   more_steps steps added kept feeds nexts objects rests configured_at moment old settled standing done told have =
-      let rounds = done.fills.rounds in
-      steps_more tells left faults config.categories setup.records steps start (start ++ added) x.given.sources feeds nexts objects rests rounds.turns rounds.whole rounds.each (standing.fed told) have
+      let round = gives order tells left faults setup.records feeds nexts objects rests done.fills.configured done.filled done.fills.rounds in
+      steps_more tells left faults config.categories setup.records steps start (start ++ added) x.given.sources feeds nexts objects rests round.turns round.whole round.each (standing.fed told) have
 
   -- when a session was configured last, behind a tick
   abbrev last_in : ℕ → ℕ → ℕ
@@ -86,7 +89,7 @@ module _ {S C : Type 0} (keeper_tells sink_tells tells : Type 0) (left : S → L
     first_one : (own : List Entry) → IsOneTick own → HasOneTick (opening ++ own)
     first_one own one = record { opening = opening; tick = own; are = refl; silent = o.silent; one = one }
 
-    pub first_takes : (last : ℕ) (settled : Kept) → TickDone tells left faults setup config documents opened_at opened_at feeds nexts objects rests old settled → last ≡ last_in opened_at opened_at → TakesTick left x opening kept nexts rests last opened_at old settled
+    pub first_takes : (last : ℕ) (settled : Kept) → TickDone order tells left faults setup config documents opened_at opened_at feeds nexts objects rests old settled → last ≡ last_in opened_at opened_at → TakesTick left x opening kept nexts rests last opened_at old settled
     first_takes last settled done last_is =
         takes opening kept feeds nexts objects rests opened_at last opened_at old settled o.standing going done last_is
 
@@ -101,21 +104,21 @@ module _ {S C : Type 0} (keeper_tells sink_tells tells : Type 0) (left : S → L
     first_told last settled t lines told =
         from_opened setup.host.identifier old.schedule.form o.number opening t.own o.rest lines refl (subst (λ (es : List Entry). AreLinesOf setup.host.identifier old.schedule.form es lines) (own_tail last settled t) told)
 
-    unfoldable pub looped_first : (last : ℕ) (new : Kept) → IsTick keeper_tells sink_tells tells left faults setup config documents opened_at last opened_at kept next before written feeds nexts objects rests old new → AreLater faults sources objects → IsLooping now 1 next written nexts rests last new
+    unfoldable pub looped_first : (last : ℕ) (new : Kept) → IsTick order keeper_tells sink_tells tells left faults setup config documents opened_at last opened_at kept next before written feeds nexts objects rests old new → AreLater faults sources objects → IsLooping now 1 next written nexts rests last new
     unfolding first_ran first_added
     looped_first last new tick later =
         let t = first_takes last tick.settled tick.done tick.last_is in
         record {
           running = first_ran left x reads clock now kept next nexts rests last opened_at old tick.settled new opening t tick.taken tick.kept o.reading notes o.read configuration o.opens (λ tells legal. o.at) written (λ tells. let (lines, told, is) = tick.told tells in (lines, first_told last tick.settled t lines told, is));
           count = refl;
-          later = later_then faults sources objects rests later (tick_later tells left faults setup config documents opened_at opened_at feeds nexts objects rests old tick.settled tick.done);
+          later = later_then faults sources objects rests later (tick_later order tells left faults setup config documents opened_at opened_at feeds nexts objects rests old tick.settled tick.done);
           have = λ told. more_steps 0 opening kept feeds nexts objects rests opened_at opened_at old tick.settled o.standing tick.done told (steps_begun tells left config.categories setup.records start (start ++ opening) x.given.sources feeds objects (o.standing.fed told));
         }
 
     -- the session is configured once, when it opens
-    none_first : (settled : Kept) → TickDone tells left faults setup config documents opened_at opened_at feeds nexts objects rests old settled → configurations settled.tail ≡ 1
+    none_first : (settled : Kept) → TickDone order tells left faults setup config documents opened_at opened_at feeds nexts objects rests old settled → configurations settled.tail ≡ 1
     none_first settled done =
-        let all = tick_counted tells left faults setup config documents opened_at opened_at feeds nexts objects rests old settled done in
+        let all = tick_counted order tells left faults setup config documents opened_at opened_at feeds nexts objects rests old settled done in
         let none : count_of (asks_again config opened_at opened_at) ≡ 0 = ap count_of (not_at_once config opened_at) in
         let once : configurations old.tail ≡ 1 = ap (λ (es : List Entry). configurations es) o.tail ∙ o.once in
         omega (arith, all, none, once)
@@ -136,21 +139,21 @@ module _ {S C : Type 0} (keeper_tells sink_tells tells : Type 0) (left : S → L
         by.of_list start (Opened o.number ∷ o.tables) o.configured legal (sym (same told)) (o.tail ∙ ap (λ (rest : List Entry). Opened o.number ∷ rest) o.rest_is)
 
     -- and nowhere else in the first tick
-    first_places : (own : List Entry) (settled : Kept) → settled.tail ≡ opening ++ own → TickDone tells left faults setup config documents opened_at opened_at feeds nexts objects rests old settled → places_of start (opening ++ own) ≡ place ∷ []
+    first_places : (own : List Entry) (settled : Kept) → settled.tail ≡ opening ++ own → TickDone order tells left faults setup config documents opened_at opened_at feeds nexts objects rests old settled → places_of start (opening ++ own) ≡ place ∷ []
     first_places own settled tail done =
         let all = none_first settled done in
         let parts : configurations settled.tail ≡ configurations opening + configurations own = ap (λ (es : List Entry). configurations es) tail ∙ configurations-append opening own in
         let once = o.once in
         places-append start opening own ∙ ap (λ (places : List Place). places_of start opening ++ places) (places_none (start ++ opening) own (omega (arith, all, parts, once))) ∙ append-nil (places_of start opening) ∙ opening_places
 
-    pub counted_first : (last : ℕ) (new : Kept) (tick : IsTick keeper_tells sink_tells tells left faults setup config documents opened_at last opened_at kept next before written feeds nexts objects rests old new) (later : AreLater faults sources objects) → places_of start (looped_first last new tick later).running.added.entries ≡ place ∷ []
+    pub counted_first : (last : ℕ) (new : Kept) (tick : IsTick order keeper_tells sink_tells tells left faults setup config documents opened_at last opened_at kept next before written feeds nexts objects rests old new) (later : AreLater faults sources objects) → places_of start (looped_first last new tick later).running.added.entries ≡ place ∷ []
     unfolding looped_first first_ran first_added
     counted_first last new tick later =
         let t = first_takes last tick.settled tick.done tick.last_is in
         first_places t.own tick.settled (own_tail last tick.settled t) tick.done
 
     -- where the tick isn't done
-    pub counted_in_first : IsWholeTick tells left faults setup config documents opened_at opened_at kept next feeds nexts objects rests old → keeper_tells → ArePlacesBut start next (place ∷ [])
+    pub counted_in_first : IsWholeTick order tells left faults setup config documents opened_at opened_at kept next feeds nexts objects rests old → keeper_tells → ArePlacesBut start next (place ∷ [])
     counted_in_first (inl same) told = ([], opening, same ∙ kept_is told ∙ sym (append-nil start), (let once = o.once in omega (arith, once)), sym opening_places)
     counted_in_first (inr (settled, done, grown)) told =
         let t = first_takes (last_in opened_at opened_at) settled done refl in
@@ -158,30 +161,30 @@ module _ {S C : Type 0} (keeper_tells sink_tells tells : Type 0) (left : S → L
         (opening ++ t.own, [], grown ∙ ap (λ (list : List Entry). list ++ settled.tail) (kept_is told) ∙ ap (λ (es : List Entry). start ++ es) tail, omega arith, sym (ap (places_of start) (append-nil (opening ++ t.own)) ∙ first_places t.own settled tail done))
 
     -- what is kept where it isn't done
-    pub kept_first : IsWholeTick tells left faults setup config documents opened_at opened_at kept next feeds nexts objects rests old → keeper_tells → IsKept (run_by x reads clock now) next
+    pub kept_first : IsWholeTick order tells left faults setup config documents opened_at opened_at kept next feeds nexts objects rests old → keeper_tells → IsKept (run_by x reads clock now) next
     kept_first (inl same) told =
         none_kept x (λ readings. ReadsAll reads clock readings now) (o.reading ∷ []) next (now, o.read, refl) (omega arith) (λ tells. same ∙ kept_is tells)
     kept_first (inr (settled, done, grown)) told =
         all_is_kept left x reads clock now next nexts rests (last_in opened_at opened_at) (record settled { tail = [] }) (first_adds (last_in opened_at opened_at) settled (record settled { tail = [] }) (first_takes (last_in opened_at opened_at) settled done refl) refl (λ tells. grown))
 
-    pub partly_first : IsPartlyTold keeper_tells tells left faults setup config documents opened_at opened_at kept next before written feeds nexts objects rests old → IsWritten x next written
+    pub partly_first : IsPartlyTold order keeper_tells tells left faults setup config documents opened_at opened_at kept next before written feeds nexts objects rests old → IsWritten x next written
     partly_first p =
         let t = first_takes (last_in opened_at opened_at) p.settled p.done refl in
         partly_written x next [] (opening ++ t.own) written [] p.lines p.count (first_one t.own t.one) (λ tells. p.kept tells ∙ ap (λ (list : List Entry). list ++ p.settled.tail) (kept_is tells) ∙ ap (λ (es : List Entry). start ++ es) (own_tail (last_in opened_at opened_at) p.settled t)) refl (first_told (last_in opened_at opened_at) p.settled t p.lines p.told) (p.written ∙ ap (λ (text : List ℕ). text ++ take p.count p.lines) (sym (append-nil before)))
 
     -- where its lines could not be written, the state has the numbers of the list behind it
-    pub numbers_first : (new : Kept) → IsSealedTick keeper_tells tells left faults setup config documents opened_at opened_at kept next feeds nexts objects rests old new → AreNumbersOf x next (numbers_of new)
+    pub numbers_first : (new : Kept) → IsSealedTick order keeper_tells tells left faults setup config documents opened_at opened_at kept next feeds nexts objects rests old new → AreNumbersOf x next (numbers_of new)
     numbers_first new tick =
         let last = last_in opened_at opened_at in
         let r = first_adds last tick.settled new (first_takes last tick.settled tick.done refl) tick.taken tick.kept in
         numbers_are left x r.entries next nexts rests last new r.standing r.empty
 
-    more_first : IsWholeTick tells left faults setup config documents opened_at opened_at kept next feeds nexts objects rests old → keeper_tells → (more : List Entry) × (next ≡ start ++ more)
+    more_first : IsWholeTick order tells left faults setup config documents opened_at opened_at kept next feeds nexts objects rests old → keeper_tells → (more : List Entry) × (next ≡ start ++ more)
     more_first (inl same) told = ([], same ∙ kept_is told ∙ sym (append-nil start))
     more_first (inr (settled, done, grown)) told = (settled.tail, grown ∙ ap (λ (list : List Entry). list ++ settled.tail) (kept_is told))
 
     -- where its seal fails, these numbers are those of the list before
-    pub sealed_first : (numbers : Numbers) → AreNumbersOf x start numbers → (keeper_tells → IsWholeTick tells left faults setup config documents opened_at opened_at kept next feeds nexts objects rests old) → AreSealed (run_by x reads clock now) next numbers
+    pub sealed_first : (numbers : Numbers) → AreNumbersOf x start numbers → (keeper_tells → IsWholeTick order tells left faults setup config documents opened_at opened_at kept next feeds nexts objects rests old) → AreSealed (run_by x reads clock now) next numbers
     sealed_first numbers are whole = record {
       readings = [];
       last = o.reading;
@@ -194,13 +197,13 @@ module _ {S C : Type 0} (keeper_tells sink_tells tells : Type 0) (left : S → L
     }
 
     -- what is kept where nothing of it was written
-    pub rest_first : IsWholeTick tells left faults setup config documents opened_at opened_at kept next feeds nexts objects rests old → keeper_tells → HasRest x next []
+    pub rest_first : IsWholeTick order tells left faults setup config documents opened_at opened_at kept next feeds nexts objects rests old → keeper_tells → HasRest x next []
     rest_first (inl same) told = ([], no_tick, same ∙ kept_is told ∙ sym (append-nil start))
     rest_first (inr (settled, done, grown)) told =
         let t = first_takes (last_in opened_at opened_at) settled done refl in
         (opening ++ t.own, first_one t.own t.one, grown ∙ ap (λ (list : List Entry). list ++ settled.tail) (kept_is told) ∙ ap (λ (es : List Entry). start ++ es) (own_tail (last_in opened_at opened_at) settled t))
 
-    pub unwritten_first : (keeper_tells → IsWholeTick tells left faults setup config documents opened_at opened_at kept next feeds nexts objects rests old) → (written : List ℕ) → written ≡ before → IsWritten x next written
+    pub unwritten_first : (keeper_tells → IsWholeTick order tells left faults setup config documents opened_at opened_at kept next feeds nexts objects rests old) → (written : List ℕ) → written ≡ before → IsWritten x next written
     unwritten_first whole written same = none_written x next written (λ tells. rest_first (whole tells) tells) same
 
   -- what was written behind the last tick
@@ -225,25 +228,25 @@ module _ {S C : Type 0} (keeper_tells sink_tells tells : Type 0) (left : S → L
     abbrev r : IsAdded left x reads clock between kept feeds objects configured_at old
     r = l.running.added
 
-    pub next_takes : (last : ℕ) (settled : Kept) → TickDone tells left faults setup config documents configured_at moment feeds nexts objects rests old settled → last ≡ last_in configured_at moment → TakesTick left x r.entries kept nexts rests last moment old settled
+    pub next_takes : (last : ℕ) (settled : Kept) → TickDone order tells left faults setup config documents configured_at moment feeds nexts objects rests old settled → last ≡ last_in configured_at moment → TakesTick left x r.entries kept nexts rests last moment old settled
     next_takes last settled done last_is =
         takes r.entries kept feeds nexts objects rests configured_at last moment old settled r.standing going done last_is
 
     pub counted : {A : Type 0} (first more : A) (rest : List A) → length (first ∷ (rest ++ more ∷ [])) ≡ length (first ∷ rest) + 1
     counted first more rest = let size = length-append rest (more ∷ []) in omega (arith, size)
 
-    unfoldable pub looped_on : (written : List ℕ) (last : ℕ) (new : Kept) → IsTick keeper_tells sink_tells tells left faults setup config documents configured_at last moment kept next between_written written feeds nexts objects rests old new → IsLooping now (rounds + 1) next written nexts rests last new
+    unfoldable pub looped_on : (written : List ℕ) (last : ℕ) (new : Kept) → IsTick order keeper_tells sink_tells tells left faults setup config documents configured_at last moment kept next between_written written feeds nexts objects rests old new → IsLooping now (rounds + 1) next written nexts rests last new
     unfolding ran_on added_on
     looped_on written last new tick =
         let t = next_takes last tick.settled tick.done tick.last_is in
         record {
           running = ran_on left x reads clock between now kept next feeds nexts objects rests configured_at last moment read.reading old tick.settled new r t tick.taken tick.kept read.reads_it read.is between_written written l.running.told tick.told;
           count = counted r.reading read.reading r.readings ∙ ap (λ n. n + 1) l.count;
-          later = later_then faults sources objects rests l.later (tick_later tells left faults setup config documents configured_at moment feeds nexts objects rests old tick.settled tick.done);
+          later = later_then faults sources objects rests l.later (tick_later order tells left faults setup config documents configured_at moment feeds nexts objects rests old tick.settled tick.done);
           have = λ told. subst (λ (steps : ℕ). HaveSteps tells left setup.records steps start x.given.sources nexts rests) (suc-eq-add-one rounds) (more_steps rounds r.entries kept feeds nexts objects rests configured_at moment old tick.settled r.standing tick.done told (l.have told));
         }
 
-    pub kept_on : IsWholeTick tells left faults setup config documents configured_at moment kept next feeds nexts objects rests old → keeper_tells → IsKept (run_by x reads clock now) next
+    pub kept_on : IsWholeTick order tells left faults setup config documents configured_at moment kept next feeds nexts objects rests old → keeper_tells → IsKept (run_by x reads clock now) next
     kept_on (inl same) told =
         still_kept left x reads clock between kept feeds objects configured_at old r read.reading now next read.reads_it same
     kept_on (inr (settled, done, grown)) told =
@@ -256,25 +259,25 @@ module _ {S C : Type 0} (keeper_tells sink_tells tells : Type 0) (left : S → L
     abbrev again : Bool
     again = asks_again config configured_at moment
 
-    pub counted_on : (written : List ℕ) (last : ℕ) (new : Kept) (tick : IsTick keeper_tells sink_tells tells left faults setup config documents configured_at last moment kept next between_written written feeds nexts objects rests old new) → places_of start (looped_on written last new tick).running.added.entries ≡ places_of start r.entries ++ again_places again (tick_place (start ++ r.entries) moment)
+    pub counted_on : (written : List ℕ) (last : ℕ) (new : Kept) (tick : IsTick order keeper_tells sink_tells tells left faults setup config documents configured_at last moment kept next between_written written feeds nexts objects rests old new) → places_of start (looped_on written last new tick).running.added.entries ≡ places_of start r.entries ++ again_places again (tick_place (start ++ r.entries) moment)
     unfolding looped_on ran_on added_on
     counted_on written last new tick =
         let t = next_takes last tick.settled tick.done tick.last_is in
         let own = tail_own left x reads clock between now kept next feeds nexts objects rests configured_at last moment read.reading old tick.settled new r t in
-        places-append start r.entries t.own ∙ ap (λ (places : List Place). places_of start r.entries ++ places) (ap (places_of (start ++ r.entries)) (sym own) ∙ tick_places tells left faults setup config documents configured_at moment feeds nexts objects rests old tick.settled tick.done (start ++ r.entries) r.empty)
+        places-append start r.entries t.own ∙ ap (λ (places : List Place). places_of start r.entries ++ places) (ap (places_of (start ++ r.entries)) (sym own) ∙ tick_places order tells left faults setup config documents configured_at moment feeds nexts objects rests old tick.settled tick.done (start ++ r.entries) r.empty)
 
     -- where the tick isn't done
-    pub counted_in : IsWholeTick tells left faults setup config documents configured_at moment kept next feeds nexts objects rests old → keeper_tells → ArePlacesBut start next (places_of start r.entries ++ again_places again (tick_place (start ++ r.entries) moment))
+    pub counted_in : IsWholeTick order tells left faults setup config documents configured_at moment kept next feeds nexts objects rests old → keeper_tells → ArePlacesBut start next (places_of start r.entries ++ again_places again (tick_place (start ++ r.entries) moment))
     counted_in (inl same) told = places_unsealed start kept next r.entries again moment (list_is told) same
     counted_in (inr (settled, done, grown)) told =
-        places_sealed start kept next r.entries settled.tail (again_places again (tick_place (start ++ r.entries) moment)) (list_is told) grown (tick_places tells left faults setup config documents configured_at moment feeds nexts objects rests old settled done (start ++ r.entries) r.empty)
+        places_sealed start kept next r.entries settled.tail (again_places again (tick_place (start ++ r.entries) moment)) (list_is told) grown (tick_places order tells left faults setup config documents configured_at moment feeds nexts objects rests old settled done (start ++ r.entries) r.empty)
 
     -- what its notes say is found, discovery finds in it
     pub found_on : IsState old → keeper_tells → Legal start → found_now config old moment ≡ found_behind x.given ((start ++ r.entries) ++ Ticked moment ∷ []) moment
     found_on is told legal = found_ticked x.given (start ++ r.entries) old moment is (values left x r.entries kept feeds objects configured_at old r.standing told legal)
 
     -- the list where a tick isn't done begins with what was told
-    pub more_kept : IsWholeTick tells left faults setup config documents configured_at moment kept next feeds nexts objects rests old → keeper_tells → HasRest x next r.entries
+    pub more_kept : IsWholeTick order tells left faults setup config documents configured_at moment kept next feeds nexts objects rests old → keeper_tells → HasRest x next r.entries
     more_kept (inl same) told =
         ([], no_tick, same ∙ list_is told ∙ ap (λ (es : List Entry). start ++ es) (sym (append-nil r.entries)))
     more_kept (inr (settled, done, grown)) told =
@@ -283,10 +286,10 @@ module _ {S C : Type 0} (keeper_tells sink_tells tells : Type 0) (left : S → L
         let own = tail_own left x reads clock between now kept next feeds nexts objects rests configured_at last moment read.reading old settled settled r t in
         (t.own, tick_alone t.own t.one, grown ∙ ap (λ (list : List Entry). list ++ settled.tail) (list_is told) ∙ append_assoc start r.entries settled.tail ∙ ap (λ (es : List Entry). start ++ (r.entries ++ es)) own)
 
-    pub written_on : (keeper_tells → IsWholeTick tells left faults setup config documents configured_at moment kept next feeds nexts objects rests old) → sink_tells → IsWritten x next between_written
+    pub written_on : (keeper_tells → IsWholeTick order tells left faults setup config documents configured_at moment kept next feeds nexts objects rests old) → sink_tells → IsWritten x next between_written
     written_on whole told = all_written x next r.entries between_written (λ tells. more_kept (whole tells) tells) (l.running.told told)
 
-    pub partly_on : (written : List ℕ) → IsPartlyTold keeper_tells tells left faults setup config documents configured_at moment kept next between_written written feeds nexts objects rests old → sink_tells → IsWritten x next written
+    pub partly_on : (written : List ℕ) → IsPartlyTold order keeper_tells tells left faults setup config documents configured_at moment kept next between_written written feeds nexts objects rests old → sink_tells → IsWritten x next written
     partly_on written p told =
         let last = last_in configured_at moment in
         let t = next_takes last p.settled p.done refl in
@@ -294,7 +297,7 @@ module _ {S C : Type 0} (keeper_tells sink_tells tells : Type 0) (left : S → L
         partly_written x next r.entries t.own written lines p.lines p.count (tick_alone t.own t.one) (λ tells. p.kept tells ∙ ap (λ (list : List Entry). list ++ p.settled.tail) (list_is tells) ∙ append_assoc start r.entries p.settled.tail ∙ ap (λ (es : List Entry). start ++ (r.entries ++ es)) (tail_own left x reads clock between now kept next feeds nexts objects rests configured_at last moment read.reading old p.settled p.settled r t)) front all (p.written ∙ ap (λ (text : List ℕ). text ++ take p.count p.lines) was)
 
     -- where its lines could not be written, the state has the numbers of the list behind it
-    pub numbers_on : (new : Kept) → IsSealedTick keeper_tells tells left faults setup config documents configured_at moment kept next feeds nexts objects rests old new → AreNumbersOf x next (numbers_of new)
+    pub numbers_on : (new : Kept) → IsSealedTick order keeper_tells tells left faults setup config documents configured_at moment kept next feeds nexts objects rests old new → AreNumbersOf x next (numbers_of new)
     numbers_on new tick =
         let last = last_in configured_at moment in
         let a = added_on left x reads clock between now kept next feeds nexts objects rests configured_at last moment read.reading old tick.settled new r (next_takes last tick.settled tick.done refl) tick.taken tick.kept read.reads_it read.is in
@@ -307,11 +310,11 @@ module _ {S C : Type 0} (keeper_tells sink_tells tells : Type 0) (left : S → L
     pub numbers_same : (keeper_tells → next ≡ kept) → AreNumbersOf x next (numbers_of old)
     numbers_same same = λ told legal. subst (λ (list : List Entry). HasNumbers list (numbers_of old)) (sym (same told)) (numbers_before told legal)
 
-    more_on : IsWholeTick tells left faults setup config documents configured_at moment kept next feeds nexts objects rests old → (more : List Entry) × (next ≡ kept ++ more)
+    more_on : IsWholeTick order tells left faults setup config documents configured_at moment kept next feeds nexts objects rests old → (more : List Entry) × (next ≡ kept ++ more)
     more_on (inl same) = ([], same ∙ sym (append-nil kept))
     more_on (inr (settled, done, grown)) = (settled.tail, grown)
 
-    pub sealed_on : (keeper_tells → IsWholeTick tells left faults setup config documents configured_at moment kept next feeds nexts objects rests old) → AreSealed (run_by x reads clock now) next (numbers_of old)
+    pub sealed_on : (keeper_tells → IsWholeTick order tells left faults setup config documents configured_at moment kept next feeds nexts objects rests old) → AreSealed (run_by x reads clock now) next (numbers_of old)
     sealed_on whole = record {
       readings = r.reading ∷ r.readings;
       last = read.reading;
@@ -324,14 +327,14 @@ module _ {S C : Type 0} (keeper_tells sink_tells tells : Type 0) (left : S → L
     }
 
 -- what an opening gives: it opens by the list, and the counts of the sources' faults never fell in it
-pub opens_here : {S C : Type 0} (keeper_tells sink_tells tells : Type 0) (left : S → List ℕ) (faults : S → ℕ) (setup : Setup) (config : Config) (documents : List (List ℕ)) (sources : List S) (start : List Entry) (before : List ℕ) (reads : C → ℕ → C → Type 0) (clock now : C) (restored : Restored) (kept : List Entry) (items feeds : List Feeding) (rests : List S) (moment : ℕ) (state : Kept)
+pub opens_here : {S C : Type 0} (order : Order) (keeper_tells sink_tells tells : Type 0) (left : S → List ℕ) (faults : S → ℕ) (setup : Setup) (config : Config) (documents : List (List ℕ)) (sources : List S) (start : List Entry) (before : List ℕ) (reads : C → ℕ → C → Type 0) (clock now : C) (restored : Restored) (kept : List Entry) (items feeds : List Feeding) (rests : List S) (moment : ℕ) (state : Kept)
     → (keeper_tells → restored ≡ summary start) → (keeper_tells → kept ≡ start) → IsDistinct bytes_eq (source_names setup.sources) → IsOpen tells left faults reads setup config documents restored clock now sources rests moment items state → feeds ≡ items
-    → OpensSession left (fixed_with keeper_tells sink_tells tells left setup config documents sources start before) reads clock now kept feeds rests moment state × AreLater faults sources rests
-opens_here keeper_tells sink_tells tells left faults setup config documents sources start before reads clock now restored kept items feeds rests moment state same kept_is distinct is slice = (
-  subst (λ (fs : List Feeding). OpensSession left (fixed_with keeper_tells sink_tells tells left setup config documents sources start before) reads clock now kept fs rests moment state) (sym slice)
-      (opened_session left faults reads (fixed_with keeper_tells sink_tells tells left setup config documents sources start before) setup config documents restored clock now kept items sources rests moment state refl refl refl refl refl same kept_is distinct is),
+    → OpensSession left (fixed_with order keeper_tells sink_tells tells left setup config documents sources start before) reads clock now kept feeds rests moment state × AreLater faults sources rests
+opens_here order keeper_tells sink_tells tells left faults setup config documents sources start before reads clock now restored kept items feeds rests moment state same kept_is distinct is slice = (
+  subst (λ (fs : List Feeding). OpensSession left (fixed_with order keeper_tells sink_tells tells left setup config documents sources start before) reads clock now kept fs rests moment state) (sym slice)
+      (opened_session left faults reads (fixed_with order keeper_tells sink_tells tells left setup config documents sources start before) setup config documents restored clock now kept items sources rests moment state refl refl refl refl refl same kept_is distinct is),
   later_then faults sources is.between rests (start_later tells left faults is.starts.opened is.started sources is.between is.starts.starts)
-      (round_later tells left faults which.Tables setup.records is.started items is.between rests is.opens.begun is.opens.filled is.opens.tables),
+      (round_later tells left faults which.Tables setup.records is.started items is.between rests is.opens.tables.turns is.opens.tables.whole is.opens.tables.each),
 )
 
 -- the state goes on from the keeper's list

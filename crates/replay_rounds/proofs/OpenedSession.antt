@@ -138,10 +138,6 @@ module _ {S : Type 0} (left : S → List ℕ) (faults : S → ℕ) (x : Fixed) (
   silent =
       All-cons NoBatch opened (tables ++ configured ∷ []) refl (All-append NoBatch tables (configured ∷ []) (round_batchless restored.moment opens.tables.turns) (All-cons NoBatch configured [] refl (All-nil NoBatch)))
 
-  free : AreFree state.claims
-  free =
-      opens.configures.brings.free (opens.tables.brings.free (subst AreFree (sym opens.begins.claims) (All-nil (λ claim. claim ≡ false))))
-
   stands : (x.keeper_tells → kept ≡ x.start) → Standing left x entries kept feeds rests moment state
   stands kept_is = record {
     base = restored;
@@ -150,7 +146,6 @@ module _ {S : Type 0} (left : S → List ℕ) (faults : S → ℕ) (x : Fixed) (
     sealed = [];
     parts = sym opens.opened.tail;
     list = λ tells. kept_is tells ∙ sym (append-nil x.start);
-    free = free;
     configured = λ before. last_of-append configured_in before (opened ∷ tables) (configured ∷ []);
     schedule = λ before. last_of-append schedule_in before (opened ∷ tables) (configured ∷ []) ∙ sym opens.configures.brings.schedule;
     fed = fed_entries;

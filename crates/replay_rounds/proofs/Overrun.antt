@@ -42,7 +42,7 @@ use Rattle.replay_rounds.proofs.Passed.{moment_behind, other_behind}
 use Rattle.replay_rounds.proofs.Stepped.{feeds_of, objects_of, step_taken}
 
 -- the entry of a reading has its events
-count_is : (name : List ℕ) (moment : ℕ) (reading : Reading) → event_count reading ≡ length (events_in (entry_of name moment reading))
+pub count_is : (name : List ℕ) (moment : ℕ) (reading : Reading) → event_count reading ≡ length (events_in (entry_of name moment reading))
 count_is name moment (Events taken events skipped) =
     let stamped : Event → ℕ × Event = λ (event : Event). (moment, event) in
     sym (length-map events stamped)

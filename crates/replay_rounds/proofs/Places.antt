@@ -28,7 +28,6 @@ use Rattle.session_state.specs.Kept.{IsState, Kept}
 use Rattle.session_state.specs.StateOf.{HasValues}
 use Rattle.daemon_rounds.specs.Answering.{committed_all}
 use Rattle.daemon_rounds.specs.Configuring.{found_now, tables_of}
-use Rattle.daemon_rounds.specs.Rounding.{round_entries}
 use Rattle.daemon_rounds.specs.Ticking.{ConfiguresAgain, asks_again}
 use Rattle.daemon_rounds.specs.declared.setup.Setup.{Setup}
 use Rattle.daemon_rounds.proofs.Configured.{tables_same}
@@ -36,7 +35,9 @@ use Rattle.source_feeds.specs.Feeding.{Feeding}
 use Rattle.replay_rounds.specs.Noting.{ArePlacesBut, Place, configurations, places_of}
 use Rattle.replay_rounds.specs.Ticked.{TickDone}
 use Rattle.replay_rounds.proofs.Again.{again_brings, again_entries}
-use Rattle.replay_rounds.proofs.Counted.{configurations-append, none-append, round_none, settled_none}
+use Rattle.replay_rounds.proofs.Counted.{configurations-append, none-append, settled_none, CountNone, again_counted, count_of, tail_counted}
+use Rattle.session_model.specs.Orders.{Order}
+use Rattle.replay_rounds.proofs.Rounds.{Gives, gives, plain_none}
 
 one_none : (list entries : List Entry) (rest : List Place) (o : Option ℕ) → (configurations entries ≡ 0 → rest ≡ []) → length (cons_option o (filter_map configured_in entries)) ≡ 0 → cons_option (option_map (λ (moment : ℕ). record { list = list; moment = moment }) o) rest ≡ []
 one_none list entries rest None behind none = behind none
@@ -71,23 +72,44 @@ anew_places : (list : List Entry) (asks : Bool) (config : Config) (documents : L
 anew_places list true config documents host moment old new configures = refl
 anew_places list false config documents host moment old new same = refl
 
+-- how often a tick configures the session
+pub tick_counted : {S : Type 0} (order : Order) (tells : Type 0) (left : S → List ℕ) (faults : S → ℕ) (setup : Setup) (config : Config) (documents : List (List ℕ)) (configured_at moment : ℕ) (feeds nexts : List Feeding) (objects rests : List S) (old settled : Kept)
+    → TickDone order tells left faults setup config documents configured_at moment feeds nexts objects rests old settled → configurations settled.tail ≡ configurations old.tail + count_of (asks_again config configured_at moment)
+tick_counted order tells left faults setup config documents configured_at moment feeds nexts objects rests old settled done =
+    let asks = asks_again config configured_at moment in
+    let f = done.fills in
+    let begun : configurations f.ticked.tail ≡ configurations old.tail + 0 = tail_counted old (Ticked moment ∷ []) f.ticked f.ticks.tail in
+    let anew = again_entries asks config documents setup.host moment f.ticked f.configured f.again in
+    let again : configurations f.configured.tail ≡ configurations f.ticked.tail + configurations anew = tail_counted f.ticked anew f.configured (again_brings asks config documents setup.host moment f.ticked f.configured f.again).tail in
+    let once : configurations anew ≡ count_of asks = again_counted asks config documents setup.host moment f.ticked f.configured f.again in
+    let round = gives order tells left faults setup.records feeds nexts objects rests f.configured done.filled f.rounds in
+    let taken = tail_counted f.configured round.body done.filled round.gains.tail in
+    let none = plain_none round.body round.plain in
+    let settling = tail_counted done.filled (committed_all done.settles.batches ++ done.settles.expired) settled done.settles.brings.tail in
+    let rest = settled_none done.filled settled done.settles in
+    omega (arith, begun, again, once, taken, none, settling, rest)
+
 -- what a tick adds to the tail: its Ticked, its configuration where that is due, and entries that configure nothing
-module _ {S : Type 0} (tells : Type 0) (left : S → List ℕ) (faults : S → ℕ) (setup : Setup) (config : Config) (documents : List (List ℕ)) (configured_at moment : ℕ) (feeds nexts : List Feeding) (objects rests : List S) (old settled : Kept) (done : TickDone tells left faults setup config documents configured_at moment feeds nexts objects rests old settled) where
+module _ {S : Type 0} (order : Order) (tells : Type 0) (left : S → List ℕ) (faults : S → ℕ) (setup : Setup) (config : Config) (documents : List (List ℕ)) (configured_at moment : ℕ) (feeds nexts : List Feeding) (objects rests : List S) (old settled : Kept) (done : TickDone order tells left faults setup config documents configured_at moment feeds nexts objects rests old settled) where
   abbrev anew : List Entry
   anew = again_entries (asks_again config configured_at moment) config documents setup.host moment done.fills.ticked done.fills.configured done.fills.again
 
+  round : Gives tells left faults setup.records feeds nexts objects rests done.fills.configured done.filled
+  round =
+      gives order tells left faults setup.records feeds nexts objects rests done.fills.configured done.filled done.fills.rounds
+
   abbrev taken : List Entry
-  taken = round_entries done.fills.configured.counts.moment done.fills.rounds.turns
+  taken = round.body
 
   abbrev answered : List Entry
   answered = committed_all done.settles.batches ++ done.settles.expired
 
   others_none : configurations (taken ++ answered) ≡ 0
-  others_none = none-append taken answered (round_none done.fills.configured.counts.moment done.fills.rounds.turns) (settled_none done.filled settled done.settles)
+  others_none = none-append taken answered (plain_none round.body round.plain) (settled_none done.filled settled done.settles)
 
   tail_is : settled.tail ≡ old.tail ++ ((Ticked moment ∷ anew) ++ (taken ++ answered))
   tail_is =
-      done.settles.brings.tail ∙ ap (λ (es : List Entry). es ++ answered) (done.fills.rounds.brings.tail ∙ ap (λ (es : List Entry). es ++ taken) ((again_brings (asks_again config configured_at moment) config documents setup.host moment done.fills.ticked done.fills.configured done.fills.again).tail
+      done.settles.brings.tail ∙ ap (λ (es : List Entry). es ++ answered) (round.gains.tail ∙ ap (λ (es : List Entry). es ++ taken) ((again_brings (asks_again config configured_at moment) config documents setup.host moment done.fills.ticked done.fills.configured done.fills.again).tail
       ∙ ap (λ (es : List Entry). es ++ anew) done.fills.ticks.tail ∙ append_assoc old.tail (Ticked moment ∷ []) anew))
       ∙ append_assoc (old.tail ++ (Ticked moment ∷ anew)) taken answered ∙ append_assoc old.tail (Ticked moment ∷ anew) (taken ++ answered)
 

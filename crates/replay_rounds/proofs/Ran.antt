@@ -12,8 +12,7 @@ use Rattle.entry_model.specs.declared.entry.Entry.{Entry}
 use Rattle.entry_model.specs.declared.entry.Entry.TheVariants.{Opened}
 use Rattle.entry_model.specs.Legal.{Legal}
 use Rattle.entry_model.specs.Values.{moment_of, no_schedule}
-use Rattle.session_model.specs.Sessions.{IsSession, Opens}
-use Rattle.session_model.specs.Ticking.{Ticks}
+use Rattle.session_model.specs.Sessions.{Opens}
 use Rattle.session_model.specs.Working.{is_batch}
 use Rattle.session_state.specs.Kept.{Counts, Kept}
 use Rattle.session_state.specs.StateOf.{HasValues}
@@ -24,9 +23,11 @@ use Rattle.replay_rounds.specs.Running.{Grows, IsKept, IsWritten, ReadsAll, run_
 use Rattle.replay_rounds.specs.Refusals.{numbers_of}
 use Rattle.replay_rounds.specs.Standing.{Standing}
 use Rattle.replay_rounds.specs.Stopping.{AreNumbersOf}
-use Rattle.replay_rounds.specs.Ticked.{IsFullTick, TakesTick}
+use Rattle.replay_rounds.specs.Ticked.{TakesTick}
 use Rattle.replay_rounds.proofs.Sessions.{session_first, session_more}
 use Rattle.replay_rounds.proofs.Tellings.{form_behind, form_is, told_more}
+use Rattle.replay_rounds.specs.FullTicks.{IsFullTick}
+use Rattle.session_model.specs.Orders.{IsSessionIn, TicksIn}
 
 pub reads_more : {C : Type 0} (reads : C → ℕ → C → Type 0) (before between after : C) (readings : List ℕ) (reading : ℕ) → ReadsAll reads before readings between → reads between reading after → ReadsAll reads before (readings ++ reading ∷ []) after
 reads_more reads before between after [] reading same read =
@@ -44,7 +45,7 @@ pub record EndsFull (x : Fixed) (entries : List Entry) (feeds : List Feeding) : 
   pub moment : ℕ
   pub last : List Entry
   pub are : entries ≡ before ++ last
-  pub tick : IsFullTick x.source_tells x.given (x.start ++ before) moment feeds last
+  pub tick : IsFullTick x.order x.source_tells x.given (x.start ++ before) moment feeds last
 
 -- Behind a tick: the clock was read so often, and the session has added these entries, all of which are kept.
 pub record IsAdded {S C : Type 0} (left : S → List ℕ) (x : Fixed) (reads : C → ℕ → C → Type 0) (clock now : C) (kept : List Entry) (feeds : List Feeding) (objects : List S) (last : ℕ) (s : Kept) : Type 0 where
@@ -54,7 +55,7 @@ pub record IsAdded {S C : Type 0} (left : S → List ℕ) (x : Fixed) (reads : C
   pub read : ReadsAll reads clock (reading ∷ readings) now
   pub standing : Standing left x entries kept feeds objects last s
   pub empty : s.tail ≡ []
-  pub session : x.keeper_tells → Legal x.start → IsSession x.source_tells x.given x.start reading readings entries
+  pub session : x.keeper_tells → Legal x.start → IsSessionIn x.order x.source_tells x.given x.start reading readings entries
   pub full : x.keeper_tells → x.source_tells → Legal x.start → EndsFull x entries feeds
 
 -- and they are told
@@ -75,7 +76,6 @@ sealed_standing left x entries kept now feeds objects last s t h taken grown = s
   sealed = entries;
   parts = sym (append-nil entries);
   list = λ tells. grown tells ∙ ap (λ (list : List Entry). list ++ s.tail) (h.list tells) ∙ append_assoc x.start h.sealed s.tail ∙ ap (λ (es : List Entry). x.start ++ es) (sym h.parts);
-  free = h.free;
   configured = h.configured;
   schedule = h.schedule;
   fed = h.fed;
@@ -124,7 +124,7 @@ module _ {S C : Type 0} (left : S → List ℕ) (x : Fixed) (reads : C → ℕ �
       read = (now, read, refl);
       standing = standing_behind;
       empty = empty_behind;
-      session = λ tells legal. session_first x.source_tells x.given x.start reading notes added t.own configuration (opens tells legal) (subst (λ (m : ℕ). Ticks x.source_tells x.given (x.start ++ added) m t.own) (at tells legal) (t.ticks tells legal)) (legal_behind tells legal);
+      session = λ tells legal. session_first x.order x.source_tells x.given x.start reading notes added t.own configuration (opens tells legal) (subst (λ (m : ℕ). TicksIn x.order x.source_tells x.given (x.start ++ added) m t.own) (at tells legal) (t.ticks tells legal)) (legal_behind tells legal);
       full = full_behind;
     }
 
@@ -169,7 +169,7 @@ module _ {S C : Type 0} (left : S → List ℕ) (x : Fixed) (reads : C → ℕ �
       empty = ap (λ (k : Kept). k.tail) taken;
       session = λ tells legal.
           let same : moment ≡ max reading (moment_of (x.start ++ r.entries)) = at ∙ ap (max reading) (sym (moment_is left x r.entries kept feeds objects configured_at old r.standing tells legal)) in
-          session_more x.source_tells x.given x.start r.reading r.readings reading r.entries t.own (r.session tells legal) (subst (λ (m : ℕ). Ticks x.source_tells x.given (x.start ++ r.entries) m t.own) same (t.ticks tells legal)) (values left x (r.entries ++ t.own) next nexts rests last new standing_now tells legal).legal;
+          session_more x.order x.source_tells x.given x.start r.reading r.readings reading r.entries t.own (r.session tells legal) (subst (λ (m : ℕ). TicksIn x.order x.source_tells x.given (x.start ++ r.entries) m t.own) same (t.ticks tells legal)) (values left x (r.entries ++ t.own) next nexts rests last new standing_now tells legal).legal;
       full = full_behind left x reads clock now kept next nexts rests last moment old settled new r.entries t taken grown;
     }
 

@@ -28,6 +28,7 @@ use Rattle.replay_rounds.proofs.Looping.{opens_here}
 use Rattle.replay_rounds.proofs.Noted.{noted_none, told_none, told_some}
 use Rattle.replay_rounds.proofs.Places.{places_still}
 use Rattle.replay_rounds.proofs.Ran.{HasRest, no_tick}
+use Rattle.session_model.specs.Orders.{Order}
 
 module _ {S : Type 0} (tells : Type 0) (left : S → List ℕ) (paths : List Category) (start now : List Entry) where
   -- the feed of a source that went on counting
@@ -112,14 +113,14 @@ counts_now left x entries list feeds objects is fed = record {
 }
 
 -- what a session told that ends before its first tick
-pub told_opening : {S C : Type 0} (keeper_tells sink_tells tells : Type 0) (left : S → List ℕ) (faults : S → ℕ) (setup : Setup) (config : Config) (documents : List (List ℕ)) (sources : List S) (start : List Entry) (before : List ℕ) (reads : C → ℕ → C → Type 0) (clock now : C) (restored : Restored) (kept : List Entry) (rests : List S)
+pub told_opening : {S C : Type 0} (order : Order) (keeper_tells sink_tells tells : Type 0) (left : S → List ℕ) (faults : S → ℕ) (setup : Setup) (config : Config) (documents : List (List ℕ)) (sources : List S) (start : List Entry) (before : List ℕ) (reads : C → ℕ → C → Type 0) (clock now : C) (restored : Restored) (kept : List Entry) (rests : List S)
     → (keeper_tells → restored ≡ summary start) → (keeper_tells → kept ≡ start) → IsDistinct bytes_eq (source_names setup.sources) → (left_out was is : List ℕ) (first second : ℕ)
     → ((is ≡ was) ⊎ ((moment : ℕ) × (feeds : List Feeding) × (state : Kept) × IsOpen tells left faults reads setup config documents restored clock now sources rests moment feeds state × (is ≡ was ++ skipped_lines feeds))) ⊎ Rose first second
-    → HasToldSome (fixed_with keeper_tells sink_tells tells left setup config documents sources start before) kept left_out was is ⊎ Rose first second
-told_opening keeper_tells sink_tells tells left faults setup config documents sources start before reads clock now restored kept rests same kept_is distinct left_out was is first second (inl (inl none)) =
-    told_none (fixed_with keeper_tells sink_tells tells left setup config documents sources start before) kept left_out was was is first first second [] (λ told. places_still start kept (kept_is told)) (noted_none (fixed_with keeper_tells sink_tells tells left setup config documents sources start before) left_out was) (inl none) (omega arith)
-told_opening keeper_tells sink_tells tells left faults setup config documents sources start before reads clock now restored kept rests same kept_is distinct left_out was is first second (inl (inr (moment, feeds, state, opened, skipped))) =
-    let o = (opens_here keeper_tells sink_tells tells left faults setup config documents sources start before reads clock now restored kept feeds feeds rests moment state same kept_is distinct opened refl).0 in
-    told_some (fixed_with keeper_tells sink_tells tells left setup config documents sources start before) kept left_out was was is first first second [] feeds
-    (counts_opened left (fixed_with keeper_tells sink_tells tells left setup config documents sources start before) _ kept feeds rests kept_is o.standing.fed) (λ told. places_still start kept (kept_is told)) (noted_none (fixed_with keeper_tells sink_tells tells left setup config documents sources start before) left_out was) (inl (inr skipped)) (omega arith)
-told_opening keeper_tells sink_tells tells left faults setup config documents sources start before reads clock now restored kept rests same kept_is distinct left_out was is first second (inr rose) = inr rose
+    → HasToldSome (fixed_with order keeper_tells sink_tells tells left setup config documents sources start before) kept left_out was is ⊎ Rose first second
+told_opening order keeper_tells sink_tells tells left faults setup config documents sources start before reads clock now restored kept rests same kept_is distinct left_out was is first second (inl (inl none)) =
+    told_none (fixed_with order keeper_tells sink_tells tells left setup config documents sources start before) kept left_out was was is first first second [] (λ told. places_still start kept (kept_is told)) (noted_none (fixed_with order keeper_tells sink_tells tells left setup config documents sources start before) left_out was) (inl none) (omega arith)
+told_opening order keeper_tells sink_tells tells left faults setup config documents sources start before reads clock now restored kept rests same kept_is distinct left_out was is first second (inl (inr (moment, feeds, state, opened, skipped))) =
+    let o = (opens_here order keeper_tells sink_tells tells left faults setup config documents sources start before reads clock now restored kept feeds feeds rests moment state same kept_is distinct opened refl).0 in
+    told_some (fixed_with order keeper_tells sink_tells tells left setup config documents sources start before) kept left_out was was is first first second [] feeds
+    (counts_opened left (fixed_with order keeper_tells sink_tells tells left setup config documents sources start before) _ kept feeds rests kept_is o.standing.fed) (λ told. places_still start kept (kept_is told)) (noted_none (fixed_with order keeper_tells sink_tells tells left setup config documents sources start before) left_out was) (inl (inr skipped)) (omega arith)
+told_opening order keeper_tells sink_tells tells left faults setup config documents sources start before reads clock now restored kept rests same kept_is distinct left_out was is first second (inr rose) = inr rose

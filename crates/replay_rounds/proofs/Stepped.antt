@@ -34,13 +34,13 @@ use Rattle.replay_rounds.proofs.Feeds.{one_fed_on, others_fed_on}
 abbrev pub feeds_of : {S : Type 0} → List (Turn S) → List Feeding
 feeds_of {S} turns = map (λ (turn : Turn S). turn.feed) turns
 
-abbrev nexts_of : {S : Type 0} → List (Turn S) → List Feeding
+abbrev pub nexts_of : {S : Type 0} → List (Turn S) → List Feeding
 nexts_of {S} turns = map (λ (turn : Turn S). turn.next) turns
 
 abbrev pub objects_of : {S : Type 0} → List (Turn S) → List S
 objects_of {S} turns = map (λ (turn : Turn S). turn.source) turns
 
-abbrev rests_of : {S : Type 0} → List (Turn S) → List S
+abbrev pub rests_of : {S : Type 0} → List (Turn S) → List S
 rests_of {S} turns = map (λ (turn : Turn S). turn.rest) turns
 
 -- what is taken of a source is so by whichever names its kind, its paths and its offset have
@@ -100,7 +100,7 @@ step_taken tells left start now given source feed next object rest readings is g
     step_told tells told given now source (entries_of feed.name moment readings) (step_given tells left start now given source feed next object rest readings is gave moment at)
 
 -- where its feed isn't at the source's end, it was full
-full_step : {S : Type 0} (tells : Type 0) (left : S → List ℕ) (start now : List Entry) (given : Given) (source : Source) (feed next : Feeding) (object rest : S) (readings : List Reading) (is : IsFed tells left given.config.categories start now source feed object) (gave : Gave tells (left object) (left rest) feed next given.records readings) (moment : ℕ) → tells → moment ≡ moment_of now
+pub full_step : {S : Type 0} (tells : Type 0) (left : S → List ℕ) (start now : List Entry) (given : Given) (source : Source) (feed next : Feeding) (object rest : S) (readings : List Reading) (is : IsFed tells left given.config.categories start now source feed object) (gave : Gave tells (left object) (left rest) feed next given.records readings) (moment : ℕ) → tells → moment ≡ moment_of now
     → (own : TakesStep given now source (entries_of feed.name moment readings)) × (is_at_end next.reader ≡ false → IsFullStep given now source (entries_of feed.name moment readings) own)
 unfolding step_taken step_told step_given
 full_step tells left start now given source feed next object rest readings is gave moment told at =
@@ -115,7 +115,7 @@ full_step tells left start now given source feed next object rest readings is ga
 
 -- a turn of a source is that of a feed of it, whether it took a step or none
 module _ {S : Type 0} (tells : Type 0) (left : S → List ℕ) (faults : S → ℕ) (which : Which) (start : List Entry) (most : ℕ) where
-  turn_fed : (paths : List Category) (now : List Entry) (moment : ℕ) (source : Source) (turn : Turn S) → IsTurn tells left faults which most turn → IsFed tells left paths start now source turn.feed turn.source → IsFed tells left paths start (now ++ turn_entries moment turn) source turn.next turn.rest
+  pub turn_fed : (paths : List Category) (now : List Entry) (moment : ℕ) (source : Source) (turn : Turn S) → IsTurn tells left faults which most turn → IsFed tells left paths start now source turn.feed turn.source → IsFed tells left paths start (now ++ turn_entries moment turn) source turn.next turn.rest
   turn_fed paths now moment source turn is fed = by_part (takes_part which turn.feed.kind) is.plays
     where
       by_part : (part : Bool) → Plays tells left most part turn → IsFed tells left paths start (now ++ turn_entries moment turn) source turn.next turn.rest
@@ -201,7 +201,7 @@ table_sources sources =
 
 module _ {S : Type 0} (tells : Type 0) (left : S → List ℕ) (faults : S → ℕ) (given : Given) (start kept : List Entry) (moment : ℕ) (feeds nexts : List Feeding) (objects rests : List S) (turns : List (Turn S)) where
   -- the feeds and the objects of a whole round are those of its turns
-  of_turns : AreFed tells left given.config.categories start kept given.sources feeds objects → Whole feeds nexts objects rests turns → AreFed tells left given.config.categories start kept given.sources (feeds_of turns) (objects_of turns)
+  pub of_turns : AreFed tells left given.config.categories start kept given.sources feeds objects → Whole feeds nexts objects rests turns → AreFed tells left given.config.categories start kept given.sources (feeds_of turns) (objects_of turns)
   of_turns are whole =
       subst (λ (objects : List S). AreFed tells left given.config.categories start kept given.sources (feeds_of turns) objects) whole.sources_are (subst (λ (feeds : List Feeding). AreFed tells left given.config.categories start kept given.sources feeds objects) whole.feeds_are are)
 

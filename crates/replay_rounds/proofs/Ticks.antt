@@ -36,7 +36,7 @@ module _ (P : Entry → Type 0) (each : (source : List ℕ) (moment : ℕ) (read
   readings_all source moment (reading ∷ readings) =
       All-cons P (entry_of source moment reading) (entries_of source moment readings) (each source moment reading) (readings_all source moment readings)
 
-  round_all : {S : Type 0} (moment : ℕ) (turns : List (Turn S)) → All P (round_entries moment turns)
+  pub round_all : {S : Type 0} (moment : ℕ) (turns : List (Turn S)) → All P (round_entries moment turns)
   round_all moment [] = All-nil P
   round_all moment (turn ∷ turns) =
       All-append P (turn_entries moment turn) (round_entries moment turns) (readings_all turn.feed.name moment turn.readings) (round_all moment turns)

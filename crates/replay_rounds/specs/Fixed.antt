@@ -5,13 +5,16 @@ use Rattle.osq_outside.specs.declared.sink.Sink as sink_trait
 use Rattle.osq_outside.specs.declared.source.Source as source_trait
 use Rattle.entry_model.specs.declared.entry.Entry.{Entry}
 use Rattle.batch_keeper.specs.declared.keeper.Keeper as keeper_trait
+use Rattle.session_model.specs.Orders.{Order}
 use Rattle.session_model.specs.Given.{Given}
 use Rattle.daemon_rounds.specs.declared.setup.Setup.{Setup}
 use Rattle.replay_rounds.specs.Sources.{sources_of}
 use Rattle.replay_rounds.specs.declared.basis.Basis.{Basis}
 
--- Whether the keeper, the sink and the sources tell what they hold; what the session is given; and the kept list and the results before it.
+-- In which order its ticks are worked on; whether the keeper, the sink and the sources tell what they hold; what the session is given; and the kept list
+-- and the results before it.
 pub record Fixed : Type 1 where
+  pub order : Order
   pub keeper_tells : Type 0
   pub sink_tells : Type 0
   pub source_tells : Type 0
@@ -30,9 +33,10 @@ given_of setup config documents left objects =
     record { host = setup.host; documents = documents; config = config; sources = sources_of left setup.sources objects; records = setup.records }
 
 -- what stays the same in a session over objects of which it is known what they tell
-abbrev pub fixed_with : {S : Type 0} (keeper_tells sink_tells source_tells : Type 0) → (S → List ℕ) → Setup → Config → List (List ℕ) → List S → List Entry → List ℕ → Fixed
-fixed_with keeper_tells sink_tells source_tells left setup config documents objects start written =
+abbrev pub fixed_with : {S : Type 0} (order : Order) (keeper_tells sink_tells source_tells : Type 0) → (S → List ℕ) → Setup → Config → List (List ℕ) → List S → List Entry → List ℕ → Fixed
+fixed_with order keeper_tells sink_tells source_tells left setup config documents objects start written =
     record {
+      order = order;
       keeper_tells = keeper_tells;
       sink_tells = sink_tells;
       source_tells = source_tells;
@@ -42,6 +46,6 @@ fixed_with keeper_tells sink_tells source_tells left setup config documents obje
     }
 
 -- what stays the same in a session over these objects
-abbrev pub fixed_of : {K O S : Type 0} → keeper_trait.Ghosts K → sink_trait.Ghosts O → source_trait.Ghosts S → Basis → List S → K → O → Fixed
-fixed_of keeper sink source basis objects before results =
-    fixed_with keeper.tells sink.tells source.tells source.left basis.setup basis.configured.config basis.configured.documents objects (keeper.kept before) (sink.written results)
+abbrev pub fixed_of : {K O S : Type 0} → Order → keeper_trait.Ghosts K → sink_trait.Ghosts O → source_trait.Ghosts S → Basis → List S → K → O → Fixed
+fixed_of order keeper sink source basis objects before results =
+    fixed_with order keeper.tells sink.tells source.tells source.left basis.setup basis.configured.config basis.configured.documents objects (keeper.kept before) (sink.written results)

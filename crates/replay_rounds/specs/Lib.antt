@@ -1,4 +1,5 @@
 pub mod Fixed
+pub mod FullTicks
 pub mod Noting
 pub mod OneTick
 pub mod Refusals

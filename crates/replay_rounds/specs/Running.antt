@@ -6,19 +6,18 @@ use Rattle.osq_outside.specs.declared.source.Source as source_trait
 use Rattle.batch_keeper.specs.declared.keeper.Keeper as keeper_trait
 use Rattle.entry_model.specs.Covered.{Covered}
 use Rattle.entry_model.specs.declared.entry.Entry.{Entry}
-use Rattle.entry_model.specs.declared.entry.Entry.TheVariants.{Ticked}
 use Rattle.entry_model.specs.Legal.{Legal}
 use Rattle.entry_model.specs.Values.{acked_upto, commits, last_number, taken_from}
 use Rattle.entry_model.specs.Views.{due_queries, is_evented_table, owed_floor}
 use Rattle.pack_rules.specs.declared.schedule.Form.TheVariants as form
 use Rattle.session_model.specs.Given.{Given, Source}
-use Rattle.session_model.specs.Sessions.{IsSession}
+use Rattle.session_model.specs.Orders.{Order, IsSessionIn}
 use Rattle.session_model.specs.Taking.{IsReadWhole}
-use Rattle.session_model.specs.Ticking.{Ticks}
 use Rattle.daemon_rounds.specs.Telling.{AreLinesOf}
 use Rattle.replay_rounds.specs.Fixed.{Fixed, Run, fixed_of}
+use Rattle.replay_rounds.specs.FullTicks.{HasFullTick}
 use Rattle.replay_rounds.specs.OneTick.{HasOneTick}
-use Rattle.replay_rounds.specs.Sources.{HasFullStep, IsUnended}
+use Rattle.replay_rounds.specs.Sources.{IsUnended}
 use Rattle.replay_rounds.specs.declared.basis.Basis.{Basis}
 use Rattle.replay_rounds.specs.declared.running.Ended.{Ended}
 
@@ -32,20 +31,20 @@ abbrev pub run_by : {C : Type 0} → Fixed → (C → ℕ → C → Type 0) → 
 run_by x reads clock now = record { fixed = x; has_read = λ readings. ReadsAll reads clock readings now }
 
 -- the run of a session over these objects
-abbrev pub run_of : {K O S C : Type 0} → keeper_trait.Ghosts K → sink_trait.Ghosts O → source_trait.Ghosts S → clock_trait.Ghosts C → Basis → List S → K → O → C → C → Run
-run_of keeper sink source clock basis objects before results first last =
-    run_by (fixed_of keeper sink source basis objects before results) clock.reads first last
+abbrev pub run_of : {K O S C : Type 0} → Order → keeper_trait.Ghosts K → sink_trait.Ghosts O → source_trait.Ghosts S → clock_trait.Ghosts C → Basis → List S → K → O → C → C → Run
+run_of order keeper sink source clock basis objects before results first last =
+    run_by (fixed_of order keeper sink source basis objects before results) clock.reads first last
 
 -- what a run adds at these readings: nothing before the first of them, and else a session; `tells` says whether the sources tell their bytes
-abbrev pub AddsAt : Type 0 → Given → List Entry → List ℕ → List Entry → Type 0
-AddsAt tells given kept [] entries = entries ≡ []
-AddsAt tells given kept (reading ∷ readings) entries = IsSession tells given kept reading readings entries
+abbrev pub AddsAt : Order → Type 0 → Given → List Entry → List ℕ → List Entry → Type 0
+AddsAt order tells given kept [] entries = entries ≡ []
+AddsAt order tells given kept (reading ∷ readings) entries = IsSessionIn order tells given kept reading readings entries
 
 -- The list has grown by these entries, which are what a run adds at these readings, whether or not the sources tell: so it is legal, and has a whole
 -- tick for each of the readings.
 pub record Grows (x : Fixed) (kept : List Entry) (readings : List ℕ) (entries : List Entry) : Type 0 where
   pub grown : x.keeper_tells → kept ≡ x.start ++ entries
-  pub adds : x.keeper_tells → Legal x.start → AddsAt x.source_tells x.given x.start readings entries
+  pub adds : x.keeper_tells → Legal x.start → AddsAt x.order x.source_tells x.given x.start readings entries
 
 -- However a run ends, the kept list has grown by a session at the readings of the clock, which may have been read once more.
 pub record IsKept (run : Run) (kept : List Entry) : Type 0 where
@@ -69,15 +68,13 @@ pub record IsWritten (x : Fixed) (kept : List Entry) (written : List ℕ) : Type
   pub count : ℕ
   pub written_is : written ≡ (x.written ++ lines) ++ take count more
 
--- The list ends with a tick, its last, in which some source that isn't at its end gave a full step behind the list up to its own place, as it did in
--- each of these ticks.
+-- The list ends with a tick, its last, in which some source that isn't at its end gave a full step, as it did in each of these ticks.
 pub record HasMore (x : Fixed) (ticks : ℕ) (kept : List Entry) : Type 0 where
   pub before : List Entry
   pub moment : ℕ
   pub last : List Entry
   pub are : kept ≡ before ++ last
-  pub tick : Ticks x.source_tells x.given before moment last
-  pub full : HasFullStep (IsUnended x.source_tells x.given.config.categories x.given.records ticks x.start kept) x.given (before ++ (Ticked moment ∷ tick.configured)) x.given.sources tick.taken
+  pub full : HasFullTick x.order (IsUnended x.source_tells x.given.config.categories x.given.records ticks x.start kept) x.source_tells x.given before moment last
 
 -- All ticks were run: the list has grown by a session of as many, and the results by its lines; nothing is due, and nothing is to expire. Each
 -- source had the bytes that earlier sessions took of it, and either every source was read to behind its last line feed, or one of them had more in the last tick.

@@ -1,5 +1,5 @@
 -- A session that a spent number ends.
-use Rattle.std.specs.Prelude.{◌≡◌, ◌⊎◌, ℕ, ◌+◌, ◌<◌, ◌^◌, max, List, [], ◌∷◌, ◌++◌, length}
+use Rattle.std.specs.Prelude.{◌≡◌, ◌⊎◌, ℕ, ◌+◌, ◌<◌, ◌^◌, max, true, All, Contains, List, [], ◌∷◌, ◌++◌, length}
 use Rattle.pack_rules.specs.declared.schedule.QueryKey.{QueryKey}
 use Rattle.entry_model.specs.declared.entry.Entry.{Entry}
 use Rattle.entry_model.specs.declared.entry.Entry.TheVariants.{Ticked}
@@ -8,9 +8,11 @@ use Rattle.entry_model.specs.Values.{commits, events_in, last_number, moment_of}
 use Rattle.entry_model.specs.Views.{due_queries}
 use Rattle.session_model.specs.Configuring.{ConfiguresAgain}
 use Rattle.session_model.specs.Given.{Given, Source}
+use Rattle.session_model.specs.Orders.{Order, in_turn, at_once}
 use Rattle.session_model.specs.Sessions.{Opens}
 use Rattle.session_model.specs.Taking.{TakesStep, TakesSteps}
 use Rattle.session_model.specs.Ticking.{Answers}
+use Rattle.session_model.specs.Working.{is_part}
 use Rattle.replay_rounds.specs.Fixed.{Run}
 use Rattle.replay_rounds.specs.Running.{Grows}
 
@@ -45,21 +47,40 @@ pub record BatchSpends (given : Given) (kept entries : List Entry) : Type 0 wher
   pub are : entries ≡ taken ++ answered
   pub beyond : 2 ^ 62 < length (commits (kept ++ entries)) + 1
 
--- At this moment a tick begins, the session is configured again where that is due, and then no number is left: for the events that a source gave,
--- or for a batch. Up to there the tick has these entries.
-pub record TickSpends (given : Given) (kept : List Entry) (moment : ℕ) (entries : List Entry) : Type 0 where
+-- A source gives a reading, in one step behind this list, whose events would have numbers beyond 2^62 behind these entries.
+pub record ReadingSpends (given : Given) (kept entries : List Entry) : Type 0 where
+  pub source : Source
+  pub is : Contains given.sources source
+  pub done : List Entry
+  pub next : Entry
+  pub later : List Entry
+  pub step : TakesStep given kept source (done ++ next ∷ later)
+  pub beyond : 2 ^ 62 < last_number (kept ++ entries) + length (events_in next)
+
+-- These are readings of the sources and batches, and behind them no number is left: for the events of a reading, or for a batch.
+pub record PartsSpend (given : Given) (kept entries : List Entry) : Type 0 where
+  pub parts : All (λ (entry : Entry). is_part given.sources entry ≡ true) entries
+  pub spent : ReadingSpends given kept entries ⊎ (2 ^ 62 < length (commits (kept ++ entries)) + 1)
+
+-- no number is left behind these entries: for the events that a source gave, or for a batch
+abbrev pub WorkSpends : Order → Given → List Entry → List Entry → Type 0
+WorkSpends in_turn given kept entries = StepsSpend given kept given.sources entries ⊎ BatchSpends given kept entries
+WorkSpends at_once given kept entries = PartsSpend given kept entries
+
+-- At this moment a tick begins, the session is configured again where that is due, and then no number is left. Up to there the tick has these entries.
+pub record TickSpends (order : Order) (given : Given) (kept : List Entry) (moment : ℕ) (entries : List Entry) : Type 0 where
   pub configured : List Entry
   pub rest : List Entry
   pub configures : ConfiguresAgain given (kept ++ Ticked moment ∷ []) moment configured
-  pub spends : StepsSpend given (kept ++ (Ticked moment ∷ configured)) given.sources rest ⊎ BatchSpends given (kept ++ (Ticked moment ∷ configured)) rest
+  pub spends : WorkSpends order given (kept ++ (Ticked moment ∷ configured)) rest
   pub are : entries ≡ (Ticked moment ∷ configured) ++ rest
 
 -- that tick comes at this reading of the clock, behind ticks at those readings; before its first tick a session opens
-abbrev pub SpendsAt : Type 0 → Given → List Entry → List ℕ → ℕ → List Entry → Type 0
-SpendsAt tells given kept [] reading entries =
-    (opening own : List Entry) × Opens tells given kept reading opening × TickSpends given (kept ++ opening) (max reading (moment_of (kept ++ opening))) own × (entries ≡ opening ++ own)
-SpendsAt tells given kept (before ∷ readings) reading entries =
-    TickSpends given kept (max reading (moment_of kept)) entries
+abbrev pub SpendsAt : Order → Type 0 → Given → List Entry → List ℕ → ℕ → List Entry → Type 0
+SpendsAt order tells given kept [] reading entries =
+    (opening own : List Entry) × Opens tells given kept reading opening × TickSpends order given (kept ++ opening) (max reading (moment_of (kept ++ opening))) own × (entries ≡ opening ++ own)
+SpendsAt order tells given kept (before ∷ readings) reading entries =
+    TickSpends order given kept (max reading (moment_of kept)) entries
 
 -- The list has grown by the ticks at these readings of the clock, and at the next reading a number was spent: behind the list there would be
 -- these entries, up to the place at which no number is left.
@@ -71,4 +92,4 @@ pub record RanOutOfNumbers (run : Run) (kept : List Entry) : Type 0 where
   pub grows : Grows run.fixed kept readings added
   pub entries : List Entry
   pub legal : run.fixed.keeper_tells → Legal run.fixed.start → Legal (kept ++ entries)
-  pub spends : run.fixed.keeper_tells → run.fixed.source_tells → Legal run.fixed.start → SpendsAt run.fixed.source_tells run.fixed.given kept readings reading entries
+  pub spends : run.fixed.keeper_tells → run.fixed.source_tells → Legal run.fixed.start → SpendsAt run.fixed.order run.fixed.source_tells run.fixed.given kept readings reading entries

@@ -11,13 +11,12 @@ use Rattle.session_model.specs.Configuring.{configured_in}
 use Rattle.session_state.specs.Kept.{Kept}
 use Rattle.session_state.specs.StateOf.{IsStateOf}
 use Rattle.session_state.specs.Ticks.{first_due, owed_at}
-use Rattle.daemon_rounds.specs.Adding.{AreFree}
 use Rattle.daemon_rounds.specs.Rounding.{AreGoing}
 use Rattle.daemon_rounds.specs.Telling.{AreTellable}
 use Rattle.replay_rounds.specs.Fixed.{Fixed}
 use Rattle.replay_rounds.specs.Sources.{AreFed}
 
--- The session has added these entries to the list before it; the keeper has all of them but those in the state's tail; no query is claimed; the
+-- The session has added these entries to the list before it; the keeper has all of them but those in the state's tail; the
 -- entries have its schedule and the moment of its last configuration; and its sources are fed.
 pub record Standing {S : Type 0} (left : S → List ℕ) (x : Fixed) (added kept : List Entry) (feeds : List Feeding) (objects : List S) (configured_at : ℕ) (s : Kept) : Type 0 where
   pub base : Restored
@@ -26,7 +25,6 @@ pub record Standing {S : Type 0} (left : S → List ℕ) (x : Fixed) (added kept
   pub sealed : List Entry
   pub parts : added ≡ sealed ++ s.tail
   pub list : x.keeper_tells → kept ≡ x.start ++ sealed
-  pub free : AreFree s.claims
   pub configured : (before : ℕ) → last_of configured_in before added ≡ configured_at
   pub schedule : (before : Schedule) → last_of schedule_in before added ≡ s.schedule
   pub fed : x.keeper_tells → AreFed x.source_tells left x.given.config.categories x.start (x.start ++ added) x.given.sources feeds objects

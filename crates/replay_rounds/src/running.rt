@@ -29,7 +29,7 @@ use crate::opening::open_noted;
 use crate::refused::{Numbers, Refused, RunError, numbers_in, numbers_of, unloaded, unnoted};
 use crate::ticking::{Tick, take_tick};
 use batch_keeper::Keeper;
-use daemon_rounds::{MomentTooLarge, Session, asks_again, read_moment};
+use daemon_rounds::{MomentTooLarge, Session, TakesRound, asks_again, read_moment};
 use entry_model::laws;
 use osq_outside::{Clock, Sink, Source};
 use session_state::State;
@@ -118,10 +118,11 @@ fn end_session<O: Sink>(
     }
 }
 
-/// Runs a whole session behind the keeper's list: it is loaded, the session opens, and all ticks are run, each of which is sealed by itself and then
-/// told. No two sources have one name. On the status stream it tells of each configuration, and at the end of skipped lines.
+/// Runs a whole session behind the keeper's list: it is loaded, the session opens, and all ticks are run in this order, each of which is sealed by itself
+/// and then told. No two sources have one name. On the status stream it tells of each configuration, and at the end of skipped lines.
 /// The error of a refusal is one of the causes that `RunError` lists, with the numbers of the kept list where it was loaded.
-pub fn run_session<S: Source, K: Keeper, O: Sink, C: Clock>(
+pub fn run_session<T: TakesRound<S>, S: Source, K: Keeper, O: Sink, C: Clock>(
+    order: &T,
     basis: &Basis,
     clock: &mut C,
     sources: &mut [S],
@@ -129,26 +130,27 @@ pub fn run_session<S: Source, K: Keeper, O: Sink, C: Clock>(
     results: &mut O,
     status: &mut O,
 ) -> Result<Ended, Refused>
+    requires takes { T.takes order.now }
     requires configuration { IsConfigOf basis.now.configured.documents basis.now.configured.config basis.now.configured.notes }
     requires bounded { IsBounded basis.now.configured.config }
     requires paired { length sources.old ≡ length basis.now.setup.sources }
     requires distinct { IsDistinct bytes_eq (source_names basis.now.setup.sources) }
     requires ticks { 1 ≤ basis.now.setup.ticks }
-    ensures done { IfOk result (λ ended. HasRun (run_of K.Keeper O.Sink S.Source C.Clock basis.now sources.old keeper.old results.old clock.old clock.new) basis.now.setup.ticks (K.kept keeper.new) (O.written results.new) ended) }
+    ensures done { IfOk result (λ ended. HasRun (run_of T.order K.Keeper O.Sink S.Source C.Clock basis.now sources.old keeper.old results.old clock.old clock.new) basis.now.setup.ticks (K.kept keeper.new) (O.written results.new) ended) }
     ensures fit { K.tells → IfOk result (λ ended. Fits (summary (K.kept keeper.old))) }
-    ensures stops { IfErr result (λ refused. Stops (run_of K.Keeper O.Sink S.Source C.Clock basis.now sources.old keeper.old results.old clock.old clock.new) (K.kept keeper.new) (status.new ≡ status.old) refused.error refused.numbers) }
-    ensures kept { K.tells → IsKept (run_of K.Keeper O.Sink S.Source C.Clock basis.now sources.old keeper.old results.old clock.old clock.new) (K.kept keeper.new) }
-    ensures written { O.tells → IsWritten (fixed_of K.Keeper O.Sink S.Source basis.now sources.old keeper.old results.old) (K.kept keeper.new) (O.written results.new) }
+    ensures stops { IfErr result (λ refused. Stops (run_of T.order K.Keeper O.Sink S.Source C.Clock basis.now sources.old keeper.old results.old clock.old clock.new) (K.kept keeper.new) (status.new ≡ status.old) refused.error refused.numbers) }
+    ensures kept { K.tells → IsKept (run_of T.order K.Keeper O.Sink S.Source C.Clock basis.now sources.old keeper.old results.old clock.old clock.new) (K.kept keeper.new) }
+    ensures written { O.tells → IsWritten (fixed_of T.order K.Keeper O.Sink S.Source basis.now sources.old keeper.old results.old) (K.kept keeper.new) (O.written results.new) }
     ensures keeper_cause { (refused : Refused) → result ≡ Err refused → refused.error ≡ RunError.KeeperFault → Rose (K.faults keeper.old) (K.faults keeper.new) }
     ensures refused { K.tells → (refused : Refused) → result ≡ Err refused → refused.error ≡ RunError.KeeperRefused → ¬ Fits (summary (K.kept keeper.old)) }
     ensures illegal { K.tells → (refused : Refused) → result ≡ Err refused → refused.error ≡ RunError.KeeperRefused → ¬ Legal (K.kept keeper.old) }
     ensures moment { (refused : Refused) (moment : ℕ) → result ≡ Err refused → refused.error ≡ RunError.MomentTooLarge moment → (LAST_MOMENT < moment) × ((readings : List ℕ) × ReadsAll C.reads clock.old (readings ++ moment ∷ []) clock.new) }
     ensures fault { (refused : Refused) (place : ℕ) → result ≡ Err refused → refused.error ≡ RunError.SourceFault place → FailsAt S.faults place sources.old sources.new }
     ensures shrank { (refused : Refused) (place kept found : ℕ) → result ≡ Err refused → refused.error ≡ RunError.SourceShrank place kept found → HasShrunkFor K.Keeper S.Source basis.now keeper.old place kept found sources.old }
-    ensures spent { (refused : Refused) → result ≡ Err refused → refused.error ≡ RunError.NumbersSpent → RanOutOfNumbers (run_of K.Keeper O.Sink S.Source C.Clock basis.now sources.old keeper.old results.old clock.old clock.new) (K.kept keeper.new) }
+    ensures spent { (refused : Refused) → result ≡ Err refused → refused.error ≡ RunError.NumbersSpent → RanOutOfNumbers (run_of T.order K.Keeper O.Sink S.Source C.Clock basis.now sources.old keeper.old results.old clock.old clock.new) (K.kept keeper.new) }
     ensures sink_cause { (refused : Refused) → result ≡ Err refused → refused.error ≡ RunError.SinkFault → Rose (O.faults results.old) (O.faults results.new) ⊎ Rose (O.faults status.old) (O.faults status.new) }
-    ensures told { O.tells → IfOk result (λ ended. HasTold (fixed_of K.Keeper O.Sink S.Source basis.now sources.old keeper.old results.old) (K.kept keeper.new) basis.now.configured.notes (O.written status.old) (O.written status.new)) }
-    ensures stops_telling { O.tells → IfErr result (λ refused. HasToldSome (fixed_of K.Keeper O.Sink S.Source basis.now sources.old keeper.old results.old) (K.kept keeper.new) basis.now.configured.notes (O.written status.old) (O.written status.new) ⊎ Rose (O.faults status.old) (O.faults status.new)) }
+    ensures told { O.tells → IfOk result (λ ended. HasTold (fixed_of T.order K.Keeper O.Sink S.Source basis.now sources.old keeper.old results.old) (K.kept keeper.new) basis.now.configured.notes (O.written status.old) (O.written status.new)) }
+    ensures stops_telling { O.tells → IfErr result (λ refused. HasToldSome (fixed_of T.order K.Keeper O.Sink S.Source basis.now sources.old keeper.old results.old) (K.kept keeper.new) basis.now.configured.notes (O.written status.old) (O.written status.new) ⊎ Rose (O.faults status.old) (O.faults status.new)) }
     ensures notes { O.tells → IsGrown (O.written status.old) (O.written status.new) }
     ensures later { (K.faults keeper.old ≤ K.faults keeper.new) × (O.faults results.old ≤ O.faults results.new) × (O.faults status.old ≤ O.faults status.new) }
 {
@@ -173,7 +175,9 @@ pub fn run_session<S: Source, K: Keeper, O: Sink, C: Clock>(
         configured_at,
         sealed,
     };
-    let mut last = match take_tick(basis, &mut state, feeds, sources, keeper, results, first) {
+    let mut last = match take_tick(
+        order, basis, &mut state, feeds, sources, keeper, results, first,
+    ) {
         Ok(last) => last,
         Err(refused) => return Err(told(basis.alloc, feeds, status, refused)),
     };
@@ -188,7 +192,9 @@ pub fn run_session<S: Source, K: Keeper, O: Sink, C: Clock>(
             configured_at: last,
             sealed,
         };
-        last = match take_tick(basis, &mut state, feeds, sources, keeper, results, tick) {
+        last = match take_tick(
+            order, basis, &mut state, feeds, sources, keeper, results, tick,
+        ) {
             Ok(last) => last,
             Err(refused) => return Err(told(basis.alloc, feeds, status, refused)),
         };

@@ -15,7 +15,7 @@ ghost use Rattle.replay_rounds.specs.declared.refused.RunError.{RunError};
 use crate::basis::Basis;
 use crate::refused::{Numbers, Refused, unfilled, unfinished};
 use batch_keeper::Keeper;
-use daemon_rounds::{fill_tick, finish_tick};
+use daemon_rounds::{TakesRound, fill_tick, finish_tick};
 use osq_outside::{Sink, Source};
 use session_state::State;
 use source_feeds::Feed;
@@ -32,12 +32,13 @@ pub struct Tick {
     pub sealed: Numbers,
 }
 
-/// A whole tick: it begins at its moment, the session is configured again where discovery is asked again, each source takes one step, each due
-/// query is answered, what is owed expires, and what the state gained is sealed and then told. It answers when the session was configured last.
+/// A whole tick: it begins at its moment, the session is configured again where discovery is asked again, each source takes one step and each due
+/// query is answered, in this order, what is owed expires, and what the state gained is sealed and then told. It answers when the session was configured last.
 ///
 /// SourceFault with the place of the source that failed; NumbersSpent where a number would pass 2^62; KeeperFault and SinkFault where the
 /// keeper or a sink failed.
-pub fn take_tick<S: Source, K: Keeper, O: Sink>(
+pub fn take_tick<T: TakesRound<S>, S: Source, K: Keeper, O: Sink>(
+    order: &T,
     basis: &Basis,
     state: &mut State,
     feeds: &mut [Feed],
@@ -46,24 +47,25 @@ pub fn take_tick<S: Source, K: Keeper, O: Sink>(
     results: &mut O,
     tick: Tick,
 ) -> Result<u64, Refused>
+    requires takes { T.takes order.now }
     requires bounded { IsBounded basis.now.configured.config }
     requires later { state.old.counts.moment ≤ tick.moment }
     requires calendar { tick.moment ≤ LAST_MOMENT }
     requires paired { length sources.old ≡ length feeds.old }
     requires ready { IsReady feeds.old tick.configured_at state.old }
     requires goes_on { GoesOn K.tells (K.kept keeper.old) state.old }
-    ensures done { IfOk result (λ last. IsTickOf K.Keeper O.Sink S.Source basis.now tick last keeper.old keeper.new results.old results.new feeds.old feeds.new sources.old sources.new state.old state.new) }
+    ensures done { IfOk result (λ last. IsTickOf T.order K.Keeper O.Sink S.Source basis.now tick last keeper.old keeper.new results.old results.new feeds.old feeds.new sources.old sources.new state.old state.new) }
     ensures ready { IfOk result (λ last. IsReady feeds.new last state.new) }
     ensures goes_on { IfOk result (λ last. GoesOn K.tells (K.kept keeper.new) state.new) }
-    ensures kept { K.tells → OnErr result (IsWholeTickOf K.Keeper S.Source basis.now tick keeper.old keeper.new feeds.old feeds.new sources.old sources.new state.old) }
-    ensures sealed { (refused : Refused) → result ≡ Err refused → refused.error ≡ RunError.SinkFault → IsSealedTickOf K.Keeper S.Source basis.now tick keeper.old keeper.new feeds.old feeds.new sources.old sources.new state.old state.new }
-    ensures partly { O.tells → (refused : Refused) → result ≡ Err refused → refused.error ≡ RunError.SinkFault → IsPartlyToldOf K.Keeper O.Sink S.Source basis.now tick keeper.old keeper.new results.old results.new feeds.old feeds.new sources.old sources.new state.old }
+    ensures kept { K.tells → OnErr result (IsWholeTickOf T.order K.Keeper S.Source basis.now tick keeper.old keeper.new feeds.old feeds.new sources.old sources.new state.old) }
+    ensures sealed { (refused : Refused) → result ≡ Err refused → refused.error ≡ RunError.SinkFault → IsSealedTickOf T.order K.Keeper S.Source basis.now tick keeper.old keeper.new feeds.old feeds.new sources.old sources.new state.old state.new }
+    ensures partly { O.tells → (refused : Refused) → result ≡ Err refused → refused.error ≡ RunError.SinkFault → IsPartlyToldOf T.order K.Keeper O.Sink S.Source basis.now tick keeper.old keeper.new results.old results.new feeds.old feeds.new sources.old sources.new state.old }
     ensures numbers { IfErr result (λ refused. refused.numbers ≡ Some (tick_numbers refused.error tick.sealed state.new)) }
     ensures counts { AllCount S.tells S.left feeds.old feeds.new sources.old }
     ensures unwritten { IfErr result (λ refused. refused.error ≢ RunError.SinkFault → results.new ≡ results.old) }
     ensures fault { (refused : Refused) (place : ℕ) → result ≡ Err refused → refused.error ≡ RunError.SourceFault place → FailsAt S.faults place sources.old sources.new }
     ensures opened { (refused : Refused) → result ≡ Err refused → (refused.error ≢ RunError.KeeperRefused) × ((moment : ℕ) → refused.error ≢ RunError.MomentTooLarge moment) × ((place kept found : ℕ) → refused.error ≢ RunError.SourceShrank place kept found) }
-    ensures spent { (refused : Refused) → result ≡ Err refused → refused.error ≡ RunError.NumbersSpent → SpendsTickOf S.Source basis.now tick feeds.old feeds.new sources.old sources.new state.old state.new }
+    ensures spent { (refused : Refused) → result ≡ Err refused → refused.error ≡ RunError.NumbersSpent → SpendsTickOf T.order S.Source basis.now tick feeds.old feeds.new sources.old sources.new state.old state.new }
     ensures unkept { K.tells → (refused : Refused) → result ≡ Err refused → refused.error ≢ RunError.KeeperFault → refused.error ≢ RunError.SinkFault → K.kept keeper.new ≡ K.kept keeper.old }
     ensures keeper_cause { (refused : Refused) → result ≡ Err refused → refused.error ≡ RunError.KeeperFault → Rose (K.faults keeper.old) (K.faults keeper.new) }
     ensures sink_cause { (refused : Refused) → result ≡ Err refused → refused.error ≡ RunError.SinkFault → Rose (O.faults results.old) (O.faults results.new) }
@@ -72,6 +74,7 @@ pub fn take_tick<S: Source, K: Keeper, O: Sink>(
     let form = state.form();
     let last = match fill_tick(
         basis.alloc,
+        order,
         &basis.setup,
         &basis.configured,
         state,

@@ -14,7 +14,9 @@ use Rattle.entry_model.specs.declared.entry.Entry.TheVariants.{Ticked}
 use Rattle.entry_model.specs.Legal.{Legal}
 use Rattle.entry_model.specs.Values.{taken_from}
 use Rattle.session_model.specs.Given.{Given, Source}
+use Rattle.session_model.specs.Orders.{Order, in_turn, at_once}
 use Rattle.replay_rounds.specs.Fixed.{Fixed, Run}
+use Rattle.replay_rounds.specs.FullTicks.{HasFullTick}
 use Rattle.replay_rounds.specs.Running.{HasMore, HasRun, run_by}
 use Rattle.replay_rounds.specs.Sources.{HadFullSteps, HasFullStep, IsUnended}
 use Rattle.replay_rounds.specs.declared.running.Ended.{Ended}
@@ -54,14 +56,19 @@ one_full Is given kept (first ∷ sources) taken (own, rest, (step, are, inr beh
     let (source, among, is) = one_full Is given (kept ++ own) sources rest behind in
     (source, later first sources source among, is)
 
+-- in a tick of either order
+one_full_in : (order : Order) (Is : Source → Type 0) (tells : Type 0) (given : Given) (kept : List Entry) (moment : ℕ) (entries : List Entry) → HasFullTick order Is tells given kept moment entries → (source : Source) × Contains given.sources source × Is source
+one_full_in in_turn Is tells given kept moment entries (tick, full) = one_full Is given (kept ++ (Ticked moment ∷ tick.configured)) given.sources tick.taken full
+one_full_in at_once Is tells given kept moment entries (tick, (source, among, is, full)) = (source, among, is)
+
 pub had_few : (x : Fixed) (ticks : ℕ) (kept : List Entry) → 1 ≤ x.given.records → HasMore x ticks kept → HadFewTicks x.given x.start ticks
 had_few x ticks kept some more =
-    let (source, among, is) = one_full (IsUnended x.source_tells x.given.config.categories x.given.records ticks x.start kept) x.given (more.before ++ (Ticked more.moment ∷ more.tick.configured)) x.given.sources more.tick.taken more.full in
+    let (source, among, is) = one_full_in x.order (IsUnended x.source_tells x.given.config.categories x.given.records ticks x.start kept) x.source_tells x.given more.before more.moment more.last more.full in
     record { source = source; among = among; few = full_few x.given.config.categories x.given.records ticks x.start source some (is.full some) }
 
 pub few_ticks : (tells : Type 0) → FewTicks tells
-few_ticks tells given start kept ticks written some more =
-    had_few (fixed_by (Unit {0}) (Unit {0}) tells given start written) ticks kept some more
+few_ticks tells order given start kept ticks written some more =
+    had_few (fixed_by order (Unit {0}) (Unit {0}) tells given start written) ticks kept some more
 
 -- a run that isn't at the ends of its sources had too few ticks for one of them
 pub is_end : (ran : Run) (ticks : ℕ) (kept : List Entry) (written : List ℕ) (ended : Ended) → HasRun ran ticks kept written ended → ran.fixed.keeper_tells → ran.fixed.source_tells → Legal ran.fixed.start → 1 ≤ ran.fixed.given.records → All (AreEnough ran.fixed.given.records ran.fixed.start ticks) ran.fixed.given.sources → ended.is_end ≡ true
@@ -75,5 +82,5 @@ is_end ran ticks kept written ended run kept_told told legal some enough = by_en
       absurd (omega (arith, few, many))
 
 pub reads_whole : {C : Type 0} (keeper_tells sink_tells source_tells : Type 0) (reads : C → ℕ → C → Type 0) → ReadsWhole keeper_tells sink_tells source_tells reads
-reads_whole keeper_tells sink_tells source_tells reads given start kept before after clock now ticks ended kept_told told legal some run enough =
-    is_end (run_by (fixed_by keeper_tells sink_tells source_tells given start before) reads clock now) ticks kept after ended run kept_told told legal some enough
+reads_whole keeper_tells sink_tells source_tells reads order given start kept before after clock now ticks ended kept_told told legal some run enough =
+    is_end (run_by (fixed_by order keeper_tells sink_tells source_tells given start before) reads clock now) ticks kept after ended run kept_told told legal some enough

@@ -1,17 +1,18 @@
--- The laws of whole sessions.
+-- The laws of whole sessions, in either order of their ticks.
 use Rattle.std.specs.Prelude.{◌≡◌, ℕ, ◌≤◌, ◌<◌, true, All, Contains, List}
 use Rattle.entry_model.specs.declared.entry.Entry.{Entry}
 use Rattle.entry_model.specs.Legal.{Legal}
 use Rattle.session_model.specs.Given.{Given, Source}
+use Rattle.session_model.specs.Orders.{Order}
 use Rattle.replay_rounds.specs.Fixed.{Fixed}
 use Rattle.replay_rounds.specs.Running.{HasMore, HasRun, run_by}
 use Rattle.replay_rounds.specs.declared.running.Ended.{Ended}
 use Rattle.session_laws.specs.Enough.{AreEnough, enough_for}
 
--- a session of these over this list; whatever the keeper and the sink tell
-abbrev pub fixed_by : Type 0 → Type 0 → Type 0 → Given → List Entry → List ℕ → Fixed
-fixed_by keeper_tells sink_tells source_tells given start written =
-    record { keeper_tells = keeper_tells; sink_tells = sink_tells; source_tells = source_tells; given = given; start = start; written = written }
+-- a session of these over this list, in this order; whatever the keeper and the sink tell
+abbrev pub fixed_by : Order → Type 0 → Type 0 → Type 0 → Given → List Entry → List ℕ → Fixed
+fixed_by order keeper_tells sink_tells source_tells given start written =
+    record { order = order; keeper_tells = keeper_tells; sink_tells = sink_tells; source_tells = source_tells; given = given; start = start; written = written }
 
 -- A session ended with its ticks, and one of its sources had more: so there were fewer ticks than are enough for it.
 pub record HadFewTicks (given : Given) (start : List Entry) (ticks : ℕ) : Type 0 where
@@ -21,10 +22,10 @@ pub record HadFewTicks (given : Given) (start : List Entry) (ticks : ℕ) : Type
 
 abbrev pub FewTicks : Type 0 → Type 0
 FewTicks tells =
-    (given : Given) (start kept : List Entry) (ticks : ℕ) (written : List ℕ) → 1 ≤ given.records → HasMore (fixed_by (Unit {0}) (Unit {0}) tells given start written) ticks kept → HadFewTicks given start ticks
+    (order : Order) (given : Given) (start kept : List Entry) (ticks : ℕ) (written : List ℕ) → 1 ≤ given.records → HasMore (fixed_by order (Unit {0}) (Unit {0}) tells given start written) ticks kept → HadFewTicks given start ticks
 
 -- So a run whose ticks are enough for each of its sources reads all of them to their ends.
 abbrev pub ReadsWhole : {C : Type 0} → Type 0 → Type 0 → Type 0 → (C → ℕ → C → Type 0) → Type 0
 ReadsWhole {C} keeper_tells sink_tells source_tells reads =
-    (given : Given) (start kept : List Entry) (before after : List ℕ) (clock now : C) (ticks : ℕ) (ended : Ended) → keeper_tells → source_tells → Legal start → 1 ≤ given.records
-    → HasRun (run_by (fixed_by keeper_tells sink_tells source_tells given start before) reads clock now) ticks kept after ended → All (AreEnough given.records start ticks) given.sources → ended.is_end ≡ true
+    (order : Order) (given : Given) (start kept : List Entry) (before after : List ℕ) (clock now : C) (ticks : ℕ) (ended : Ended) → keeper_tells → source_tells → Legal start → 1 ≤ given.records
+    → HasRun (run_by (fixed_by order keeper_tells sink_tells source_tells given start before) reads clock now) ticks kept after ended → All (AreEnough given.records start ticks) given.sources → ended.is_end ≡ true

@@ -1,6 +1,7 @@
 pub mod Configuring
 pub mod Given
 pub mod Laws
+pub mod Orders
 pub mod Sessions
 pub mod Taking
 pub mod Ticking

@@ -20,7 +20,8 @@ returns-in-Err-clause-spent g c is =
     record {
       ticked = c.begin_tick.new.state;
       ticks = subst (λ (moment : ℕ). AddsEntries c.args.state.now (Ticked moment ∷ []) c.begin_tick.new.state) latest c.in-Ok.ensures.ticked;
+      free = c.in-Ok.ensures.free;
       configured = c.configure_again.new.state;
       again = c.in-Ok-configure_again.ensures.again;
-      overflows = c.take_round.ensures.spent (c.in-Err.is ∙ ap Err spent);
+      overflows = c.round.ensures.spent (c.in-Err.is ∙ ap Err spent);
     }

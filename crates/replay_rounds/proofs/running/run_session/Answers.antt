@@ -67,7 +67,7 @@ pub returns-in-Err-open_noted-clause-spent : goal.returns-in-Err-open_noted-clau
 returns-in-Err-open_noted-clause-spent g c refused is error =
     let same : c.in-Err-open_noted.refused ≡ refused = same_refusal _ _ is in
     let (reading, read) = c.in-Err-open_noted.ensures.read in
-    spent_nowhere _ _ _ _ _ _ _ _ _ _ _ _ _ c.open_noted.new.clock reading c.in-Ok.restored (g.K.Keeper.kept c.load_values.new.keeper) c.open_noted.new.sources read c.in-Ok.ensures.value c.in-Ok.ensures.same c.requires.distinct (c.open_noted.ensures.spent c.in-Err-open_noted.refused c.in-Err-open_noted.is (ap (λ (r : Refused). r.error) same ∙ error))
+    spent_nowhere _ _ _ _ _ _ _ _ _ _ _ _ _ _ c.open_noted.new.clock reading c.in-Ok.restored (g.K.Keeper.kept c.load_values.new.keeper) c.open_noted.new.sources read c.in-Ok.ensures.value c.in-Ok.ensures.same c.requires.distinct (c.open_noted.ensures.spent c.in-Err-open_noted.refused c.in-Err-open_noted.is (ap (λ (r : Refused). r.error) same ∙ error))
 
 pub take_tick-requires-clause-goes_on : goal.take_tick-requires-clause-goes_on
 take_tick-requires-clause-goes_on g c κs within =
@@ -76,18 +76,18 @@ take_tick-requires-clause-goes_on g c κs within =
 pub returns-in-Err-take_tick-clause-kept : goal.returns-in-Err-take_tick-clause-kept
 returns-in-Err-take_tick-clause-kept g c told =
     let kept_is = c.in-Ok.ensures.same in
-    let opens = opens_here _ _ _ _ _ _ _ _ _ _ _ _ _ c.open_noted.new.clock c.in-Ok.restored (g.K.Keeper.kept c.load_values.new.keeper) c.in-Ok-open_noted.session.feeds.items c.as_mut_slice-feeds.result.now c.open_noted.new.sources c.in-Ok-open_noted.session.configured_at c.in-Ok-open_noted.session.state c.in-Ok.ensures.value kept_is c.requires.distinct c.in-Ok-open_noted.ensures.opened c.as_mut_slice-feeds.ensures.value in
+    let opens = opens_here _ _ _ _ _ _ _ _ _ _ _ _ _ _ c.open_noted.new.clock c.in-Ok.restored (g.K.Keeper.kept c.load_values.new.keeper) c.in-Ok-open_noted.session.feeds.items c.as_mut_slice-feeds.result.now c.open_noted.new.sources c.in-Ok-open_noted.session.configured_at c.in-Ok-open_noted.session.state c.in-Ok.ensures.value kept_is c.requires.distinct c.in-Ok-open_noted.ensures.opened c.as_mut_slice-feeds.ensures.value in
     let going = subst (λ (feeds : List Feeding). AreGoing c.in-Ok-open_noted.session.state.counts.taken feeds) (sym c.as_mut_slice-feeds.ensures.value) c.in-Ok-open_noted.ensures.going in
-    kept_first _ _ _ _ _ _ _ _ _ _ _ _ _ c.open_noted.new.clock (g.K.Keeper.kept c.load_values.new.keeper) (g.K.Keeper.kept c.take_tick.new.keeper) (g.O.Sink.written c.take_tick.new.results) c.as_mut_slice-feeds.result.now c.take_tick.new.feeds c.open_noted.new.sources c.take_tick.new.sources c.in-Ok-open_noted.session.configured_at c.in-Ok-open_noted.session.state c.args.basis.now.configured.notes c.requires.configuration opens.0 going kept_is (c.in-Err-take_tick.ensures.kept told) told
+    kept_first _ _ _ _ _ _ _ _ _ _ _ _ _ _ c.open_noted.new.clock (g.K.Keeper.kept c.load_values.new.keeper) (g.K.Keeper.kept c.take_tick.new.keeper) (g.O.Sink.written c.take_tick.new.results) c.as_mut_slice-feeds.result.now c.take_tick.new.feeds c.open_noted.new.sources c.take_tick.new.sources c.in-Ok-open_noted.session.configured_at c.in-Ok-open_noted.session.state c.args.basis.now.configured.notes c.requires.configuration opens.0 going kept_is (c.in-Err-take_tick.ensures.kept told) told
 
 pub returns-in-Err-take_tick-clause-written : goal.returns-in-Err-take_tick-clause-written
 returns-in-Err-take_tick-clause-written g c told =
     let kept_is = c.in-Ok.ensures.same in
-    let opens = opens_here _ _ _ _ _ _ _ _ _ _ _ _ _ c.open_noted.new.clock c.in-Ok.restored (g.K.Keeper.kept c.load_values.new.keeper) c.in-Ok-open_noted.session.feeds.items c.as_mut_slice-feeds.result.now c.open_noted.new.sources c.in-Ok-open_noted.session.configured_at c.in-Ok-open_noted.session.state c.in-Ok.ensures.value kept_is c.requires.distinct c.in-Ok-open_noted.ensures.opened c.as_mut_slice-feeds.ensures.value in
+    let opens = opens_here _ _ _ _ _ _ _ _ _ _ _ _ _ _ c.open_noted.new.clock c.in-Ok.restored (g.K.Keeper.kept c.load_values.new.keeper) c.in-Ok-open_noted.session.feeds.items c.as_mut_slice-feeds.result.now c.open_noted.new.sources c.in-Ok-open_noted.session.configured_at c.in-Ok-open_noted.session.state c.in-Ok.ensures.value kept_is c.requires.distinct c.in-Ok-open_noted.ensures.opened c.as_mut_slice-feeds.ensures.value in
     let going = subst (λ (feeds : List Feeding). AreGoing c.in-Ok-open_noted.session.state.counts.taken feeds) (sym c.as_mut_slice-feeds.ensures.value) c.in-Ok-open_noted.ensures.going in
     by_sink c.in-Err-take_tick.refused.error _ (g.K.Keeper.kept c.take_tick.new.keeper) (g.O.Sink.written c.take_tick.new.results)
-    (λ is. partly_first _ _ _ _ _ _ _ _ _ _ _ _ _ c.open_noted.new.clock (g.K.Keeper.kept c.load_values.new.keeper) (g.K.Keeper.kept c.take_tick.new.keeper) (g.O.Sink.written c.take_tick.new.results) c.as_mut_slice-feeds.result.now c.take_tick.new.feeds c.open_noted.new.sources c.take_tick.new.sources c.in-Ok-open_noted.session.configured_at c.in-Ok-open_noted.session.state c.args.basis.now.configured.notes c.requires.configuration opens.0 going kept_is (c.take_tick.ensures.partly told c.in-Err-take_tick.refused c.in-Err-take_tick.is is))
-    (λ other. unwritten_first _ _ _ _ _ _ _ _ _ _ _ _ _ c.open_noted.new.clock (g.K.Keeper.kept c.load_values.new.keeper) (g.K.Keeper.kept c.take_tick.new.keeper) (g.O.Sink.written c.take_tick.new.results) c.as_mut_slice-feeds.result.now c.take_tick.new.feeds c.open_noted.new.sources c.take_tick.new.sources c.in-Ok-open_noted.session.configured_at c.in-Ok-open_noted.session.state c.args.basis.now.configured.notes c.requires.configuration opens.0 going kept_is c.in-Err-take_tick.ensures.kept (g.O.Sink.written c.take_tick.new.results) (ap g.O.Sink.written (c.in-Err-take_tick.ensures.unwritten other)))
+    (λ is. partly_first _ _ _ _ _ _ _ _ _ _ _ _ _ _ c.open_noted.new.clock (g.K.Keeper.kept c.load_values.new.keeper) (g.K.Keeper.kept c.take_tick.new.keeper) (g.O.Sink.written c.take_tick.new.results) c.as_mut_slice-feeds.result.now c.take_tick.new.feeds c.open_noted.new.sources c.take_tick.new.sources c.in-Ok-open_noted.session.configured_at c.in-Ok-open_noted.session.state c.args.basis.now.configured.notes c.requires.configuration opens.0 going kept_is (c.take_tick.ensures.partly told c.in-Err-take_tick.refused c.in-Err-take_tick.is is))
+    (λ other. unwritten_first _ _ _ _ _ _ _ _ _ _ _ _ _ _ c.open_noted.new.clock (g.K.Keeper.kept c.load_values.new.keeper) (g.K.Keeper.kept c.take_tick.new.keeper) (g.O.Sink.written c.take_tick.new.results) c.as_mut_slice-feeds.result.now c.take_tick.new.feeds c.open_noted.new.sources c.take_tick.new.sources c.in-Ok-open_noted.session.configured_at c.in-Ok-open_noted.session.state c.args.basis.now.configured.notes c.requires.configuration opens.0 going kept_is c.in-Err-take_tick.ensures.kept (g.O.Sink.written c.take_tick.new.results) (ap g.O.Sink.written (c.in-Err-take_tick.ensures.unwritten other)))
 
 pub returns-in-Err-take_tick-clause-keeper_cause : goal.returns-in-Err-take_tick-clause-keeper_cause
 returns-in-Err-take_tick-clause-keeper_cause g c refused is error =
@@ -116,7 +116,7 @@ returns-in-Err-take_tick-clause-fault g c refused place is error =
     let same : c.in-Err-take_tick.refused ≡ refused = sym c.told.ensures.same ∙ same_refusal _ _ is in
     let failed = c.take_tick.ensures.fault c.in-Err-take_tick.refused place c.in-Err-take_tick.is (ap (λ (r : Refused). r.error) same ∙ error) in
     let kept_is = c.in-Ok.ensures.same in
-    let opens = opens_here _ g.O.Sink.tells _ _ _ _ _ _ _ _ (g.O.Sink.written c.args.results.now) _ _ c.open_noted.new.clock c.in-Ok.restored (g.K.Keeper.kept c.load_values.new.keeper) c.in-Ok-open_noted.session.feeds.items c.as_mut_slice-feeds.result.now c.open_noted.new.sources c.in-Ok-open_noted.session.configured_at c.in-Ok-open_noted.session.state c.in-Ok.ensures.value kept_is c.requires.distinct c.in-Ok-open_noted.ensures.opened c.as_mut_slice-feeds.ensures.value in
+    let opens = opens_here g.T.TakesRound.order _ g.O.Sink.tells _ _ _ _ _ _ _ _ (g.O.Sink.written c.args.results.now) _ _ c.open_noted.new.clock c.in-Ok.restored (g.K.Keeper.kept c.load_values.new.keeper) c.in-Ok-open_noted.session.feeds.items c.as_mut_slice-feeds.result.now c.open_noted.new.sources c.in-Ok-open_noted.session.configured_at c.in-Ok-open_noted.session.state c.in-Ok.ensures.value kept_is c.requires.distinct c.in-Ok-open_noted.ensures.opened c.as_mut_slice-feeds.ensures.value in
     let going = subst (λ (feeds : List Feeding). AreGoing c.in-Ok-open_noted.session.state.counts.taken feeds) (sym c.as_mut_slice-feeds.ensures.value) c.in-Ok-open_noted.ensures.going in
     fails_since g.S.Source.faults place c.args.sources.now c.open_noted.new.sources c.take_tick.new.sources opens.1 failed
 
@@ -130,9 +130,9 @@ returns-in-Err-take_tick-clause-spent g c refused is error =
     let same : c.in-Err-take_tick.refused ≡ refused = sym c.told.ensures.same ∙ same_refusal _ _ is in
     let why = ap (λ (r : Refused). r.error) same ∙ error in
     let kept_is = c.in-Ok.ensures.same in
-    let opens = opens_here _ _ _ _ _ _ _ _ _ _ _ _ _ c.open_noted.new.clock c.in-Ok.restored (g.K.Keeper.kept c.load_values.new.keeper) c.in-Ok-open_noted.session.feeds.items c.as_mut_slice-feeds.result.now c.open_noted.new.sources c.in-Ok-open_noted.session.configured_at c.in-Ok-open_noted.session.state c.in-Ok.ensures.value kept_is c.requires.distinct c.in-Ok-open_noted.ensures.opened c.as_mut_slice-feeds.ensures.value in
+    let opens = opens_here _ _ _ _ _ _ _ _ _ _ _ _ _ _ c.open_noted.new.clock c.in-Ok.restored (g.K.Keeper.kept c.load_values.new.keeper) c.in-Ok-open_noted.session.feeds.items c.as_mut_slice-feeds.result.now c.open_noted.new.sources c.in-Ok-open_noted.session.configured_at c.in-Ok-open_noted.session.state c.in-Ok.ensures.value kept_is c.requires.distinct c.in-Ok-open_noted.ensures.opened c.as_mut_slice-feeds.ensures.value in
     let going = subst (λ (feeds : List Feeding). AreGoing c.in-Ok-open_noted.session.state.counts.taken feeds) (sym c.as_mut_slice-feeds.ensures.value) c.in-Ok-open_noted.ensures.going in
-    spent_first _ _ _ _ _ _ _ _ _ _ _ _ _ c.open_noted.new.clock (g.K.Keeper.kept c.load_values.new.keeper) (g.K.Keeper.kept c.take_tick.new.keeper) c.as_mut_slice-feeds.result.now c.take_tick.new.feeds c.open_noted.new.sources c.take_tick.new.sources c.in-Ok-open_noted.session.configured_at c.in-Ok-open_noted.session.state c.take_tick.new.state opens.0 going.distinct
+    spent_first _ _ _ _ _ _ _ _ _ _ _ _ _ _ c.open_noted.new.clock (g.K.Keeper.kept c.load_values.new.keeper) (g.K.Keeper.kept c.take_tick.new.keeper) c.as_mut_slice-feeds.result.now c.take_tick.new.feeds c.open_noted.new.sources c.take_tick.new.sources c.in-Ok-open_noted.session.configured_at c.in-Ok-open_noted.session.state c.take_tick.new.state opens.0 going.distinct
     (λ tells. c.take_tick.ensures.unkept tells c.in-Err-take_tick.refused c.in-Err-take_tick.is (spent_not_keeper _ why) (spent_not_sink _ why) ∙ kept_is tells) (c.take_tick.ensures.spent c.in-Err-take_tick.refused c.in-Err-take_tick.is why)
 
 pub returns-in-Err-take_tick-clause-sink_cause : goal.returns-in-Err-take_tick-clause-sink_cause
@@ -147,21 +147,21 @@ returns-in-Err-take_tick-clause-notes g c tells =
 pub loop-init : goal.loop-init
 loop-init g c =
     let kept_is = c.in-Ok.ensures.same in
-    let opens = opens_here _ _ _ _ _ _ _ _ _ _ _ _ _ c.open_noted.new.clock c.in-Ok.restored (g.K.Keeper.kept c.load_values.new.keeper) c.in-Ok-open_noted.session.feeds.items c.as_mut_slice-feeds.result.now c.open_noted.new.sources c.in-Ok-open_noted.session.configured_at c.in-Ok-open_noted.session.state c.in-Ok.ensures.value kept_is c.requires.distinct c.in-Ok-open_noted.ensures.opened c.as_mut_slice-feeds.ensures.value in
+    let opens = opens_here _ _ _ _ _ _ _ _ _ _ _ _ _ _ c.open_noted.new.clock c.in-Ok.restored (g.K.Keeper.kept c.load_values.new.keeper) c.in-Ok-open_noted.session.feeds.items c.as_mut_slice-feeds.result.now c.open_noted.new.sources c.in-Ok-open_noted.session.configured_at c.in-Ok-open_noted.session.state c.in-Ok.ensures.value kept_is c.requires.distinct c.in-Ok-open_noted.ensures.opened c.as_mut_slice-feeds.ensures.value in
     let going = subst (λ (feeds : List Feeding). AreGoing c.in-Ok-open_noted.session.state.counts.taken feeds) (sym c.as_mut_slice-feeds.ensures.value) c.in-Ok-open_noted.ensures.going in
     let loaded = c.load_values.ensures.later in
     let ticked = c.take_tick.ensures.later in
     let keeper_first = ticked.0 in
     let results_first = ticked.1 in
     record {
-      looping = looped_first _ _ _ _ _ _ _ _ _ _ _ _ _ c.open_noted.new.clock (g.K.Keeper.kept c.load_values.new.keeper) (g.K.Keeper.kept c.take_tick.new.keeper) (g.O.Sink.written c.take_tick.new.results) c.as_mut_slice-feeds.result.now c.take_tick.new.feeds c.open_noted.new.sources c.take_tick.new.sources c.in-Ok-open_noted.session.configured_at c.in-Ok-open_noted.session.state c.args.basis.now.configured.notes c.requires.configuration opens.0 going kept_is c.in-Ok-take_tick.last c.take_tick.new.state c.in-Ok-take_tick.ensures.done opens.1;
+      looping = looped_first _ _ _ _ _ _ _ _ _ _ _ _ _ _ c.open_noted.new.clock (g.K.Keeper.kept c.load_values.new.keeper) (g.K.Keeper.kept c.take_tick.new.keeper) (g.O.Sink.written c.take_tick.new.results) c.as_mut_slice-feeds.result.now c.take_tick.new.feeds c.open_noted.new.sources c.take_tick.new.sources c.in-Ok-open_noted.session.configured_at c.in-Ok-open_noted.session.state c.args.basis.now.configured.notes c.requires.configuration opens.0 going kept_is c.in-Ok-take_tick.last c.take_tick.new.state c.in-Ok-take_tick.ensures.done opens.1;
       ready = c.in-Ok-take_tick.ensures.ready;
       goes_on = c.in-Ok-take_tick.ensures.goes_on;
       keeper_later = omega (arith, loaded, keeper_first);
       results_later = results_first;
       status_later = c.open_noted.ensures.later;
       noted = c.open_noted.ensures.grown;
-      told = λ tells. noted_so (fixed_of g.K.Keeper g.O.Sink g.S.Source c.args.basis.now c.args.sources.now c.args.keeper.now c.args.results.now) c.args.basis.now.configured.notes (g.O.Sink.written c.args.status.now) ((record { list = (g.K.Keeper.kept c.args.keeper.now) ++ (Opened opens.0.number ∷ opens.0.tables); moment = c.in-Ok-open_noted.session.configured_at }) ∷ []) _ _ (counted_first _ _ _ _ _ _ _ _ _ _ _ _ _ c.open_noted.new.clock (g.K.Keeper.kept c.load_values.new.keeper) (g.K.Keeper.kept c.take_tick.new.keeper) (g.O.Sink.written c.take_tick.new.results) c.as_mut_slice-feeds.result.now c.take_tick.new.feeds c.open_noted.new.sources c.take_tick.new.sources c.in-Ok-open_noted.session.configured_at c.in-Ok-open_noted.session.state c.args.basis.now.configured.notes c.requires.configuration opens.0 going kept_is c.in-Ok-take_tick.last c.take_tick.new.state c.in-Ok-take_tick.ensures.done opens.1) (noted_first (fixed_of g.K.Keeper g.O.Sink g.S.Source c.args.basis.now c.args.sources.now c.args.keeper.now c.args.results.now) c.args.basis.now.configured.notes (g.O.Sink.written c.args.status.now) (record { list = (g.K.Keeper.kept c.args.keeper.now) ++ (Opened opens.0.number ∷ opens.0.tables); moment = c.in-Ok-open_noted.session.configured_at }) c.in-Ok-open_noted.session.found.items (g.O.Sink.written c.open_noted.new.status) (found_first _ _ _ _ g.S.Source.faults c.args.basis.now.setup _ _ _ _ _ _ _ c.open_noted.new.clock (g.K.Keeper.kept c.load_values.new.keeper) (g.K.Keeper.kept c.take_tick.new.keeper) (g.O.Sink.written c.take_tick.new.results) c.as_mut_slice-feeds.result.now c.take_tick.new.feeds c.open_noted.new.sources c.take_tick.new.sources c.in-Ok-open_noted.session.configured_at c.in-Ok-open_noted.session.state c.args.basis.now.configured.notes c.requires.configuration opens.0 going kept_is c.in-Ok.restored c.in-Ok-open_noted.session.found.items c.in-Ok.ensures.value c.in-Ok-open_noted.ensures.found) (c.in-Ok-open_noted.ensures.noted tells));
+      told = λ tells. noted_so (fixed_of g.T.TakesRound.order g.K.Keeper g.O.Sink g.S.Source c.args.basis.now c.args.sources.now c.args.keeper.now c.args.results.now) c.args.basis.now.configured.notes (g.O.Sink.written c.args.status.now) ((record { list = (g.K.Keeper.kept c.args.keeper.now) ++ (Opened opens.0.number ∷ opens.0.tables); moment = c.in-Ok-open_noted.session.configured_at }) ∷ []) _ _ (counted_first _ _ _ _ _ _ _ _ _ _ _ _ _ _ c.open_noted.new.clock (g.K.Keeper.kept c.load_values.new.keeper) (g.K.Keeper.kept c.take_tick.new.keeper) (g.O.Sink.written c.take_tick.new.results) c.as_mut_slice-feeds.result.now c.take_tick.new.feeds c.open_noted.new.sources c.take_tick.new.sources c.in-Ok-open_noted.session.configured_at c.in-Ok-open_noted.session.state c.args.basis.now.configured.notes c.requires.configuration opens.0 going kept_is c.in-Ok-take_tick.last c.take_tick.new.state c.in-Ok-take_tick.ensures.done opens.1) (noted_first (fixed_of g.T.TakesRound.order g.K.Keeper g.O.Sink g.S.Source c.args.basis.now c.args.sources.now c.args.keeper.now c.args.results.now) c.args.basis.now.configured.notes (g.O.Sink.written c.args.status.now) (record { list = (g.K.Keeper.kept c.args.keeper.now) ++ (Opened opens.0.number ∷ opens.0.tables); moment = c.in-Ok-open_noted.session.configured_at }) c.in-Ok-open_noted.session.found.items (g.O.Sink.written c.open_noted.new.status) (found_first _ _ _ _ _ g.S.Source.faults c.args.basis.now.setup _ _ _ _ _ _ _ c.open_noted.new.clock (g.K.Keeper.kept c.load_values.new.keeper) (g.K.Keeper.kept c.take_tick.new.keeper) (g.O.Sink.written c.take_tick.new.results) c.as_mut_slice-feeds.result.now c.take_tick.new.feeds c.open_noted.new.sources c.take_tick.new.sources c.in-Ok-open_noted.session.configured_at c.in-Ok-open_noted.session.state c.args.basis.now.configured.notes c.requires.configuration opens.0 going kept_is c.in-Ok.restored c.in-Ok-open_noted.session.found.items c.in-Ok.ensures.value c.in-Ok-open_noted.ensures.found) (c.in-Ok-open_noted.ensures.noted tells));
     }
 
 pub returns-in-Err-next_moment-clause-kept : goal.returns-in-Err-next_moment-clause-kept
@@ -172,7 +172,7 @@ returns-in-Err-next_moment-clause-kept g c told =
 
 pub returns-in-Err-next_moment-clause-written : goal.returns-in-Err-next_moment-clause-written
 returns-in-Err-next_moment-clause-written g c told =
-    still_written _ _ _ _ _ _ _ _ _ _ _ _ _ c.loop.clock c.loop.counter (g.K.Keeper.kept c.loop.keeper) (g.O.Sink.written c.loop.results) c.loop.feeds c.loop.sources c.loop.last c.loop.state c.loop.invariant.looping told
+    still_written _ _ _ _ _ _ _ _ _ _ _ _ _ _ c.loop.clock c.loop.counter (g.K.Keeper.kept c.loop.keeper) (g.O.Sink.written c.loop.results) c.loop.feeds c.loop.sources c.loop.last c.loop.state c.loop.invariant.looping told
 
 pub returns-in-Err-next_moment-clause-keeper_cause : goal.returns-in-Err-next_moment-clause-keeper_cause
 returns-in-Err-next_moment-clause-keeper_cause g c refused is error =
@@ -240,13 +240,13 @@ take_tick-requires-in-loop-clause-goes_on g c κs within =
 
 pub returns-in-Err-take_tick-2-clause-kept : goal.returns-in-Err-take_tick-2-clause-kept
 returns-in-Err-take_tick-2-clause-kept g c told =
-    kept_on _ _ _ _ _ _ _ _ _ _ _ _ _ c.loop.clock c.next_moment.new.clock c.loop.counter (g.K.Keeper.kept c.loop.keeper) (g.K.Keeper.kept c.take_tick-in-loop.new.keeper) (g.O.Sink.written c.loop.results) c.loop.feeds c.take_tick-in-loop.new.feeds c.loop.sources c.take_tick-in-loop.new.sources c.loop.last c.in-Ok-next_moment.moment c.loop.state c.loop.invariant.looping c.loop.invariant.ready.going c.in-Ok-next_moment.ensures.read (c.in-Err-take_tick-2.ensures.kept told) told
+    kept_on _ _ _ _ _ _ _ _ _ _ _ _ _ _ c.loop.clock c.next_moment.new.clock c.loop.counter (g.K.Keeper.kept c.loop.keeper) (g.K.Keeper.kept c.take_tick-in-loop.new.keeper) (g.O.Sink.written c.loop.results) c.loop.feeds c.take_tick-in-loop.new.feeds c.loop.sources c.take_tick-in-loop.new.sources c.loop.last c.in-Ok-next_moment.moment c.loop.state c.loop.invariant.looping c.loop.invariant.ready.going c.in-Ok-next_moment.ensures.read (c.in-Err-take_tick-2.ensures.kept told) told
 
 pub returns-in-Err-take_tick-2-clause-written : goal.returns-in-Err-take_tick-2-clause-written
 returns-in-Err-take_tick-2-clause-written g c told =
     by_sink c.in-Err-take_tick-2.refused.error _ (g.K.Keeper.kept c.take_tick-in-loop.new.keeper) (g.O.Sink.written c.take_tick-in-loop.new.results)
-    (λ is. partly_on _ _ _ _ _ _ _ _ _ _ _ _ _ c.loop.clock c.next_moment.new.clock c.loop.counter (g.K.Keeper.kept c.loop.keeper) (g.K.Keeper.kept c.take_tick-in-loop.new.keeper) (g.O.Sink.written c.loop.results) c.loop.feeds c.take_tick-in-loop.new.feeds c.loop.sources c.take_tick-in-loop.new.sources c.loop.last c.in-Ok-next_moment.moment c.loop.state c.loop.invariant.looping c.loop.invariant.ready.going c.in-Ok-next_moment.ensures.read (g.O.Sink.written c.take_tick-in-loop.new.results) (c.take_tick-in-loop.ensures.partly told c.in-Err-take_tick-2.refused c.in-Err-take_tick-2.is is) told)
-    (λ other. subst (IsWritten _ (g.K.Keeper.kept c.take_tick-in-loop.new.keeper)) (sym (ap g.O.Sink.written (c.in-Err-take_tick-2.ensures.unwritten other))) (written_on _ _ _ _ _ _ _ _ _ _ _ _ _ c.loop.clock c.next_moment.new.clock c.loop.counter (g.K.Keeper.kept c.loop.keeper) (g.K.Keeper.kept c.take_tick-in-loop.new.keeper) (g.O.Sink.written c.loop.results) c.loop.feeds c.take_tick-in-loop.new.feeds c.loop.sources c.take_tick-in-loop.new.sources c.loop.last c.in-Ok-next_moment.moment c.loop.state c.loop.invariant.looping c.loop.invariant.ready.going c.in-Ok-next_moment.ensures.read c.in-Err-take_tick-2.ensures.kept told))
+    (λ is. partly_on _ _ _ _ _ _ _ _ _ _ _ _ _ _ c.loop.clock c.next_moment.new.clock c.loop.counter (g.K.Keeper.kept c.loop.keeper) (g.K.Keeper.kept c.take_tick-in-loop.new.keeper) (g.O.Sink.written c.loop.results) c.loop.feeds c.take_tick-in-loop.new.feeds c.loop.sources c.take_tick-in-loop.new.sources c.loop.last c.in-Ok-next_moment.moment c.loop.state c.loop.invariant.looping c.loop.invariant.ready.going c.in-Ok-next_moment.ensures.read (g.O.Sink.written c.take_tick-in-loop.new.results) (c.take_tick-in-loop.ensures.partly told c.in-Err-take_tick-2.refused c.in-Err-take_tick-2.is is) told)
+    (λ other. subst (IsWritten _ (g.K.Keeper.kept c.take_tick-in-loop.new.keeper)) (sym (ap g.O.Sink.written (c.in-Err-take_tick-2.ensures.unwritten other))) (written_on _ _ _ _ _ _ _ _ _ _ _ _ _ _ c.loop.clock c.next_moment.new.clock c.loop.counter (g.K.Keeper.kept c.loop.keeper) (g.K.Keeper.kept c.take_tick-in-loop.new.keeper) (g.O.Sink.written c.loop.results) c.loop.feeds c.take_tick-in-loop.new.feeds c.loop.sources c.take_tick-in-loop.new.sources c.loop.last c.in-Ok-next_moment.moment c.loop.state c.loop.invariant.looping c.loop.invariant.ready.going c.in-Ok-next_moment.ensures.read c.in-Err-take_tick-2.ensures.kept told))
 
 pub returns-in-Err-take_tick-2-clause-keeper_cause : goal.returns-in-Err-take_tick-2-clause-keeper_cause
 returns-in-Err-take_tick-2-clause-keeper_cause g c refused is error =
@@ -296,7 +296,7 @@ pub returns-in-Err-take_tick-2-clause-spent : goal.returns-in-Err-take_tick-2-cl
 returns-in-Err-take_tick-2-clause-spent g c refused is error =
     let same : c.in-Err-take_tick-2.refused ≡ refused = sym c.told-in-Err-take_tick-2.ensures.same ∙ same_refusal _ _ is in
     let why = ap (λ (r : Refused). r.error) same ∙ error in
-    spent_on _ _ _ _ _ _ _ _ _ _ _ _ _ c.loop.clock c.next_moment.new.clock (g.K.Keeper.kept c.loop.keeper) (g.K.Keeper.kept c.take_tick-in-loop.new.keeper) c.loop.feeds c.take_tick-in-loop.new.feeds c.loop.sources c.take_tick-in-loop.new.sources c.loop.last c.in-Ok-next_moment.moment c.loop.state c.take_tick-in-loop.new.state c.loop.invariant.looping.running.added c.loop.invariant.ready.going.distinct c.in-Ok-next_moment.ensures.read
+    spent_on _ _ _ _ _ _ _ _ _ _ _ _ _ _ c.loop.clock c.next_moment.new.clock (g.K.Keeper.kept c.loop.keeper) (g.K.Keeper.kept c.take_tick-in-loop.new.keeper) c.loop.feeds c.take_tick-in-loop.new.feeds c.loop.sources c.take_tick-in-loop.new.sources c.loop.last c.in-Ok-next_moment.moment c.loop.state c.take_tick-in-loop.new.state c.loop.invariant.looping.running.added c.loop.invariant.ready.going.distinct c.in-Ok-next_moment.ensures.read
     (λ tells. c.take_tick-in-loop.ensures.unkept tells c.in-Err-take_tick-2.refused c.in-Err-take_tick-2.is (spent_not_keeper _ why) (spent_not_sink _ why)) (c.take_tick-in-loop.ensures.spent c.in-Err-take_tick-2.refused c.in-Err-take_tick-2.is why)
 
 pub returns-in-Err-take_tick-2-clause-later : goal.returns-in-Err-take_tick-2-clause-later
@@ -321,14 +321,14 @@ loop-preserved g c =
     let k2 = ticked.0 in
     let r2 = ticked.1 in
     record {
-      looping = looped_on _ _ _ _ _ _ _ _ _ _ _ _ _ c.loop.clock c.next_moment.new.clock c.loop.counter (g.K.Keeper.kept c.loop.keeper) (g.K.Keeper.kept c.take_tick-in-loop.new.keeper) (g.O.Sink.written c.loop.results) c.loop.feeds c.take_tick-in-loop.new.feeds c.loop.sources c.take_tick-in-loop.new.sources c.loop.last c.in-Ok-next_moment.moment c.loop.state c.loop.invariant.looping c.loop.invariant.ready.going c.in-Ok-next_moment.ensures.read (g.O.Sink.written c.take_tick-in-loop.new.results) c.in-Ok-take_tick-2.last c.take_tick-in-loop.new.state c.in-Ok-take_tick-2.ensures.done;
+      looping = looped_on _ _ _ _ _ _ _ _ _ _ _ _ _ _ c.loop.clock c.next_moment.new.clock c.loop.counter (g.K.Keeper.kept c.loop.keeper) (g.K.Keeper.kept c.take_tick-in-loop.new.keeper) (g.O.Sink.written c.loop.results) c.loop.feeds c.take_tick-in-loop.new.feeds c.loop.sources c.take_tick-in-loop.new.sources c.loop.last c.in-Ok-next_moment.moment c.loop.state c.loop.invariant.looping c.loop.invariant.ready.going c.in-Ok-next_moment.ensures.read (g.O.Sink.written c.take_tick-in-loop.new.results) c.in-Ok-take_tick-2.last c.take_tick-in-loop.new.state c.in-Ok-take_tick-2.ensures.done;
       ready = c.in-Ok-take_tick-2.ensures.ready;
       goes_on = c.in-Ok-take_tick-2.ensures.goes_on;
       keeper_later = omega (arith, k, k2);
       results_later = omega (arith, r, r2);
       status_later = omega (arith, s, noted);
       noted = λ tells. grown_then _ _ _ (c.loop.invariant.noted tells) (c.next_moment.ensures.grown tells);
-      told = λ tells. noted_so (fixed_of g.K.Keeper g.O.Sink g.S.Source c.args.basis.now c.args.sources.now c.args.keeper.now c.args.results.now) c.args.basis.now.configured.notes (g.O.Sink.written c.args.status.now) ((places_of (g.K.Keeper.kept c.args.keeper.now) c.loop.invariant.looping.running.added.entries) ++ again_places (asks_again c.args.basis.now.configured.config c.loop.last c.in-Ok-next_moment.moment) (tick_place ((g.K.Keeper.kept c.args.keeper.now) ++ c.loop.invariant.looping.running.added.entries) c.in-Ok-next_moment.moment)) _ _ (counted_on _ _ _ _ _ _ _ _ _ _ _ _ _ c.loop.clock c.next_moment.new.clock c.loop.counter (g.K.Keeper.kept c.loop.keeper) (g.K.Keeper.kept c.take_tick-in-loop.new.keeper) (g.O.Sink.written c.loop.results) c.loop.feeds c.take_tick-in-loop.new.feeds c.loop.sources c.take_tick-in-loop.new.sources c.loop.last c.in-Ok-next_moment.moment c.loop.state c.loop.invariant.looping c.loop.invariant.ready.going c.in-Ok-next_moment.ensures.read (g.O.Sink.written c.take_tick-in-loop.new.results) c.in-Ok-take_tick-2.last c.take_tick-in-loop.new.state c.in-Ok-take_tick-2.ensures.done) (noted_on (fixed_of g.K.Keeper g.O.Sink g.S.Source c.args.basis.now c.args.sources.now c.args.keeper.now c.args.results.now) c.args.basis.now.configured.notes (g.O.Sink.written c.args.status.now) (asks_again c.args.basis.now.configured.config c.loop.last c.in-Ok-next_moment.moment) (places_of (g.K.Keeper.kept c.args.keeper.now) c.loop.invariant.looping.running.added.entries) (tick_place ((g.K.Keeper.kept c.args.keeper.now) ++ c.loop.invariant.looping.running.added.entries) c.in-Ok-next_moment.moment) (found_now c.args.basis.now.configured.config c.loop.state c.in-Ok-next_moment.moment) (g.O.Sink.written c.loop.status) (g.O.Sink.written c.next_moment.new.status) (found_on _ _ _ _ _ _ _ _ _ _ _ _ _ c.loop.clock c.next_moment.new.clock c.loop.counter (g.K.Keeper.kept c.loop.keeper) (g.K.Keeper.kept c.take_tick-in-loop.new.keeper) (g.O.Sink.written c.loop.results) c.loop.feeds c.take_tick-in-loop.new.feeds c.loop.sources c.take_tick-in-loop.new.sources c.loop.last c.in-Ok-next_moment.moment c.loop.state c.loop.invariant.looping c.loop.invariant.ready.going c.in-Ok-next_moment.ensures.read c.next_moment.ensures.is) (c.loop.invariant.told tells) (c.in-Ok-next_moment.ensures.noted tells));
+      told = λ tells. noted_so (fixed_of g.T.TakesRound.order g.K.Keeper g.O.Sink g.S.Source c.args.basis.now c.args.sources.now c.args.keeper.now c.args.results.now) c.args.basis.now.configured.notes (g.O.Sink.written c.args.status.now) ((places_of (g.K.Keeper.kept c.args.keeper.now) c.loop.invariant.looping.running.added.entries) ++ again_places (asks_again c.args.basis.now.configured.config c.loop.last c.in-Ok-next_moment.moment) (tick_place ((g.K.Keeper.kept c.args.keeper.now) ++ c.loop.invariant.looping.running.added.entries) c.in-Ok-next_moment.moment)) _ _ (counted_on _ _ _ _ _ _ _ _ _ _ _ _ _ _ c.loop.clock c.next_moment.new.clock c.loop.counter (g.K.Keeper.kept c.loop.keeper) (g.K.Keeper.kept c.take_tick-in-loop.new.keeper) (g.O.Sink.written c.loop.results) c.loop.feeds c.take_tick-in-loop.new.feeds c.loop.sources c.take_tick-in-loop.new.sources c.loop.last c.in-Ok-next_moment.moment c.loop.state c.loop.invariant.looping c.loop.invariant.ready.going c.in-Ok-next_moment.ensures.read (g.O.Sink.written c.take_tick-in-loop.new.results) c.in-Ok-take_tick-2.last c.take_tick-in-loop.new.state c.in-Ok-take_tick-2.ensures.done) (noted_on (fixed_of g.T.TakesRound.order g.K.Keeper g.O.Sink g.S.Source c.args.basis.now c.args.sources.now c.args.keeper.now c.args.results.now) c.args.basis.now.configured.notes (g.O.Sink.written c.args.status.now) (asks_again c.args.basis.now.configured.config c.loop.last c.in-Ok-next_moment.moment) (places_of (g.K.Keeper.kept c.args.keeper.now) c.loop.invariant.looping.running.added.entries) (tick_place ((g.K.Keeper.kept c.args.keeper.now) ++ c.loop.invariant.looping.running.added.entries) c.in-Ok-next_moment.moment) (found_now c.args.basis.now.configured.config c.loop.state c.in-Ok-next_moment.moment) (g.O.Sink.written c.loop.status) (g.O.Sink.written c.next_moment.new.status) (found_on _ _ _ _ _ _ _ _ _ _ _ _ _ _ c.loop.clock c.next_moment.new.clock c.loop.counter (g.K.Keeper.kept c.loop.keeper) (g.K.Keeper.kept c.take_tick-in-loop.new.keeper) (g.O.Sink.written c.loop.results) c.loop.feeds c.take_tick-in-loop.new.feeds c.loop.sources c.take_tick-in-loop.new.sources c.loop.last c.in-Ok-next_moment.moment c.loop.state c.loop.invariant.looping c.loop.invariant.ready.going c.in-Ok-next_moment.ensures.read c.next_moment.ensures.is) (c.loop.invariant.told tells) (c.in-Ok-next_moment.ensures.noted tells));
     }
 
 pub returns-clause-done : goal.returns-clause-done
@@ -347,7 +347,7 @@ returns-clause-kept g c told =
 
 pub returns-clause-written : goal.returns-clause-written
 returns-clause-written g c told =
-    still_written _ _ _ _ _ _ _ _ _ _ _ _ _ c.loop.clock c.loop.counter (g.K.Keeper.kept c.loop.keeper) (g.O.Sink.written c.loop.results) c.loop.feeds c.loop.sources c.loop.last c.loop.state c.loop.invariant.looping told
+    still_written _ _ _ _ _ _ _ _ _ _ _ _ _ _ c.loop.clock c.loop.counter (g.K.Keeper.kept c.loop.keeper) (g.O.Sink.written c.loop.results) c.loop.feeds c.loop.sources c.loop.last c.loop.state c.loop.invariant.looping told
 
 pub returns-clause-keeper_cause : goal.returns-clause-keeper_cause
 returns-clause-keeper_cause g c refused is error =
@@ -388,12 +388,12 @@ returns-clause-told g c tells =
     let skipped = c.end_session.ensures.skipped tells in
     of_value _ _ _ c.end_session.result skipped skipped (λ ended is same. record {
       places = places_of (g.K.Keeper.kept c.args.keeper.now) c.loop.invariant.looping.running.added.entries;
-      configured = λ told. (c.loop.invariant.looping.running.added.entries, counted_now _ _ _ _ _ _ _ _ _ _ _ _ _ c.loop.clock c.loop.counter (g.K.Keeper.kept c.loop.keeper) (g.O.Sink.written c.loop.results) c.loop.feeds c.loop.sources c.loop.last c.loop.state c.loop.invariant.looping told, refl);
+      configured = λ told. (c.loop.invariant.looping.running.added.entries, counted_now _ _ _ _ _ _ _ _ _ _ _ _ _ _ c.loop.clock c.loop.counter (g.K.Keeper.kept c.loop.keeper) (g.O.Sink.written c.loop.results) c.loop.feeds c.loop.sources c.loop.last c.loop.state c.loop.invariant.looping told, refl);
       between = g.O.Sink.written c.loop.status;
       noted = c.loop.invariant.told tells;
       feeds = c.loop.feeds;
       rests = map g.S.Source.left c.loop.sources;
-      fed = fed_now _ _ _ _ _ _ _ _ _ _ _ _ _ c.loop.clock c.loop.counter (g.K.Keeper.kept c.loop.keeper) (g.O.Sink.written c.loop.results) c.loop.feeds c.loop.sources c.loop.last c.loop.state c.loop.invariant.looping;
+      fed = fed_now _ _ _ _ _ _ _ _ _ _ _ _ _ _ c.loop.clock c.loop.counter (g.K.Keeper.kept c.loop.keeper) (g.O.Sink.written c.loop.results) c.loop.feeds c.loop.sources c.loop.last c.loop.state c.loop.invariant.looping;
       skipped = is;
     })
 
@@ -418,7 +418,7 @@ returns-in-Err-clause-stops_telling g c tells =
       places = [];
       configured = λ told. places_still (g.K.Keeper.kept c.args.keeper.now) (g.K.Keeper.kept c.load_values.new.keeper) (c.in-Err.ensures.same told);
       between = g.O.Sink.written c.args.status.now;
-      noted = noted_none (fixed_of g.K.Keeper g.O.Sink g.S.Source c.args.basis.now c.args.sources.now c.args.keeper.now c.args.results.now) c.args.basis.now.configured.notes (g.O.Sink.written c.args.status.now);
+      noted = noted_none (fixed_of g.T.TakesRound.order g.K.Keeper g.O.Sink g.S.Source c.args.basis.now c.args.sources.now c.args.keeper.now c.args.results.now) c.args.basis.now.configured.notes (g.O.Sink.written c.args.status.now);
       skipped = inl refl;
     })
 
@@ -428,45 +428,45 @@ returns-in-Err-open_noted-clause-stops g c =
     let loaded = c.in-Err-open_noted.ensures.loaded in
     stops_with _ (λ readings. ReadsAll g.C.Clock.reads c.args.clock.now readings c.open_noted.new.clock) (g.K.Keeper.kept c.load_values.new.keeper) (c.open_noted.new.status ≡ c.args.status.now) refused.error refused.numbers (numbers_in c.in-Ok.restored) c.in-Err-open_noted.ensures.numbers
     (numbers_for _ (λ readings. ReadsAll g.C.Clock.reads c.args.clock.now readings c.open_noted.new.clock) (g.K.Keeper.kept c.load_values.new.keeper) refused.error (numbers_in c.in-Ok.restored) loaded.0 loaded.1
-    (loaded_numbers (fixed_of g.K.Keeper g.O.Sink g.S.Source c.args.basis.now c.args.sources.now c.args.keeper.now c.args.results.now) (λ readings. ReadsAll g.C.Clock.reads c.args.clock.now readings c.open_noted.new.clock) (g.K.Keeper.kept c.load_values.new.keeper) c.in-Ok.restored c.in-Ok.ensures.value c.in-Ok.ensures.same))
+    (loaded_numbers (fixed_of g.T.TakesRound.order g.K.Keeper g.O.Sink g.S.Source c.args.basis.now c.args.sources.now c.args.keeper.now c.args.results.now) (λ readings. ReadsAll g.C.Clock.reads c.args.clock.now readings c.open_noted.new.clock) (g.K.Keeper.kept c.load_values.new.keeper) c.in-Ok.restored c.in-Ok.ensures.value c.in-Ok.ensures.same))
 
 pub returns-in-Err-open_noted-clause-stops_telling : goal.returns-in-Err-open_noted-clause-stops_telling
 returns-in-Err-open_noted-clause-stops_telling g c tells =
-    told_opening _ _ _ _ _ _ _ _ _ _ _ _ _ c.open_noted.new.clock c.in-Ok.restored (g.K.Keeper.kept c.load_values.new.keeper) c.open_noted.new.sources c.in-Ok.ensures.value c.in-Ok.ensures.same c.requires.distinct c.args.basis.now.configured.notes (g.O.Sink.written c.args.status.now) (g.O.Sink.written c.open_noted.new.status) (g.O.Sink.faults c.args.status.now) (g.O.Sink.faults c.open_noted.new.status)
+    told_opening _ _ _ _ _ _ _ _ _ _ _ _ _ _ c.open_noted.new.clock c.in-Ok.restored (g.K.Keeper.kept c.load_values.new.keeper) c.open_noted.new.sources c.in-Ok.ensures.value c.in-Ok.ensures.same c.requires.distinct c.args.basis.now.configured.notes (g.O.Sink.written c.args.status.now) (g.O.Sink.written c.open_noted.new.status) (g.O.Sink.faults c.args.status.now) (g.O.Sink.faults c.open_noted.new.status)
     (c.in-Err-open_noted.ensures.untold tells)
 
 pub returns-in-Err-take_tick-clause-stops : goal.returns-in-Err-take_tick-clause-stops
 returns-in-Err-take_tick-clause-stops g c =
     let kept_is = c.in-Ok.ensures.same in
-    let opens = opens_here _ _ _ _ _ _ _ _ _ _ _ _ _ c.open_noted.new.clock c.in-Ok.restored (g.K.Keeper.kept c.load_values.new.keeper) c.in-Ok-open_noted.session.feeds.items c.as_mut_slice-feeds.result.now c.open_noted.new.sources c.in-Ok-open_noted.session.configured_at c.in-Ok-open_noted.session.state c.in-Ok.ensures.value kept_is c.requires.distinct c.in-Ok-open_noted.ensures.opened c.as_mut_slice-feeds.ensures.value in
+    let opens = opens_here _ _ _ _ _ _ _ _ _ _ _ _ _ _ c.open_noted.new.clock c.in-Ok.restored (g.K.Keeper.kept c.load_values.new.keeper) c.in-Ok-open_noted.session.feeds.items c.as_mut_slice-feeds.result.now c.open_noted.new.sources c.in-Ok-open_noted.session.configured_at c.in-Ok-open_noted.session.state c.in-Ok.ensures.value kept_is c.requires.distinct c.in-Ok-open_noted.ensures.opened c.as_mut_slice-feeds.ensures.value in
     let going = subst (λ (feeds : List Feeding). AreGoing c.in-Ok-open_noted.session.state.counts.taken feeds) (sym c.as_mut_slice-feeds.ensures.value) c.in-Ok-open_noted.ensures.going in
     let refused = c.in-Err-take_tick.refused in
     let same : c.numbers_in-sealed.result ≡ numbers_in c.in-Ok.restored = c.numbers_in-sealed.ensures in
-    let loaded = loaded_numbers (fixed_of g.K.Keeper g.O.Sink g.S.Source c.args.basis.now c.args.sources.now c.args.keeper.now c.args.results.now) (λ readings. ReadsAll g.C.Clock.reads c.args.clock.now readings c.open_noted.new.clock) (g.K.Keeper.kept c.take_tick.new.keeper) c.in-Ok.restored c.in-Ok.ensures.value in
+    let loaded = loaded_numbers (fixed_of g.T.TakesRound.order g.K.Keeper g.O.Sink g.S.Source c.args.basis.now c.args.sources.now c.args.keeper.now c.args.results.now) (λ readings. ReadsAll g.C.Clock.reads c.args.clock.now readings c.open_noted.new.clock) (g.K.Keeper.kept c.take_tick.new.keeper) c.in-Ok.restored c.in-Ok.ensures.value in
     tick_stops _ (λ readings. ReadsAll g.C.Clock.reads c.args.clock.now readings c.open_noted.new.clock) (g.K.Keeper.kept c.take_tick.new.keeper) (c.told.new.status ≡ c.args.status.now) refused c.told.result c.numbers_in-sealed.result c.take_tick.new.state c.told.ensures.same c.in-Err-take_tick.ensures.numbers
     (c.take_tick.ensures.opened refused c.in-Err-take_tick.is).0
-    (λ is. sealed_first _ _ _ _ _ _ _ _ _ _ _ _ _ c.open_noted.new.clock (g.K.Keeper.kept c.load_values.new.keeper) (g.K.Keeper.kept c.take_tick.new.keeper) (g.O.Sink.written c.take_tick.new.results) c.as_mut_slice-feeds.result.now c.take_tick.new.feeds c.open_noted.new.sources c.take_tick.new.sources c.in-Ok-open_noted.session.configured_at c.in-Ok-open_noted.session.state c.args.basis.now.configured.notes c.requires.configuration opens.0 going kept_is c.numbers_in-sealed.result
-    (subst (λ (numbers : Numbers). AreNumbersOf (fixed_of g.K.Keeper g.O.Sink g.S.Source c.args.basis.now c.args.sources.now c.args.keeper.now c.args.results.now) (g.K.Keeper.kept c.args.keeper.now) numbers) (sym same) (loaded_numbers (fixed_of g.K.Keeper g.O.Sink g.S.Source c.args.basis.now c.args.sources.now c.args.keeper.now c.args.results.now) (λ readings. ReadsAll g.C.Clock.reads c.args.clock.now readings c.open_noted.new.clock) (g.K.Keeper.kept c.args.keeper.now) c.in-Ok.restored c.in-Ok.ensures.value (λ tells. refl))) c.in-Err-take_tick.ensures.kept)
-    (λ is. numbers_first _ _ _ _ _ _ _ _ _ _ _ _ _ c.open_noted.new.clock (g.K.Keeper.kept c.load_values.new.keeper) (g.K.Keeper.kept c.take_tick.new.keeper) (g.O.Sink.written c.take_tick.new.results) c.as_mut_slice-feeds.result.now c.take_tick.new.feeds c.open_noted.new.sources c.take_tick.new.sources c.in-Ok-open_noted.session.configured_at c.in-Ok-open_noted.session.state c.args.basis.now.configured.notes c.requires.configuration opens.0 going kept_is c.take_tick.new.state (c.take_tick.ensures.sealed refused c.in-Err-take_tick.is is))
-    (λ not_keeper not_sink. subst (λ (numbers : Numbers). AreNumbersOf (fixed_of g.K.Keeper g.O.Sink g.S.Source c.args.basis.now c.args.sources.now c.args.keeper.now c.args.results.now) (g.K.Keeper.kept c.take_tick.new.keeper) numbers) (sym same)
+    (λ is. sealed_first _ _ _ _ _ _ _ _ _ _ _ _ _ _ c.open_noted.new.clock (g.K.Keeper.kept c.load_values.new.keeper) (g.K.Keeper.kept c.take_tick.new.keeper) (g.O.Sink.written c.take_tick.new.results) c.as_mut_slice-feeds.result.now c.take_tick.new.feeds c.open_noted.new.sources c.take_tick.new.sources c.in-Ok-open_noted.session.configured_at c.in-Ok-open_noted.session.state c.args.basis.now.configured.notes c.requires.configuration opens.0 going kept_is c.numbers_in-sealed.result
+    (subst (λ (numbers : Numbers). AreNumbersOf (fixed_of g.T.TakesRound.order g.K.Keeper g.O.Sink g.S.Source c.args.basis.now c.args.sources.now c.args.keeper.now c.args.results.now) (g.K.Keeper.kept c.args.keeper.now) numbers) (sym same) (loaded_numbers (fixed_of g.T.TakesRound.order g.K.Keeper g.O.Sink g.S.Source c.args.basis.now c.args.sources.now c.args.keeper.now c.args.results.now) (λ readings. ReadsAll g.C.Clock.reads c.args.clock.now readings c.open_noted.new.clock) (g.K.Keeper.kept c.args.keeper.now) c.in-Ok.restored c.in-Ok.ensures.value (λ tells. refl))) c.in-Err-take_tick.ensures.kept)
+    (λ is. numbers_first _ _ _ _ _ _ _ _ _ _ _ _ _ _ c.open_noted.new.clock (g.K.Keeper.kept c.load_values.new.keeper) (g.K.Keeper.kept c.take_tick.new.keeper) (g.O.Sink.written c.take_tick.new.results) c.as_mut_slice-feeds.result.now c.take_tick.new.feeds c.open_noted.new.sources c.take_tick.new.sources c.in-Ok-open_noted.session.configured_at c.in-Ok-open_noted.session.state c.args.basis.now.configured.notes c.requires.configuration opens.0 going kept_is c.take_tick.new.state (c.take_tick.ensures.sealed refused c.in-Err-take_tick.is is))
+    (λ not_keeper not_sink. subst (λ (numbers : Numbers). AreNumbersOf (fixed_of g.T.TakesRound.order g.K.Keeper g.O.Sink g.S.Source c.args.basis.now c.args.sources.now c.args.keeper.now c.args.results.now) (g.K.Keeper.kept c.take_tick.new.keeper) numbers) (sym same)
     (loaded (λ tells. c.take_tick.ensures.unkept tells refused c.in-Err-take_tick.is not_keeper not_sink ∙ kept_is tells)))
 
 pub returns-in-Err-take_tick-clause-stops_telling : goal.returns-in-Err-take_tick-clause-stops_telling
 returns-in-Err-take_tick-clause-stops_telling g c tells =
     let kept_is = c.in-Ok.ensures.same in
-    let opens = opens_here _ g.O.Sink.tells _ _ _ _ _ _ _ _ (g.O.Sink.written c.args.results.now) _ _ c.open_noted.new.clock c.in-Ok.restored (g.K.Keeper.kept c.load_values.new.keeper) c.in-Ok-open_noted.session.feeds.items c.as_mut_slice-feeds.result.now c.open_noted.new.sources c.in-Ok-open_noted.session.configured_at c.in-Ok-open_noted.session.state c.in-Ok.ensures.value kept_is c.requires.distinct c.in-Ok-open_noted.ensures.opened c.as_mut_slice-feeds.ensures.value in
+    let opens = opens_here _ _ g.O.Sink.tells _ _ _ _ _ _ _ _ (g.O.Sink.written c.args.results.now) _ _ c.open_noted.new.clock c.in-Ok.restored (g.K.Keeper.kept c.load_values.new.keeper) c.in-Ok-open_noted.session.feeds.items c.as_mut_slice-feeds.result.now c.open_noted.new.sources c.in-Ok-open_noted.session.configured_at c.in-Ok-open_noted.session.state c.in-Ok.ensures.value kept_is c.requires.distinct c.in-Ok-open_noted.ensures.opened c.as_mut_slice-feeds.ensures.value in
     let going = subst (λ (feeds : List Feeding). AreGoing c.in-Ok-open_noted.session.state.counts.taken feeds) (sym c.as_mut_slice-feeds.ensures.value) c.in-Ok-open_noted.ensures.going in
     told_some _ (g.K.Keeper.kept c.take_tick.new.keeper) c.args.basis.now.configured.notes (g.O.Sink.written c.args.status.now) (g.O.Sink.written c.open_noted.new.status) (g.O.Sink.written c.told.new.status) (g.O.Sink.faults c.args.status.now) (g.O.Sink.faults c.open_noted.new.status) (g.O.Sink.faults c.told.new.status)
-    ((record { list = (g.K.Keeper.kept c.args.keeper.now) ++ (Opened opens.0.number ∷ opens.0.tables); moment = c.in-Ok-open_noted.session.configured_at }) ∷ []) c.take_tick.new.feeds (counts_first g.S.Source.left _ _ (g.K.Keeper.kept c.take_tick.new.keeper) c.as_mut_slice-feeds.result.now c.take_tick.new.feeds c.open_noted.new.sources (λ told. rest_first _ _ _ _ _ _ _ _ _ _ _ _ _ c.open_noted.new.clock (g.K.Keeper.kept c.load_values.new.keeper) (g.K.Keeper.kept c.take_tick.new.keeper) (g.O.Sink.written c.take_tick.new.results) c.as_mut_slice-feeds.result.now c.take_tick.new.feeds c.open_noted.new.sources c.take_tick.new.sources c.in-Ok-open_noted.session.configured_at c.in-Ok-open_noted.session.state c.args.basis.now.configured.notes c.requires.configuration opens.0 going kept_is (c.in-Err-take_tick.ensures.kept told) told) opens.0.standing.fed c.take_tick.ensures.counts)
-    (λ told. counted_in_first _ _ _ _ _ _ _ _ _ _ _ _ _ c.open_noted.new.clock (g.K.Keeper.kept c.load_values.new.keeper) (g.K.Keeper.kept c.take_tick.new.keeper) (g.O.Sink.written c.take_tick.new.results) c.as_mut_slice-feeds.result.now c.take_tick.new.feeds c.open_noted.new.sources c.take_tick.new.sources c.in-Ok-open_noted.session.configured_at c.in-Ok-open_noted.session.state c.args.basis.now.configured.notes c.requires.configuration opens.0 going kept_is (c.in-Err-take_tick.ensures.kept told) told) (noted_first (fixed_of g.K.Keeper g.O.Sink g.S.Source c.args.basis.now c.args.sources.now c.args.keeper.now c.args.results.now) c.args.basis.now.configured.notes (g.O.Sink.written c.args.status.now) (record { list = (g.K.Keeper.kept c.args.keeper.now) ++ (Opened opens.0.number ∷ opens.0.tables); moment = c.in-Ok-open_noted.session.configured_at }) c.in-Ok-open_noted.session.found.items (g.O.Sink.written c.open_noted.new.status) (found_first _ _ _ _ g.S.Source.faults c.args.basis.now.setup _ _ _ _ _ _ _ c.open_noted.new.clock (g.K.Keeper.kept c.load_values.new.keeper) (g.K.Keeper.kept c.take_tick.new.keeper) (g.O.Sink.written c.take_tick.new.results) c.as_mut_slice-feeds.result.now c.take_tick.new.feeds c.open_noted.new.sources c.take_tick.new.sources c.in-Ok-open_noted.session.configured_at c.in-Ok-open_noted.session.state c.args.basis.now.configured.notes c.requires.configuration opens.0 going kept_is c.in-Ok.restored c.in-Ok-open_noted.session.found.items c.in-Ok.ensures.value c.in-Ok-open_noted.ensures.found) (c.in-Ok-open_noted.ensures.noted tells)) (c.told.ensures.skipped tells) c.open_noted.ensures.later
+    ((record { list = (g.K.Keeper.kept c.args.keeper.now) ++ (Opened opens.0.number ∷ opens.0.tables); moment = c.in-Ok-open_noted.session.configured_at }) ∷ []) c.take_tick.new.feeds (counts_first g.S.Source.left _ _ (g.K.Keeper.kept c.take_tick.new.keeper) c.as_mut_slice-feeds.result.now c.take_tick.new.feeds c.open_noted.new.sources (λ told. rest_first _ _ _ _ _ _ _ _ _ _ _ _ _ _ c.open_noted.new.clock (g.K.Keeper.kept c.load_values.new.keeper) (g.K.Keeper.kept c.take_tick.new.keeper) (g.O.Sink.written c.take_tick.new.results) c.as_mut_slice-feeds.result.now c.take_tick.new.feeds c.open_noted.new.sources c.take_tick.new.sources c.in-Ok-open_noted.session.configured_at c.in-Ok-open_noted.session.state c.args.basis.now.configured.notes c.requires.configuration opens.0 going kept_is (c.in-Err-take_tick.ensures.kept told) told) opens.0.standing.fed c.take_tick.ensures.counts)
+    (λ told. counted_in_first _ _ _ _ _ _ _ _ _ _ _ _ _ _ c.open_noted.new.clock (g.K.Keeper.kept c.load_values.new.keeper) (g.K.Keeper.kept c.take_tick.new.keeper) (g.O.Sink.written c.take_tick.new.results) c.as_mut_slice-feeds.result.now c.take_tick.new.feeds c.open_noted.new.sources c.take_tick.new.sources c.in-Ok-open_noted.session.configured_at c.in-Ok-open_noted.session.state c.args.basis.now.configured.notes c.requires.configuration opens.0 going kept_is (c.in-Err-take_tick.ensures.kept told) told) (noted_first (fixed_of g.T.TakesRound.order g.K.Keeper g.O.Sink g.S.Source c.args.basis.now c.args.sources.now c.args.keeper.now c.args.results.now) c.args.basis.now.configured.notes (g.O.Sink.written c.args.status.now) (record { list = (g.K.Keeper.kept c.args.keeper.now) ++ (Opened opens.0.number ∷ opens.0.tables); moment = c.in-Ok-open_noted.session.configured_at }) c.in-Ok-open_noted.session.found.items (g.O.Sink.written c.open_noted.new.status) (found_first _ _ _ _ _ g.S.Source.faults c.args.basis.now.setup _ _ _ _ _ _ _ c.open_noted.new.clock (g.K.Keeper.kept c.load_values.new.keeper) (g.K.Keeper.kept c.take_tick.new.keeper) (g.O.Sink.written c.take_tick.new.results) c.as_mut_slice-feeds.result.now c.take_tick.new.feeds c.open_noted.new.sources c.take_tick.new.sources c.in-Ok-open_noted.session.configured_at c.in-Ok-open_noted.session.state c.args.basis.now.configured.notes c.requires.configuration opens.0 going kept_is c.in-Ok.restored c.in-Ok-open_noted.session.found.items c.in-Ok.ensures.value c.in-Ok-open_noted.ensures.found) (c.in-Ok-open_noted.ensures.noted tells)) (c.told.ensures.skipped tells) c.open_noted.ensures.later
 
 pub returns-in-Err-next_moment-clause-stops : goal.returns-in-Err-next_moment-clause-stops
 returns-in-Err-next_moment-clause-stops g c =
     let refused = c.in-Err-next_moment.refused in
     let r = c.loop.invariant.looping.running.added in
-    subst (λ (r : Refused). Stops (run_of g.K.Keeper g.O.Sink g.S.Source g.C.Clock c.args.basis.now c.args.sources.now c.args.keeper.now c.args.results.now c.args.clock.now c.next_moment.new.clock) (g.K.Keeper.kept c.loop.keeper) (c.told-in-Err-next_moment.new.status ≡ c.args.status.now) r.error r.numbers) (sym c.told-in-Err-next_moment.ensures.same)
+    subst (λ (r : Refused). Stops (run_of g.T.TakesRound.order g.K.Keeper g.O.Sink g.S.Source g.C.Clock c.args.basis.now c.args.sources.now c.args.keeper.now c.args.results.now c.args.clock.now c.next_moment.new.clock) (g.K.Keeper.kept c.loop.keeper) (c.told-in-Err-next_moment.new.status ≡ c.args.status.now) r.error r.numbers) (sym c.told-in-Err-next_moment.ensures.same)
     (stops_with _ (λ readings. ReadsAll g.C.Clock.reads c.args.clock.now readings c.next_moment.new.clock) (g.K.Keeper.kept c.loop.keeper) (c.told-in-Err-next_moment.new.status ≡ c.args.status.now) refused.error refused.numbers (numbers_of c.loop.state) c.in-Err-next_moment.ensures.numbers
-    (numbers_between (fixed_of g.K.Keeper g.O.Sink g.S.Source c.args.basis.now c.args.sources.now c.args.keeper.now c.args.results.now) (λ readings. ReadsAll g.C.Clock.reads c.args.clock.now readings c.next_moment.new.clock) (g.K.Keeper.kept c.loop.keeper) _ _ refused.error (numbers_of c.loop.state) c.in-Err-next_moment.ensures.cause
+    (numbers_between (fixed_of g.T.TakesRound.order g.K.Keeper g.O.Sink g.S.Source c.args.basis.now c.args.sources.now c.args.keeper.now c.args.results.now) (λ readings. ReadsAll g.C.Clock.reads c.args.clock.now readings c.next_moment.new.clock) (g.K.Keeper.kept c.loop.keeper) _ _ refused.error (numbers_of c.loop.state) c.in-Err-next_moment.ensures.cause
     (numbers_are g.S.Source.left _ r.entries (g.K.Keeper.kept c.loop.keeper) c.loop.feeds c.loop.sources c.loop.last c.loop.state r.standing r.empty)))
 
 pub returns-in-Err-next_moment-clause-stops_telling : goal.returns-in-Err-next_moment-clause-stops_telling
@@ -474,7 +474,7 @@ returns-in-Err-next_moment-clause-stops_telling g c tells =
     let r = c.loop.invariant.looping.running.added in
     told_some _ (g.K.Keeper.kept c.loop.keeper) c.args.basis.now.configured.notes (g.O.Sink.written c.args.status.now) (g.O.Sink.written c.loop.status) (g.O.Sink.written c.told-in-Err-next_moment.new.status) (g.O.Sink.faults c.args.status.now) (g.O.Sink.faults c.loop.status) (g.O.Sink.faults c.told-in-Err-next_moment.new.status)
     (places_of (g.K.Keeper.kept c.args.keeper.now) c.loop.invariant.looping.running.added.entries) c.loop.feeds (counts_now g.S.Source.left _ r.entries (g.K.Keeper.kept c.loop.keeper) c.loop.feeds c.loop.sources (all_kept g.S.Source.left _ r.entries (g.K.Keeper.kept c.loop.keeper) c.loop.feeds c.loop.sources c.loop.last c.loop.state r.standing r.empty) r.standing.fed)
-    (λ told. places_now (g.K.Keeper.kept c.args.keeper.now) (g.K.Keeper.kept c.loop.keeper) c.loop.invariant.looping.running.added.entries (counted_now _ _ _ _ _ _ _ _ _ _ _ _ _ c.loop.clock c.loop.counter (g.K.Keeper.kept c.loop.keeper) (g.O.Sink.written c.loop.results) c.loop.feeds c.loop.sources c.loop.last c.loop.state c.loop.invariant.looping told)) (c.loop.invariant.told tells) (skipped_behind c.loop.feeds (g.O.Sink.written c.loop.status) (g.O.Sink.written c.next_moment.new.status) (g.O.Sink.written c.told-in-Err-next_moment.new.status) (g.O.Sink.faults c.loop.status) (g.O.Sink.faults c.next_moment.new.status) (g.O.Sink.faults c.told-in-Err-next_moment.new.status) (c.in-Err-next_moment.ensures.untold tells) (c.told-in-Err-next_moment.ensures.skipped tells) c.next_moment.ensures.later c.told-in-Err-next_moment.ensures.later) c.loop.invariant.status_later
+    (λ told. places_now (g.K.Keeper.kept c.args.keeper.now) (g.K.Keeper.kept c.loop.keeper) c.loop.invariant.looping.running.added.entries (counted_now _ _ _ _ _ _ _ _ _ _ _ _ _ _ c.loop.clock c.loop.counter (g.K.Keeper.kept c.loop.keeper) (g.O.Sink.written c.loop.results) c.loop.feeds c.loop.sources c.loop.last c.loop.state c.loop.invariant.looping told)) (c.loop.invariant.told tells) (skipped_behind c.loop.feeds (g.O.Sink.written c.loop.status) (g.O.Sink.written c.next_moment.new.status) (g.O.Sink.written c.told-in-Err-next_moment.new.status) (g.O.Sink.faults c.loop.status) (g.O.Sink.faults c.next_moment.new.status) (g.O.Sink.faults c.told-in-Err-next_moment.new.status) (c.in-Err-next_moment.ensures.untold tells) (c.told-in-Err-next_moment.ensures.skipped tells) c.next_moment.ensures.later c.told-in-Err-next_moment.ensures.later) c.loop.invariant.status_later
 
 pub returns-in-Err-take_tick-2-clause-stops : goal.returns-in-Err-take_tick-2-clause-stops
 returns-in-Err-take_tick-2-clause-stops g c =
@@ -482,10 +482,10 @@ returns-in-Err-take_tick-2-clause-stops g c =
     let same : c.numbers_of-sealed.result ≡ numbers_of c.loop.state = c.numbers_of-sealed.ensures in
     tick_stops _ (λ readings. ReadsAll g.C.Clock.reads c.args.clock.now readings c.next_moment.new.clock) (g.K.Keeper.kept c.take_tick-in-loop.new.keeper) (c.told-in-Err-take_tick-2.new.status ≡ c.args.status.now) refused c.told-in-Err-take_tick-2.result c.numbers_of-sealed.result c.take_tick-in-loop.new.state c.told-in-Err-take_tick-2.ensures.same c.in-Err-take_tick-2.ensures.numbers
     (c.take_tick-in-loop.ensures.opened refused c.in-Err-take_tick-2.is).0
-    (λ is. subst (λ (numbers : Numbers). AreSealed (run_of g.K.Keeper g.O.Sink g.S.Source g.C.Clock c.args.basis.now c.args.sources.now c.args.keeper.now c.args.results.now c.args.clock.now c.next_moment.new.clock) (g.K.Keeper.kept c.take_tick-in-loop.new.keeper) numbers) (sym same) (sealed_on _ _ _ _ _ _ _ _ _ _ _ _ _ c.loop.clock c.next_moment.new.clock c.loop.counter (g.K.Keeper.kept c.loop.keeper) (g.K.Keeper.kept c.take_tick-in-loop.new.keeper) (g.O.Sink.written c.loop.results) c.loop.feeds c.take_tick-in-loop.new.feeds c.loop.sources c.take_tick-in-loop.new.sources c.loop.last c.in-Ok-next_moment.moment c.loop.state c.loop.invariant.looping c.loop.invariant.ready.going c.in-Ok-next_moment.ensures.read c.in-Err-take_tick-2.ensures.kept))
-    (λ is. numbers_on _ _ _ _ _ _ _ _ _ _ _ _ _ c.loop.clock c.next_moment.new.clock c.loop.counter (g.K.Keeper.kept c.loop.keeper) (g.K.Keeper.kept c.take_tick-in-loop.new.keeper) (g.O.Sink.written c.loop.results) c.loop.feeds c.take_tick-in-loop.new.feeds c.loop.sources c.take_tick-in-loop.new.sources c.loop.last c.in-Ok-next_moment.moment c.loop.state c.loop.invariant.looping c.loop.invariant.ready.going c.in-Ok-next_moment.ensures.read c.take_tick-in-loop.new.state (c.take_tick-in-loop.ensures.sealed refused c.in-Err-take_tick-2.is is))
-    (λ not_keeper not_sink. subst (λ (numbers : Numbers). AreNumbersOf (fixed_of g.K.Keeper g.O.Sink g.S.Source c.args.basis.now c.args.sources.now c.args.keeper.now c.args.results.now) (g.K.Keeper.kept c.take_tick-in-loop.new.keeper) numbers) (sym same)
-    (numbers_same _ _ _ _ _ _ _ _ _ _ _ _ _ c.loop.clock c.next_moment.new.clock c.loop.counter (g.K.Keeper.kept c.loop.keeper) (g.K.Keeper.kept c.take_tick-in-loop.new.keeper) (g.O.Sink.written c.loop.results) c.loop.feeds c.take_tick-in-loop.new.feeds c.loop.sources c.take_tick-in-loop.new.sources c.loop.last c.in-Ok-next_moment.moment c.loop.state c.loop.invariant.looping c.loop.invariant.ready.going c.in-Ok-next_moment.ensures.read (λ tells. c.take_tick-in-loop.ensures.unkept tells refused c.in-Err-take_tick-2.is not_keeper not_sink)))
+    (λ is. subst (λ (numbers : Numbers). AreSealed (run_of g.T.TakesRound.order g.K.Keeper g.O.Sink g.S.Source g.C.Clock c.args.basis.now c.args.sources.now c.args.keeper.now c.args.results.now c.args.clock.now c.next_moment.new.clock) (g.K.Keeper.kept c.take_tick-in-loop.new.keeper) numbers) (sym same) (sealed_on _ _ _ _ _ _ _ _ _ _ _ _ _ _ c.loop.clock c.next_moment.new.clock c.loop.counter (g.K.Keeper.kept c.loop.keeper) (g.K.Keeper.kept c.take_tick-in-loop.new.keeper) (g.O.Sink.written c.loop.results) c.loop.feeds c.take_tick-in-loop.new.feeds c.loop.sources c.take_tick-in-loop.new.sources c.loop.last c.in-Ok-next_moment.moment c.loop.state c.loop.invariant.looping c.loop.invariant.ready.going c.in-Ok-next_moment.ensures.read c.in-Err-take_tick-2.ensures.kept))
+    (λ is. numbers_on _ _ _ _ _ _ _ _ _ _ _ _ _ _ c.loop.clock c.next_moment.new.clock c.loop.counter (g.K.Keeper.kept c.loop.keeper) (g.K.Keeper.kept c.take_tick-in-loop.new.keeper) (g.O.Sink.written c.loop.results) c.loop.feeds c.take_tick-in-loop.new.feeds c.loop.sources c.take_tick-in-loop.new.sources c.loop.last c.in-Ok-next_moment.moment c.loop.state c.loop.invariant.looping c.loop.invariant.ready.going c.in-Ok-next_moment.ensures.read c.take_tick-in-loop.new.state (c.take_tick-in-loop.ensures.sealed refused c.in-Err-take_tick-2.is is))
+    (λ not_keeper not_sink. subst (λ (numbers : Numbers). AreNumbersOf (fixed_of g.T.TakesRound.order g.K.Keeper g.O.Sink g.S.Source c.args.basis.now c.args.sources.now c.args.keeper.now c.args.results.now) (g.K.Keeper.kept c.take_tick-in-loop.new.keeper) numbers) (sym same)
+    (numbers_same _ _ _ _ _ _ _ _ _ _ _ _ _ _ c.loop.clock c.next_moment.new.clock c.loop.counter (g.K.Keeper.kept c.loop.keeper) (g.K.Keeper.kept c.take_tick-in-loop.new.keeper) (g.O.Sink.written c.loop.results) c.loop.feeds c.take_tick-in-loop.new.feeds c.loop.sources c.take_tick-in-loop.new.sources c.loop.last c.in-Ok-next_moment.moment c.loop.state c.loop.invariant.looping c.loop.invariant.ready.going c.in-Ok-next_moment.ensures.read (λ tells. c.take_tick-in-loop.ensures.unkept tells refused c.in-Err-take_tick-2.is not_keeper not_sink)))
 
 pub returns-in-Err-take_tick-2-clause-stops_telling : goal.returns-in-Err-take_tick-2-clause-stops_telling
 returns-in-Err-take_tick-2-clause-stops_telling g c tells =
@@ -493,8 +493,8 @@ returns-in-Err-take_tick-2-clause-stops_telling g c tells =
     let before = c.loop.invariant.status_later in
     let noted = c.next_moment.ensures.later in
     told_some _ (g.K.Keeper.kept c.take_tick-in-loop.new.keeper) c.args.basis.now.configured.notes (g.O.Sink.written c.args.status.now) (g.O.Sink.written c.next_moment.new.status) (g.O.Sink.written c.told-in-Err-take_tick-2.new.status) (g.O.Sink.faults c.args.status.now) (g.O.Sink.faults c.next_moment.new.status) (g.O.Sink.faults c.told-in-Err-take_tick-2.new.status)
-    ((places_of (g.K.Keeper.kept c.args.keeper.now) c.loop.invariant.looping.running.added.entries) ++ again_places (asks_again c.args.basis.now.configured.config c.loop.last c.in-Ok-next_moment.moment) (tick_place ((g.K.Keeper.kept c.args.keeper.now) ++ c.loop.invariant.looping.running.added.entries) c.in-Ok-next_moment.moment)) c.take_tick-in-loop.new.feeds (counts_on g.S.Source.left _ r.entries (g.K.Keeper.kept c.take_tick-in-loop.new.keeper) c.loop.feeds c.take_tick-in-loop.new.feeds c.loop.sources (λ told. more_kept _ _ _ _ _ _ _ _ _ _ _ _ _ c.loop.clock c.next_moment.new.clock c.loop.counter (g.K.Keeper.kept c.loop.keeper) (g.K.Keeper.kept c.take_tick-in-loop.new.keeper) (g.O.Sink.written c.loop.results) c.loop.feeds c.take_tick-in-loop.new.feeds c.loop.sources c.take_tick-in-loop.new.sources c.loop.last c.in-Ok-next_moment.moment c.loop.state c.loop.invariant.looping c.loop.invariant.ready.going c.in-Ok-next_moment.ensures.read (c.in-Err-take_tick-2.ensures.kept told) told) r.standing.fed c.take_tick-in-loop.ensures.counts)
-    (λ told. counted_in _ _ _ _ _ _ _ _ _ _ _ _ _ c.loop.clock c.next_moment.new.clock c.loop.counter (g.K.Keeper.kept c.loop.keeper) (g.K.Keeper.kept c.take_tick-in-loop.new.keeper) (g.O.Sink.written c.loop.results) c.loop.feeds c.take_tick-in-loop.new.feeds c.loop.sources c.take_tick-in-loop.new.sources c.loop.last c.in-Ok-next_moment.moment c.loop.state c.loop.invariant.looping c.loop.invariant.ready.going c.in-Ok-next_moment.ensures.read (c.in-Err-take_tick-2.ensures.kept told) told) (noted_on (fixed_of g.K.Keeper g.O.Sink g.S.Source c.args.basis.now c.args.sources.now c.args.keeper.now c.args.results.now) c.args.basis.now.configured.notes (g.O.Sink.written c.args.status.now) (asks_again c.args.basis.now.configured.config c.loop.last c.in-Ok-next_moment.moment) (places_of (g.K.Keeper.kept c.args.keeper.now) c.loop.invariant.looping.running.added.entries) (tick_place ((g.K.Keeper.kept c.args.keeper.now) ++ c.loop.invariant.looping.running.added.entries) c.in-Ok-next_moment.moment) (found_now c.args.basis.now.configured.config c.loop.state c.in-Ok-next_moment.moment) (g.O.Sink.written c.loop.status) (g.O.Sink.written c.next_moment.new.status) (found_on _ _ _ _ _ _ _ _ _ _ _ _ _ c.loop.clock c.next_moment.new.clock c.loop.counter (g.K.Keeper.kept c.loop.keeper) (g.K.Keeper.kept c.take_tick-in-loop.new.keeper) (g.O.Sink.written c.loop.results) c.loop.feeds c.take_tick-in-loop.new.feeds c.loop.sources c.take_tick-in-loop.new.sources c.loop.last c.in-Ok-next_moment.moment c.loop.state c.loop.invariant.looping c.loop.invariant.ready.going c.in-Ok-next_moment.ensures.read c.next_moment.ensures.is) (c.loop.invariant.told tells) (c.in-Ok-next_moment.ensures.noted tells)) (c.told-in-Err-take_tick-2.ensures.skipped tells) (omega (arith, before, noted))
+    ((places_of (g.K.Keeper.kept c.args.keeper.now) c.loop.invariant.looping.running.added.entries) ++ again_places (asks_again c.args.basis.now.configured.config c.loop.last c.in-Ok-next_moment.moment) (tick_place ((g.K.Keeper.kept c.args.keeper.now) ++ c.loop.invariant.looping.running.added.entries) c.in-Ok-next_moment.moment)) c.take_tick-in-loop.new.feeds (counts_on g.S.Source.left _ r.entries (g.K.Keeper.kept c.take_tick-in-loop.new.keeper) c.loop.feeds c.take_tick-in-loop.new.feeds c.loop.sources (λ told. more_kept _ _ _ _ _ _ _ _ _ _ _ _ _ _ c.loop.clock c.next_moment.new.clock c.loop.counter (g.K.Keeper.kept c.loop.keeper) (g.K.Keeper.kept c.take_tick-in-loop.new.keeper) (g.O.Sink.written c.loop.results) c.loop.feeds c.take_tick-in-loop.new.feeds c.loop.sources c.take_tick-in-loop.new.sources c.loop.last c.in-Ok-next_moment.moment c.loop.state c.loop.invariant.looping c.loop.invariant.ready.going c.in-Ok-next_moment.ensures.read (c.in-Err-take_tick-2.ensures.kept told) told) r.standing.fed c.take_tick-in-loop.ensures.counts)
+    (λ told. counted_in _ _ _ _ _ _ _ _ _ _ _ _ _ _ c.loop.clock c.next_moment.new.clock c.loop.counter (g.K.Keeper.kept c.loop.keeper) (g.K.Keeper.kept c.take_tick-in-loop.new.keeper) (g.O.Sink.written c.loop.results) c.loop.feeds c.take_tick-in-loop.new.feeds c.loop.sources c.take_tick-in-loop.new.sources c.loop.last c.in-Ok-next_moment.moment c.loop.state c.loop.invariant.looping c.loop.invariant.ready.going c.in-Ok-next_moment.ensures.read (c.in-Err-take_tick-2.ensures.kept told) told) (noted_on (fixed_of g.T.TakesRound.order g.K.Keeper g.O.Sink g.S.Source c.args.basis.now c.args.sources.now c.args.keeper.now c.args.results.now) c.args.basis.now.configured.notes (g.O.Sink.written c.args.status.now) (asks_again c.args.basis.now.configured.config c.loop.last c.in-Ok-next_moment.moment) (places_of (g.K.Keeper.kept c.args.keeper.now) c.loop.invariant.looping.running.added.entries) (tick_place ((g.K.Keeper.kept c.args.keeper.now) ++ c.loop.invariant.looping.running.added.entries) c.in-Ok-next_moment.moment) (found_now c.args.basis.now.configured.config c.loop.state c.in-Ok-next_moment.moment) (g.O.Sink.written c.loop.status) (g.O.Sink.written c.next_moment.new.status) (found_on _ _ _ _ _ _ _ _ _ _ _ _ _ _ c.loop.clock c.next_moment.new.clock c.loop.counter (g.K.Keeper.kept c.loop.keeper) (g.K.Keeper.kept c.take_tick-in-loop.new.keeper) (g.O.Sink.written c.loop.results) c.loop.feeds c.take_tick-in-loop.new.feeds c.loop.sources c.take_tick-in-loop.new.sources c.loop.last c.in-Ok-next_moment.moment c.loop.state c.loop.invariant.looping c.loop.invariant.ready.going c.in-Ok-next_moment.ensures.read c.next_moment.ensures.is) (c.loop.invariant.told tells) (c.in-Ok-next_moment.ensures.noted tells)) (c.told-in-Err-take_tick-2.ensures.skipped tells) (omega (arith, before, noted))
 
 pub returns-clause-stops : goal.returns-clause-stops
 returns-clause-stops g c =
@@ -509,7 +509,7 @@ returns-clause-stops_telling g c tells =
     let untold = c.end_session.ensures.untold tells in
     of_refusal _ _ _ c.end_session.result untold untold
     (λ refused is same. told_none _ (g.K.Keeper.kept c.loop.keeper) c.args.basis.now.configured.notes (g.O.Sink.written c.args.status.now) (g.O.Sink.written c.loop.status) (g.O.Sink.written c.end_session.new.status) (g.O.Sink.faults c.args.status.now) (g.O.Sink.faults c.loop.status) (g.O.Sink.faults c.end_session.new.status)
-    (places_of (g.K.Keeper.kept c.args.keeper.now) c.loop.invariant.looping.running.added.entries) (λ told. places_now (g.K.Keeper.kept c.args.keeper.now) (g.K.Keeper.kept c.loop.keeper) c.loop.invariant.looping.running.added.entries (counted_now _ _ _ _ _ _ _ _ _ _ _ _ _ c.loop.clock c.loop.counter (g.K.Keeper.kept c.loop.keeper) (g.O.Sink.written c.loop.results) c.loop.feeds c.loop.sources c.loop.last c.loop.state c.loop.invariant.looping told)) (c.loop.invariant.told tells) is c.loop.invariant.status_later)
+    (places_of (g.K.Keeper.kept c.args.keeper.now) c.loop.invariant.looping.running.added.entries) (λ told. places_now (g.K.Keeper.kept c.args.keeper.now) (g.K.Keeper.kept c.loop.keeper) c.loop.invariant.looping.running.added.entries (counted_now _ _ _ _ _ _ _ _ _ _ _ _ _ _ c.loop.clock c.loop.counter (g.K.Keeper.kept c.loop.keeper) (g.O.Sink.written c.loop.results) c.loop.feeds c.loop.sources c.loop.last c.loop.state c.loop.invariant.looping told)) (c.loop.invariant.told tells) is c.loop.invariant.status_later)
 
 pub returns-clause-fit : goal.returns-clause-fit
 returns-clause-fit g c tells = of_any _ c.end_session.result (subst Fits (c.in-Ok.ensures.value tells) c.in-Ok.ensures.fits)

@@ -53,11 +53,11 @@ returns-in-Err-clause-sink_cause g c refused is error =
 
 pub finish_tick-requires-clause-goes_on : goal.finish_tick-requires-clause-goes_on
 finish_tick-requires-clause-goes_on g c =
-    filled_on g.S.Source.tells g.S.Source.left g.S.Source.faults c.args.basis.now.setup c.args.basis.now.configured.config c.args.basis.now.configured.documents c.args.tick.configured_at c.args.tick.moment c.args.feeds.now c.fill_tick.new.feeds c.args.sources.now c.fill_tick.new.sources c.args.state.now c.fill_tick.new.state c.in-Ok.ensures.fills g.K.Keeper.tells (g.K.Keeper.kept c.args.keeper.now) c.requires.goes_on
+    filled_on g.T.TakesRound.order g.S.Source.tells g.S.Source.left g.S.Source.faults c.args.basis.now.setup c.args.basis.now.configured.config c.args.basis.now.configured.documents c.args.tick.configured_at c.args.tick.moment c.args.feeds.now c.fill_tick.new.feeds c.args.sources.now c.fill_tick.new.sources c.args.state.now c.fill_tick.new.state c.in-Ok.ensures.fills g.K.Keeper.tells (g.K.Keeper.kept c.args.keeper.now) c.requires.goes_on
 
 pub finish_tick-requires-clause-tellable : goal.finish_tick-requires-clause-tellable
 finish_tick-requires-clause-tellable g c =
-    filled_tellable g.S.Source.tells g.S.Source.left g.S.Source.faults c.args.basis.now.setup c.args.basis.now.configured.config c.args.basis.now.configured.documents c.args.tick.configured_at c.args.tick.moment c.args.feeds.now c.fill_tick.new.feeds c.args.sources.now c.fill_tick.new.sources c.args.state.now c.fill_tick.new.state c.in-Ok.ensures.fills c.requires.ready.tellable
+    filled_tellable g.T.TakesRound.order g.S.Source.tells g.S.Source.left g.S.Source.faults c.args.basis.now.setup c.args.basis.now.configured.config c.args.basis.now.configured.documents c.args.tick.configured_at c.args.tick.moment c.args.feeds.now c.fill_tick.new.feeds c.args.sources.now c.fill_tick.new.sources c.args.state.now c.fill_tick.new.state c.in-Ok.ensures.fills c.requires.ready.tellable
 
 pub returns-in-Ok-finish_tick-clause-done : goal.returns-in-Ok-finish_tick-clause-done
 returns-in-Ok-finish_tick-clause-done g c =
@@ -79,7 +79,7 @@ returns-in-Ok-finish_tick-clause-ready g c =
     let before = c.requires.ready.before in
     let later = c.requires.later in
     ready_behind c.fill_tick.new.feeds (asks_again c.args.basis.now.configured.config c.args.tick.configured_at c.args.tick.moment) c.args.tick.configured_at c.in-Ok.last c.args.tick.moment c.fill_tick.new.state finished.settled c.finish_tick.new.state
-    (filled_moment g.S.Source.tells g.S.Source.left g.S.Source.faults c.args.basis.now.setup c.args.basis.now.configured.config c.args.basis.now.configured.documents c.args.tick.configured_at c.args.tick.moment c.args.feeds.now c.fill_tick.new.feeds c.args.sources.now c.fill_tick.new.sources c.args.state.now c.fill_tick.new.state c.in-Ok.ensures.fills)
+    (filled_moment g.T.TakesRound.order g.S.Source.tells g.S.Source.left g.S.Source.faults c.args.basis.now.setup c.args.basis.now.configured.config c.args.basis.now.configured.documents c.args.tick.configured_at c.args.tick.moment c.args.feeds.now c.fill_tick.new.feeds c.args.sources.now c.fill_tick.new.sources c.args.state.now c.fill_tick.new.state c.in-Ok.ensures.fills)
     c.in-Ok.ensures.going finished.settles finished.taken (omega (arith, before, later)) c.in-Ok.ensures.last
 
 pub returns-in-Err-finish_tick-clause-kept : goal.returns-in-Err-finish_tick-clause-kept
@@ -87,12 +87,12 @@ returns-in-Err-finish_tick-clause-kept g c told =
     let finished = c.finish_tick.ensures in
     by_cause c.in-Err-finish_tick.error refl
   where
-    by_cause : (e : FinishError) → c.in-Err-finish_tick.error ≡ e → IsWholeTick g.S.Source.tells g.S.Source.left g.S.Source.faults c.args.basis.now.setup c.args.basis.now.configured.config c.args.basis.now.configured.documents c.args.tick.configured_at c.args.tick.moment (g.K.Keeper.kept c.args.keeper.now) (g.K.Keeper.kept c.finish_tick.new.keeper) c.args.feeds.now c.fill_tick.new.feeds c.args.sources.now c.fill_tick.new.sources c.args.state.now
+    by_cause : (e : FinishError) → c.in-Err-finish_tick.error ≡ e → IsWholeTick g.T.TakesRound.order g.S.Source.tells g.S.Source.left g.S.Source.faults c.args.basis.now.setup c.args.basis.now.configured.config c.args.basis.now.configured.documents c.args.tick.configured_at c.args.tick.moment (g.K.Keeper.kept c.args.keeper.now) (g.K.Keeper.kept c.finish_tick.new.keeper) c.args.feeds.now c.fill_tick.new.feeds c.args.sources.now c.fill_tick.new.sources c.args.state.now
     by_cause finish.NumbersSpent e = inl (c.finish_tick.ensures.unkept told (inl (c.in-Err-finish_tick.is ∙ ap Err e)))
     by_cause finish.NoMemory e = inl (c.finish_tick.ensures.unkept told (inr (c.in-Err-finish_tick.is ∙ ap Err e)))
     by_cause finish.KeeperFault e = whole (c.finish_tick.ensures.whole told (c.in-Err-finish_tick.is ∙ ap Err e))
       where
-        whole : IsWhole (g.K.Keeper.kept c.args.keeper.now) (g.K.Keeper.kept c.finish_tick.new.keeper) c.fill_tick.new.state → IsWholeTick g.S.Source.tells g.S.Source.left g.S.Source.faults c.args.basis.now.setup c.args.basis.now.configured.config c.args.basis.now.configured.documents c.args.tick.configured_at c.args.tick.moment (g.K.Keeper.kept c.args.keeper.now) (g.K.Keeper.kept c.finish_tick.new.keeper) c.args.feeds.now c.fill_tick.new.feeds c.args.sources.now c.fill_tick.new.sources c.args.state.now
+        whole : IsWhole (g.K.Keeper.kept c.args.keeper.now) (g.K.Keeper.kept c.finish_tick.new.keeper) c.fill_tick.new.state → IsWholeTick g.T.TakesRound.order g.S.Source.tells g.S.Source.left g.S.Source.faults c.args.basis.now.setup c.args.basis.now.configured.config c.args.basis.now.configured.documents c.args.tick.configured_at c.args.tick.moment (g.K.Keeper.kept c.args.keeper.now) (g.K.Keeper.kept c.finish_tick.new.keeper) c.args.feeds.now c.fill_tick.new.feeds c.args.sources.now c.fill_tick.new.sources c.args.state.now
         whole (inl same) = inl same
         whole (inr (settled, settles, grown)) = inr (settled, record { filled = c.fill_tick.new.state; fills = c.in-Ok.ensures.fills; settles = settles }, grown)
     by_cause finish.SinkFault e =
