@@ -4,6 +4,7 @@ use Rattle.std.proofs.Math.Seq.{drop-append_seam}
 use Rattle.program_words.specs.declared.command.ReplayWords.{ReplayWords}
 use Rattle.osq_value.specs.declared.source.SourceName.{SourceName}
 use Rattle.session_model.specs.Given.{Given}
+use Rattle.session_model.specs.Orders.{Order}
 use Rattle.entry_model.specs.declared.entry.Entry.{Entry}
 use Rattle.replay_rounds.specs.Fixed.{Fixed}
 use Rattle.replay_rounds.specs.Noting.{ArePlacesBut, CountsTo, HasTold, HasToldSome, HaveCounted, Place}
@@ -42,8 +43,8 @@ replay_may words seen R (QueryRefused place kind) caused = absurd caused
 replay_may words seen R OutOfMemory caused = refl
 
 -- no session was begun
-pub untold_replay : (words : ReplayWords) (seen : Observed) (status : Status) → seen.has_read [] → TellsSome (MayReplayTell words seen) seen status → TellsReplay words seen status
-untold_replay words seen status unread some refusal = inl (record { front = some.front; may = some.before; unread = unread; told = some.behind })
+pub untold_replay : (order : Order) (words : ReplayWords) (seen : Observed) (status : Status) → seen.has_read [] → TellsSome (MayReplayTell words seen) seen status → TellsReplay order words seen status
+untold_replay order words seen status unread some refusal = inl (record { front = some.front; may = some.before; unread = unread; told = some.behind })
 
 -- what such a session told is told of one that ended early too
 module _ (x : Fixed) (now : List Entry) (left_out before after : List ℕ) (has : HasTold x now left_out before after) where
@@ -75,39 +76,39 @@ module _ (x : Fixed) (now : List Entry) (left_out before after : List ℕ) (has 
   }
 
 -- a session that did all its ticks, of which the end could not be told
-pub ran_telling : (words : ReplayWords) (seen : Observed) (status : Status) (given : Given) (is : IsReplayGiven words seen given) (between : List ℕ) (failed : Type 0) → (failed → seen.status_failed)
-    → (seen.sink_tells → HasTold (fixed seen given) seen.kept_after is.notes seen.status_before between)
-    → (IsRefusal status → seen.sink_tells → ((status ≡ OutOfMemory) × (seen.status_after ≡ between ++ refusal_line status)) ⊎ failed) → TellsReplay words seen status
-ran_telling words seen status given is between failed more session ends refusal = inr (record {
+pub ran_telling : (order : Order) (words : ReplayWords) (seen : Observed) (status : Status) (given : Given) (is : IsReplayGiven words seen given) (between : List ℕ) (failed : Type 0) → (failed → seen.status_failed)
+    → (seen.sink_tells → HasTold (fixed order seen given) seen.kept_after is.notes seen.status_before between)
+    → (IsRefusal status → seen.sink_tells → ((status ≡ OutOfMemory) × (seen.status_after ≡ between ++ refusal_line status)) ⊎ failed) → TellsReplay order words seen status
+ran_telling order words seen status given is between failed more session ends refusal = inr (record {
   given = given;
   is = is;
   told = λ tells. by_end tells (ends refusal tells);
 })
   where
     by_end : seen.sink_tells → ((status ≡ OutOfMemory) × (seen.status_after ≡ between ++ refusal_line status)) ⊎ failed
-        → ((between : List ℕ) × HasToldSome (fixed seen given) seen.kept_after is.notes seen.status_before between × (EndsWhole seen given status between ⊎ EndsStarved seen status between)) ⊎ seen.status_failed
+        → ((between : List ℕ) × HasToldSome (fixed order seen given) seen.kept_after is.notes seen.status_before between × (EndsWhole order seen given status between ⊎ EndsStarved seen status between)) ⊎ seen.status_failed
     by_end tells (inl (wanting, after)) =
         let has = session tells in
-        inl (between, told_early (fixed seen given) seen.kept_after is.notes seen.status_before between has, inr (wanting, after))
+        inl (between, told_early (fixed order seen given) seen.kept_after is.notes seen.status_before between has, inr (wanting, after))
     by_end tells (inr fault) = inr (more fault)
 
 -- the numbers of a session that ended for this reason are those of its status
-numbers_at : (seen : Observed) (given : Given) (sources : List SourceName) (e : RunError) (s : Status) (numbers : Numbers) → IsAnswerTo sources e s → AreNumbersFor e (run_in seen given) seen.kept_after numbers → AreNumbersAt s seen given numbers
-numbers_at seen given sources running.KeeperFault s numbers is are = subst (λ (s : Status). AreNumbersAt s seen given numbers) (sym is) are
-numbers_at seen given sources running.KeeperRefused s numbers is are = subst (λ (s : Status). AreNumbersAt s seen given numbers) (sym is) are
-numbers_at seen given sources (running.MomentTooLarge moment) s numbers is are = subst (λ (s : Status). AreNumbersAt s seen given numbers) (sym is) are
-numbers_at seen given sources (running.SourceFault place) s numbers (inl is) are = subst (λ (s : Status). AreNumbersAt s seen given numbers) (sym is) are
-numbers_at seen given sources (running.SourceFault place) s numbers (inr (name, named, is)) are = subst (λ (s : Status). AreNumbersAt s seen given numbers) (sym is) are
-numbers_at seen given sources (running.SourceShrank place had found) s numbers (inl is) are = subst (λ (s : Status). AreNumbersAt s seen given numbers) (sym is) are
-numbers_at seen given sources (running.SourceShrank place had found) s numbers (inr (name, named, is)) are = subst (λ (s : Status). AreNumbersAt s seen given numbers) (sym is) are
-numbers_at seen given sources running.NumbersSpent s numbers is are = subst (λ (s : Status). AreNumbersAt s seen given numbers) (sym is) are
-numbers_at seen given sources running.SinkFault s numbers is are = subst (λ (s : Status). AreNumbersAt s seen given numbers) (sym is) are
-numbers_at seen given sources running.NoMemory s numbers is are = subst (λ (s : Status). AreNumbersAt s seen given numbers) (sym is) are
+numbers_at : (order : Order) (seen : Observed) (given : Given) (sources : List SourceName) (e : RunError) (s : Status) (numbers : Numbers) → IsAnswerTo sources e s → AreNumbersFor e (run_in order seen given) seen.kept_after numbers → AreNumbersAt order s seen given numbers
+numbers_at order seen given sources running.KeeperFault s numbers is are = subst (λ (s : Status). AreNumbersAt order s seen given numbers) (sym is) are
+numbers_at order seen given sources running.KeeperRefused s numbers is are = subst (λ (s : Status). AreNumbersAt order s seen given numbers) (sym is) are
+numbers_at order seen given sources (running.MomentTooLarge moment) s numbers is are = subst (λ (s : Status). AreNumbersAt order s seen given numbers) (sym is) are
+numbers_at order seen given sources (running.SourceFault place) s numbers (inl is) are = subst (λ (s : Status). AreNumbersAt order s seen given numbers) (sym is) are
+numbers_at order seen given sources (running.SourceFault place) s numbers (inr (name, named, is)) are = subst (λ (s : Status). AreNumbersAt order s seen given numbers) (sym is) are
+numbers_at order seen given sources (running.SourceShrank place had found) s numbers (inl is) are = subst (λ (s : Status). AreNumbersAt order s seen given numbers) (sym is) are
+numbers_at order seen given sources (running.SourceShrank place had found) s numbers (inr (name, named, is)) are = subst (λ (s : Status). AreNumbersAt order s seen given numbers) (sym is) are
+numbers_at order seen given sources running.NumbersSpent s numbers is are = subst (λ (s : Status). AreNumbersAt order s seen given numbers) (sym is) are
+numbers_at order seen given sources running.SinkFault s numbers is are = subst (λ (s : Status). AreNumbersAt order s seen given numbers) (sym is) are
+numbers_at order seen given sources running.NoMemory s numbers is are = subst (λ (s : Status). AreNumbersAt order s seen given numbers) (sym is) are
 
 -- a session that ended early
-module _ (words : ReplayWords) (seen : Observed) (given : Given) (is : IsReplayGiven words seen given) (sources : List SourceName) (e : RunError) (answered status : Status) (between : List ℕ) (failed untold : Type 0) (answer : IsAnswerTo sources e answered) (more : failed → seen.status_failed) where
+module _ (order : Order) (words : ReplayWords) (seen : Observed) (given : Given) (is : IsReplayGiven words seen given) (sources : List SourceName) (e : RunError) (answered status : Status) (between : List ℕ) (failed untold : Type 0) (answer : IsAnswerTo sources e answered) (more : failed → seen.status_failed) where
   -- its list wasn't loaded
-  unloaded_may : (e : RunError) (answered status : Status) → IsAnswerTo sources e answered → Stops (run_in seen given) seen.kept_after untold e None → (status ≡ answered) ⊎ (status ≡ OutOfMemory) → MayReplayTell words seen status []
+  unloaded_may : (e : RunError) (answered status : Status) → IsAnswerTo sources e answered → Stops (run_in order seen given) seen.kept_after untold e None → (status ≡ answered) ⊎ (status ≡ OutOfMemory) → MayReplayTell words seen status []
   unloaded_may running.KeeperFault answered status answer stops how =
       as_stopped (λ (s : Status). MayReplayTell words seen s []) answered status how (subst (λ (s : Status). MayReplayTell words seen s []) (sym answer) ((given, is), refl)) refl
   unloaded_may running.KeeperRefused answered status answer stops how = absurd stops.0
@@ -120,14 +121,14 @@ module _ (words : ReplayWords) (seen : Observed) (given : Given) (is : IsReplayG
       as_stopped (λ (s : Status). MayReplayTell words seen s []) answered status how (subst (λ (s : Status). MayReplayTell words seen s []) (sym answer) refl) refl
 
   -- the line of its status and the final line
-  ends_as : (numbers : Numbers) → AreNumbersFor e (run_in seen given) seen.kept_after numbers → EndsAs between seen.status_after answered status numbers → EndsWhole seen given status between ⊎ EndsStarved seen status between
+  ends_as : (numbers : Numbers) → AreNumbersFor e (run_in order seen given) seen.kept_after numbers → EndsAs between seen.status_after answered status numbers → EndsWhole order seen given status between ⊎ EndsStarved seen status between
   ends_as numbers are (inl (same, after)) =
-      inl (subst (λ (s : Status). EndsWhole seen given s between) (sym same) (numbers, numbers_at seen given sources e answered numbers answer are, after))
+      inl (subst (λ (s : Status). EndsWhole order seen given s between) (sym same) (numbers, numbers_at order seen given sources e answered numbers answer are, after))
   ends_as numbers are (inr (wanting, after)) = inr (wanting, after)
 
-  pub stopped_telling : (known : Option Numbers) → Stops (run_in seen given) seen.kept_after untold e known → (untold → between ≡ seen.status_before)
-      → (seen.sink_tells → HasToldSome (fixed seen given) seen.kept_after is.notes seen.status_before between ⊎ seen.status_failed) → (seen.sink_tells → TellsStop failed between seen.status_after answered status known)
-      → (status ≡ answered) ⊎ (status ≡ OutOfMemory) → TellsReplay words seen status
+  pub stopped_telling : (known : Option Numbers) → Stops (run_in order seen given) seen.kept_after untold e known → (untold → between ≡ seen.status_before)
+      → (seen.sink_tells → HasToldSome (fixed order seen given) seen.kept_after is.notes seen.status_before between ⊎ seen.status_failed) → (seen.sink_tells → TellsStop failed between seen.status_after answered status known)
+      → (status ≡ answered) ⊎ (status ≡ OutOfMemory) → TellsReplay order words seen status
   stopped_telling None stops same some told how refusal = inl (record {
     front = [];
     may = unloaded_may e answered status answer stops how;
@@ -140,8 +141,8 @@ module _ (words : ReplayWords) (seen : Observed) (given : Given) (is : IsReplayG
       by_tells same (inr (fault, (count, after))) = inr (more fault, (count, subst (λ (text : List ℕ). seen.status_after ≡ text ++ take count (refusal_line status)) same after))
   stopped_telling (Some numbers) stops same some told how refusal = inr (record { given = given; is = is; told = λ tells. by_told (some tells) (told tells) })
     where
-      by_told : HasToldSome (fixed seen given) seen.kept_after is.notes seen.status_before between ⊎ seen.status_failed → EndsAs between seen.status_after answered status numbers ⊎ failed
-          → ((between : List ℕ) × HasToldSome (fixed seen given) seen.kept_after is.notes seen.status_before between × (EndsWhole seen given status between ⊎ EndsStarved seen status between)) ⊎ seen.status_failed
+      by_told : HasToldSome (fixed order seen given) seen.kept_after is.notes seen.status_before between ⊎ seen.status_failed → EndsAs between seen.status_after answered status numbers ⊎ failed
+          → ((between : List ℕ) × HasToldSome (fixed order seen given) seen.kept_after is.notes seen.status_before between × (EndsWhole order seen given status between ⊎ EndsStarved seen status between)) ⊎ seen.status_failed
       by_told (inl has) (inl ends) = inl (between, has, ends_as numbers stops ends)
       by_told (inl has) (inr fault) = inr (more fault)
       by_told (inr fault) ends = inr fault

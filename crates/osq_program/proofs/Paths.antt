@@ -3,8 +3,9 @@ use Rattle.std.proofs.lemmas.List.{append-nil}
 use Rattle.std.proofs.Common.{◌∙◌, ◌≡◌, Bool, true, false, List, [], Option, Some, inl, refl, sym, ap, subst}
 use Rattle.std.specs.Prelude.{unwrap_or}
 use Rattle.program_words.specs.declared.command.CommandWords.{CommandWords}
-use Rattle.program_words.specs.declared.command.CommandWords.TheVariants.{Replay as AsksReplay, Query as AsksQuery, Check as AsksCheck, Collect as AsksCollect, Generate as AsksGenerate, SelfTest as AsksSelfTest, Report as AsksReport}
+use Rattle.program_words.specs.declared.command.CommandWords.TheVariants.{Replay as AsksReplay, Daemon as AsksDaemon, Query as AsksQuery, Check as AsksCheck, Collect as AsksCollect, Generate as AsksGenerate, SelfTest as AsksSelfTest, Report as AsksReport}
 use Rattle.program_words.specs.declared.command.QueryWords.{QueryWords}
+use Rattle.session_model.specs.Orders.{in_turn, at_once}
 use Rattle.osq_program.specs.declared.status.Status.{Status}
 use Rattle.osq_program.specs.declared.status.Status.TheVariants.{OutOfMemory}
 use Rattle.osq_program.specs.Doing.{MeetsCommand, DoesQuery, QueriesBy, TellsCommand, TellsOfQuery, TellsQueryBy}
@@ -28,7 +29,8 @@ does_query words seen status plain does = subst (λ (b : Bool). QueriesBy b word
 
 -- memory is wanting before anything is done
 wants : (command : CommandWords) (seen : Observed) → seen.has_read [] → (seen.keeper_tells → seen.kept_after ≡ seen.kept_before) → (seen.sink_tells → seen.results_after ≡ seen.results_before) → (seen.sink_tells → seen.ledger_after ≡ seen.ledger_before) → MeetsCommand command seen OutOfMemory
-wants (AsksReplay words) seen unread kept same ledger = replay_wants words seen OutOfMemory refl unread kept same
+wants (AsksReplay words) seen unread kept same ledger = replay_wants in_turn words seen OutOfMemory refl unread kept same
+wants (AsksDaemon words) seen unread kept same ledger = replay_wants at_once words.run seen OutOfMemory refl unread kept same
 wants (AsksQuery words) seen unread kept same ledger = by_flag words.explain
   where
     by_flag : (explain : Bool) → QueriesBy explain words seen OutOfMemory
@@ -56,7 +58,8 @@ tells_query words seen status plain tells = subst (λ (b : Bool). TellsQueryBy b
 
 -- memory is wanting before anything is done, and that is told
 wanting : (command : CommandWords) (seen : Observed) → seen.has_read [] → (seen.sink_tells → Tells seen.status_failed seen.status_before seen.status_after (refusal_line OutOfMemory)) → TellsCommand command seen OutOfMemory
-wanting (AsksReplay words) seen unread told = untold_replay words seen OutOfMemory unread (record { front = []; before = refl; behind = told })
+wanting (AsksReplay words) seen unread told = untold_replay in_turn words seen OutOfMemory unread (record { front = []; before = refl; behind = told })
+wanting (AsksDaemon words) seen unread told = untold_replay at_once words.run seen OutOfMemory unread (record { front = []; before = refl; behind = told })
 wanting (AsksQuery words) seen unread told = by_flag words.explain
   where
     by_flag : (explain : Bool) → TellsQueryBy explain words seen OutOfMemory

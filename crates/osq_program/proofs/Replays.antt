@@ -13,6 +13,7 @@ use Rattle.entry_model.proofs.Summaries.{taken_is}
 use Rattle.program_words.specs.declared.command.ReplayWords.{ReplayWords}
 use Rattle.osq_value.specs.declared.source.SourceName.{SourceName}
 use Rattle.session_model.specs.Given.{Given}
+use Rattle.session_model.specs.Orders.{Order}
 use Rattle.daemon_rounds.specs.declared.setup.Setup.{Setup}
 use Rattle.daemon_rounds.specs.Rounding.{FailsAt}
 use Rattle.daemon_rounds.specs.Starting as starting
@@ -85,64 +86,64 @@ not_usage c (QueryRefused place kind) caused is = is
 not_usage c OutOfMemory caused is = is
 
 -- the configuration is refused
-config_cause : (words : ReplayWords) (seen : Observed) (s : Status) → IsCaused (record no_causes { files = seen.files_failed; refused = IsRefusedFor seen.files_tell seen.file words.config }) s → IsCaused (causes_of words seen) s
-config_cause words seen Done caused = caused
-config_cause words seen Usage caused = caused
-config_cause words seen FilesFault caused = caused
-config_cause words seen (ConfigRefused kind key) caused = caused
-config_cause words seen KeeperFault caused = absurd caused
-config_cause words seen KeeperRefused caused = absurd caused
-config_cause words seen (MomentTooLarge moment) caused = absurd caused
-config_cause words seen (SourceFault name) caused = absurd caused
-config_cause words seen (SourceShrank name kept found) caused = absurd caused
-config_cause words seen NumbersSpent caused = absurd caused
-config_cause words seen SinkFault caused = absurd caused
-config_cause words seen TicksSpent caused = caused
-config_cause words seen (QueryRefused place kind) caused = caused
-config_cause words seen OutOfMemory caused = tt
+config_cause : (order : Order) (words : ReplayWords) (seen : Observed) (s : Status) → IsCaused (record no_causes { files = seen.files_failed; refused = IsRefusedFor seen.files_tell seen.file words.config }) s → IsCaused (causes_of order words seen) s
+config_cause order words seen Done caused = caused
+config_cause order words seen Usage caused = caused
+config_cause order words seen FilesFault caused = caused
+config_cause order words seen (ConfigRefused kind key) caused = caused
+config_cause order words seen KeeperFault caused = absurd caused
+config_cause order words seen KeeperRefused caused = absurd caused
+config_cause order words seen (MomentTooLarge moment) caused = absurd caused
+config_cause order words seen (SourceFault name) caused = absurd caused
+config_cause order words seen (SourceShrank name kept found) caused = absurd caused
+config_cause order words seen NumbersSpent caused = absurd caused
+config_cause order words seen SinkFault caused = absurd caused
+config_cause order words seen TicksSpent caused = caused
+config_cause order words seen (QueryRefused place kind) caused = caused
+config_cause order words seen OutOfMemory caused = tt
 
 -- the last line of a whole session could not be written
-line_cause : (words : ReplayWords) (seen : Observed) → IsAccepted words seen → (s : Status) → IsCaused (record no_causes { sink = seen.status_failed }) s → IsCaused (causes_of words seen) s
-line_cause words seen accepted Done caused = caused
-line_cause words seen accepted Usage caused = caused
-line_cause words seen accepted FilesFault caused = absurd caused
-line_cause words seen accepted (ConfigRefused kind key) caused = absurd caused
-line_cause words seen accepted KeeperFault caused = absurd caused
-line_cause words seen accepted KeeperRefused caused = absurd caused
-line_cause words seen accepted (MomentTooLarge moment) caused = absurd caused
-line_cause words seen accepted (SourceFault name) caused = absurd caused
-line_cause words seen accepted (SourceShrank name kept found) caused = absurd caused
-line_cause words seen accepted NumbersSpent caused = absurd caused
-line_cause words seen accepted SinkFault caused = (accepted, inr caused)
-line_cause words seen accepted TicksSpent caused = caused
-line_cause words seen accepted (QueryRefused place kind) caused = caused
-line_cause words seen accepted OutOfMemory caused = tt
+line_cause : (order : Order) (words : ReplayWords) (seen : Observed) → IsAccepted words seen → (s : Status) → IsCaused (record no_causes { sink = seen.status_failed }) s → IsCaused (causes_of order words seen) s
+line_cause order words seen accepted Done caused = caused
+line_cause order words seen accepted Usage caused = caused
+line_cause order words seen accepted FilesFault caused = absurd caused
+line_cause order words seen accepted (ConfigRefused kind key) caused = absurd caused
+line_cause order words seen accepted KeeperFault caused = absurd caused
+line_cause order words seen accepted KeeperRefused caused = absurd caused
+line_cause order words seen accepted (MomentTooLarge moment) caused = absurd caused
+line_cause order words seen accepted (SourceFault name) caused = absurd caused
+line_cause order words seen accepted (SourceShrank name kept found) caused = absurd caused
+line_cause order words seen accepted NumbersSpent caused = absurd caused
+line_cause order words seen accepted SinkFault caused = (accepted, inr caused)
+line_cause order words seen accepted TicksSpent caused = caused
+line_cause order words seen accepted (QueryRefused place kind) caused = caused
+line_cause order words seen accepted OutOfMemory caused = tt
 
 -- a run that ended before its session was done
-pub stopped : (words : ReplayWords) (seen : Observed) (s : Status) → IsCaused (causes_of words seen) s
-    → (seen.keeper_tells → ((seen.kept_after ≡ seen.kept_before) × seen.has_read []) ⊎ ((given : Given) × IsReplayGiven words seen given × IsKept (run_in seen given) seen.kept_after))
-    → (seen.sink_tells → ((seen.results_after ≡ seen.results_before) × seen.has_read []) ⊎ ((given : Given) × IsReplayGiven words seen given × IsWritten (fixed seen given) seen.kept_after seen.results_after))
-    → IsReplay words seen s
-stopped words seen s caused kept written = record {
-  done = λ done. absurd (not_done (causes_of words seen) s caused done);
-  spent = λ spent. absurd (not_spent (causes_of words seen) s caused spent);
+pub stopped : (order : Order) (words : ReplayWords) (seen : Observed) (s : Status) → IsCaused (causes_of order words seen) s
+    → (seen.keeper_tells → ((seen.kept_after ≡ seen.kept_before) × seen.has_read []) ⊎ ((given : Given) × IsReplayGiven words seen given × IsKept (run_in order seen given) seen.kept_after))
+    → (seen.sink_tells → ((seen.results_after ≡ seen.results_before) × seen.has_read []) ⊎ ((given : Given) × IsReplayGiven words seen given × IsWritten (fixed order seen given) seen.kept_after seen.results_after))
+    → IsReplay order words seen s
+stopped order words seen s caused kept written = record {
+  done = λ done. absurd (not_done (causes_of order words seen) s caused done);
+  spent = λ spent. absurd (not_spent (causes_of order words seen) s caused spent);
   cause = λ refusal. caused;
   kept = kept;
   written = written;
 }
 
 -- before its session began
-unbegun : (words : ReplayWords) (seen : Observed) (s : Status) → IsCaused (causes_of words seen) s → seen.has_read [] → (seen.keeper_tells → seen.kept_after ≡ seen.kept_before) → (seen.sink_tells → seen.results_after ≡ seen.results_before)
-    → IsReplay words seen s
-unbegun words seen s caused unread kept same = stopped words seen s caused (λ tells. inl (kept tells, unread)) (λ tells. inl (same tells, unread))
+unbegun : (order : Order) (words : ReplayWords) (seen : Observed) (s : Status) → IsCaused (causes_of order words seen) s → seen.has_read [] → (seen.keeper_tells → seen.kept_after ≡ seen.kept_before) → (seen.sink_tells → seen.results_after ≡ seen.results_before)
+    → IsReplay order words seen s
+unbegun order words seen s caused unread kept same = stopped order words seen s caused (λ tells. inl (kept tells, unread)) (λ tells. inl (same tells, unread))
 
-pub refused_config : (words : ReplayWords) (seen : Observed) (s : Status) → IsCaused (record no_causes { files = seen.files_failed; refused = IsRefusedFor seen.files_tell seen.file words.config }) s → seen.has_read []
-    → (seen.keeper_tells → seen.kept_after ≡ seen.kept_before) → (seen.sink_tells → seen.results_after ≡ seen.results_before) → IsReplay words seen s
-refused_config words seen s caused unread kept same = unbegun words seen s (config_cause words seen s caused) unread kept same
+pub refused_config : (order : Order) (words : ReplayWords) (seen : Observed) (s : Status) → IsCaused (record no_causes { files = seen.files_failed; refused = IsRefusedFor seen.files_tell seen.file words.config }) s → seen.has_read []
+    → (seen.keeper_tells → seen.kept_after ≡ seen.kept_before) → (seen.sink_tells → seen.results_after ≡ seen.results_before) → IsReplay order words seen s
+refused_config order words seen s caused unread kept same = unbegun order words seen s (config_cause order words seen s caused) unread kept same
 
-pub no_memory : (words : ReplayWords) (seen : Observed) (r : Status) → r ≡ OutOfMemory → seen.has_read [] → (seen.keeper_tells → seen.kept_after ≡ seen.kept_before) → (seen.sink_tells → seen.results_after ≡ seen.results_before)
-    → IsReplay words seen r
-no_memory words seen r is unread kept same = subst (IsReplay words seen) (sym is) (unbegun words seen OutOfMemory tt unread kept same)
+pub no_memory : (order : Order) (words : ReplayWords) (seen : Observed) (r : Status) → r ≡ OutOfMemory → seen.has_read [] → (seen.keeper_tells → seen.kept_after ≡ seen.kept_before) → (seen.sink_tells → seen.results_after ≡ seen.results_before)
+    → IsReplay order words seen r
+no_memory order words seen r is unread kept same = subst (IsReplay order words seen) (sym is) (unbegun order words seen OutOfMemory tt unread kept same)
 
 -- what a session is given by its setup
 abbrev pub given_is : {S : Type 0} (left : S → List ℕ) (words : ReplayWords) (seen : Observed) (setup : Setup) (config : Config) (documents : List (List ℕ)) (notes : List ℕ) (objects : List S) → setup ≡ setup_in words
@@ -156,23 +157,23 @@ given_is left words seen setup config documents notes objects is bytes configure
 }
 
 -- a session that did all its ticks, and what was then told of it
-module _ (words : ReplayWords) (seen : Observed) (status : Status) (given : Given) (is : IsReplayGiven words seen given) (ended : Ended)
-    (run : HasRun (run_in seen given) words.ticks seen.kept_after seen.results_after ended) (between : List ℕ) (session : seen.sink_tells → HasTold (fixed seen given) seen.kept_after is.notes seen.status_before between) (fit : seen.keeper_tells → Fits (summary seen.kept_before)) where
-  abbrev ran_with : (is_end : Bool) → ended.is_end ≡ is_end → Ran words seen is_end
+module _ (order : Order) (words : ReplayWords) (seen : Observed) (status : Status) (given : Given) (is : IsReplayGiven words seen given) (ended : Ended)
+    (run : HasRun (run_in order seen given) words.ticks seen.kept_after seen.results_after ended) (between : List ℕ) (session : seen.sink_tells → HasTold (fixed order seen given) seen.kept_after is.notes seen.status_before between) (fit : seen.keeper_tells → Fits (summary seen.kept_before)) where
+  abbrev ran_with : (is_end : Bool) → ended.is_end ≡ is_end → Ran order words seen is_end
   ran_with is_end end_is = record { given = given; is = is; ended = ended; end_is = end_is; run = run; fit = fit }
 
-  told_by : (text : List ℕ) → seen.sink_tells → seen.status_after ≡ between ++ text → IsToldBy seen given is.notes text
+  told_by : (text : List ℕ) → seen.sink_tells → seen.status_after ≡ between ++ text → IsToldBy order seen given is.notes text
   told_by text tells written = (between, session tells, written)
 
   told_spent : (failed : Type 0) → (failed → seen.status_failed) → seen.sink_tells → (seen.status_after ≡ between ++ (refusal_line TicksSpent ++ final_line 11 ended.numbers 0)) ⊎ failed
-      → IsToldBy seen given is.notes (refusal_line TicksSpent ++ final_line 11 ended.numbers 0) ⊎ seen.status_failed
+      → IsToldBy order seen given is.notes (refusal_line TicksSpent ++ final_line 11 ended.numbers 0) ⊎ seen.status_failed
   told_spent failed more tells (inl written) = inl (told_by (refusal_line TicksSpent ++ final_line 11 ended.numbers 0) tells written)
   told_spent failed more tells (inr rose) = inr (more rose)
 
   pub ran : (failed : Type 0) → (failed → seen.status_failed) → (IsDoneStatus status → (ended.is_end ≡ true) × (seen.sink_tells → seen.status_after ≡ between ++ final_line 0 ended.numbers 0))
       → (IsSpentStatus status → (ended.is_end ≡ false) × (seen.sink_tells → (seen.status_after ≡ between ++ (refusal_line TicksSpent ++ final_line 11 ended.numbers 0)) ⊎ failed))
       → (IsRefusal status → IsCaused (record no_causes { sink = failed }) status)
-      → (seen.keeper_tells → IsKept (run_in seen given) seen.kept_after) → (seen.sink_tells → IsWritten (fixed seen given) seen.kept_after seen.results_after) → IsReplay words seen status
+      → (seen.keeper_tells → IsKept (run_in order seen given) seen.kept_after) → (seen.sink_tells → IsWritten (fixed order seen given) seen.kept_after seen.results_after) → IsReplay order words seen status
   ran failed more done spent cause kept written = record {
     done = λ finished.
         let end = done finished in
@@ -180,7 +181,7 @@ module _ (words : ReplayWords) (seen : Observed) (status : Status) (given : Give
     spent = λ finished.
         let end = spent finished in
         (ran_with false end.0, λ tells. told_spent failed more tells (end.1 tells));
-    cause = λ refusal. line_cause words seen (given, is) status (failed_more status (cause refusal));
+    cause = λ refusal. line_cause order words seen (given, is) status (failed_more status (cause refusal));
     kept = λ tells. inr (given, is, kept tells);
     written = λ tells. inr (given, is, written tells);
   } where

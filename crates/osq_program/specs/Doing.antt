@@ -1,8 +1,9 @@
 -- What a run of each command does.
 use Rattle.std.specs.Prelude.{Bool, true, false}
 use Rattle.program_words.specs.declared.command.CommandWords.{CommandWords}
-use Rattle.program_words.specs.declared.command.CommandWords.TheVariants.{Replay as AsksReplay, Query as AsksQuery, Check as AsksCheck, Collect as AsksCollect, Generate as AsksGenerate, SelfTest as AsksSelfTest, Report as AsksReport}
+use Rattle.program_words.specs.declared.command.CommandWords.TheVariants.{Replay as AsksReplay, Daemon as AsksDaemon, Query as AsksQuery, Check as AsksCheck, Collect as AsksCollect, Generate as AsksGenerate, SelfTest as AsksSelfTest, Report as AsksReport}
 use Rattle.program_words.specs.declared.command.QueryWords.{QueryWords}
+use Rattle.session_model.specs.Orders.{in_turn, at_once}
 use Rattle.osq_program.specs.declared.status.Status.{Status}
 use Rattle.osq_program.specs.Checking.{IsCheck}
 use Rattle.osq_program.specs.Collecting.{IsCollect}
@@ -23,7 +24,8 @@ abbrev pub DoesQuery : QueryWords → Observed → Status → Type 0
 DoesQuery words seen status = QueriesBy words.explain words seen status
 
 abbrev pub MeetsCommand : CommandWords → Observed → Status → Type 0
-MeetsCommand (AsksReplay words) seen status = IsReplay words seen status
+MeetsCommand (AsksReplay words) seen status = IsReplay in_turn words seen status
+MeetsCommand (AsksDaemon words) seen status = IsReplay at_once words.run seen status
 MeetsCommand (AsksQuery words) seen status = DoesQuery words seen status
 MeetsCommand (AsksCheck words) seen status = IsCheck words seen status
 MeetsCommand (AsksCollect words) seen status = IsCollect words seen status
@@ -40,7 +42,8 @@ TellsOfQuery words seen status = TellsQueryBy words.explain words seen status
 
 -- and what it tells where it doesn't end with Ok
 abbrev pub TellsCommand : CommandWords → Observed → Status → Type 0
-TellsCommand (AsksReplay words) seen status = TellsReplay words seen status
+TellsCommand (AsksReplay words) seen status = TellsReplay in_turn words seen status
+TellsCommand (AsksDaemon words) seen status = TellsReplay at_once words.run seen status
 TellsCommand (AsksQuery words) seen status = TellsOfQuery words seen status
 TellsCommand (AsksCheck words) seen status = TellsCheck words seen status
 TellsCommand (AsksCollect words) seen status = TellsCollect words seen status

@@ -1,4 +1,4 @@
--- What `replay` does.
+-- What `replay` does, and `daemon`.
 use Rattle.std.specs.Prelude.{◌≡◌, ◌⊎◌, ◌<◌, ℕ, Bool, true, false, List, [], ◌∷◌, ◌++◌}
 use Rattle.osq_value.specs.declared.moment.TheConstants.{LAST_MOMENT}
 use Rattle.config_files.specs.Configurations.{IsConfigured}
@@ -6,6 +6,7 @@ use Rattle.entry_model.specs.Fits.{Fits}
 use Rattle.entry_model.specs.Summary.{summary}
 use Rattle.program_words.specs.declared.command.ReplayWords.{ReplayWords}
 use Rattle.session_model.specs.Given.{Given}
+use Rattle.session_model.specs.Orders.{Order}
 use Rattle.replay_rounds.specs.declared.running.Ended.{Ended}
 use Rattle.replay_rounds.specs.Fixed.{Fixed, Run}
 use Rattle.replay_rounds.specs.Noting.{HasTold}
@@ -33,10 +34,11 @@ pub record IsReplayGiven (words : ReplayWords) (seen : Observed) (given : Given)
 abbrev pub IsAccepted : ReplayWords → Observed → Type 0
 IsAccepted words seen = (given : Given) × IsReplayGiven words seen given
 
--- what stays the same in the session
-abbrev pub fixed : Observed → Given → Fixed
-fixed seen given =
+-- what stays the same in the session, whose ticks are worked on in this order
+abbrev pub fixed : Order → Observed → Given → Fixed
+fixed order seen given =
     record {
+      order = order;
       keeper_tells = seen.keeper_tells;
       sink_tells = seen.sink_tells;
       source_tells = seen.source_tells;
@@ -46,25 +48,25 @@ fixed seen given =
     }
 
 -- the run that this was
-abbrev pub run_in : Observed → Given → Run
-run_in seen given = record { fixed = fixed seen given; has_read = seen.has_read }
+abbrev pub run_in : Order → Observed → Given → Run
+run_in order seen given = record { fixed = fixed order seen given; has_read = seen.has_read }
 
 -- All its ticks were run, behind values that a session may go on from: each source is then at its end, or one of them had more.
-pub record Ran (words : ReplayWords) (seen : Observed) (is_end : Bool) : Type 0 where
+pub record Ran (order : Order) (words : ReplayWords) (seen : Observed) (is_end : Bool) : Type 0 where
   pub given : Given
   pub is : IsReplayGiven words seen given
   pub ended : Ended
   pub end_is : ended.is_end ≡ is_end
-  pub run : HasRun (run_in seen given) words.ticks seen.kept_after seen.results_after ended
+  pub run : HasRun (run_in order seen given) words.ticks seen.kept_after seen.results_after ended
   pub fit : seen.keeper_tells → Fits (summary seen.kept_before)
 
 -- the clock gave this moment, last of all
 abbrev pub IsTooLate : Observed → ℕ → Type 0
 IsTooLate seen moment = (LAST_MOMENT < moment) × ((readings : List ℕ) × seen.has_read (readings ++ moment ∷ []))
 
--- The causes of a replay. Each behind the configuration carries that it was accepted.
-abbrev pub causes_of : ReplayWords → Observed → Causes
-causes_of words seen =
+-- The causes of a session's refusals. Each behind the configuration carries that it was accepted.
+abbrev pub causes_of : Order → ReplayWords → Observed → Causes
+causes_of order words seen =
     record no_causes {
       files = seen.files_failed;
       refused = IsRefusedFor seen.files_tell seen.file words.config;
@@ -73,21 +75,22 @@ causes_of words seen =
       moment = λ moment. IsAccepted words seen × IsTooLate seen moment;
       source = λ name. IsAccepted words seen × HasFailed words.sources seen name;
       shrank = λ name kept found. IsAccepted words seen × HasShrunk words.sources seen name kept found;
-      numbers = (given : Given) × IsReplayGiven words seen given × RanOutOfNumbers (run_in seen given) seen.kept_after;
+      numbers = (given : Given) × IsReplayGiven words seen given × RanOutOfNumbers (run_in order seen given) seen.kept_after;
       sink = IsAccepted words seen × (seen.results_failed ⊎ seen.status_failed);
     }
 
 -- The status stream has grown by what the session told: of each of its configurations with the packs that are left out, and of skipped lines; and
 -- then by these.
-abbrev pub IsToldBy : Observed → Given → List ℕ → List ℕ → Type 0
-IsToldBy seen given left_out last =
-    (between : List ℕ) × HasTold (fixed seen given) seen.kept_after left_out seen.status_before between × (seen.status_after ≡ between ++ last)
+abbrev pub IsToldBy : Order → Observed → Given → List ℕ → List ℕ → Type 0
+IsToldBy order seen given left_out last =
+    (between : List ℕ) × HasTold (fixed order seen given) seen.kept_after left_out seen.status_before between × (seen.status_after ≡ between ++ last)
 
-pub record IsReplay (words : ReplayWords) (seen : Observed) (status : Status) : Type 0 where
-  pub done : IsDoneStatus status → (ran : Ran words seen true) × (seen.sink_tells → IsToldBy seen ran.given ran.is.notes (final_line 0 ran.ended.numbers 0))
-  pub spent : IsSpentStatus status → (ran : Ran words seen false)
-      × (seen.sink_tells → IsToldBy seen ran.given ran.is.notes (refusal_line TicksSpent ++ final_line 11 ran.ended.numbers 0) ⊎ seen.status_failed)
-  pub cause : IsRefusal status → IsCaused (causes_of words seen) status
+-- A session of these words, whose ticks are worked on in this order.
+pub record IsReplay (order : Order) (words : ReplayWords) (seen : Observed) (status : Status) : Type 0 where
+  pub done : IsDoneStatus status → (ran : Ran order words seen true) × (seen.sink_tells → IsToldBy order seen ran.given ran.is.notes (final_line 0 ran.ended.numbers 0))
+  pub spent : IsSpentStatus status → (ran : Ran order words seen false)
+      × (seen.sink_tells → IsToldBy order seen ran.given ran.is.notes (refusal_line TicksSpent ++ final_line 11 ran.ended.numbers 0) ⊎ seen.status_failed)
+  pub cause : IsRefusal status → IsCaused (causes_of order words seen) status
   -- however it ends; where no session was begun, nothing is added and the clock isn't read
-  pub kept : seen.keeper_tells → ((seen.kept_after ≡ seen.kept_before) × seen.has_read []) ⊎ ((given : Given) × IsReplayGiven words seen given × IsKept (run_in seen given) seen.kept_after)
-  pub written : seen.sink_tells → ((seen.results_after ≡ seen.results_before) × seen.has_read []) ⊎ ((given : Given) × IsReplayGiven words seen given × IsWritten (fixed seen given) seen.kept_after seen.results_after)
+  pub kept : seen.keeper_tells → ((seen.kept_after ≡ seen.kept_before) × seen.has_read []) ⊎ ((given : Given) × IsReplayGiven words seen given × IsKept (run_in order seen given) seen.kept_after)
+  pub written : seen.sink_tells → ((seen.results_after ≡ seen.results_before) × seen.has_read []) ⊎ ((given : Given) × IsReplayGiven words seen given × IsWritten (fixed order seen given) seen.kept_after seen.results_after)

@@ -11,6 +11,7 @@ use Rattle.kept_report.specs.Counting.{numbers_in, numbers_line}
 use Rattle.program_words.specs.declared.command.GenerateWords.{GenerateWords}
 use Rattle.program_words.specs.declared.command.ReplayWords.{ReplayWords}
 use Rattle.session_model.specs.Given.{Given}
+use Rattle.session_model.specs.Orders.{in_turn}
 use Rattle.replay_rounds.specs.declared.running.Ended.{Ended}
 use Rattle.replay_rounds.specs.Fixed.{Fixed, Run}
 use Rattle.replay_rounds.specs.Running.{HasRun}
@@ -65,6 +66,7 @@ pub record IsSelfGiven (lines : List ℕ) (count start : ℕ) (given : Given) : 
 abbrev pub self_fixed : Given → List Entry → Fixed
 self_fixed given before =
     record {
+      order = in_turn;
       keeper_tells = Unit {0};
       sink_tells = ⊥;
       source_tells = Unit {0};

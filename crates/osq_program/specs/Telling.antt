@@ -5,6 +5,7 @@ use Rattle.program_words.specs.declared.command.CollectWords.{CollectWords}
 use Rattle.program_words.specs.declared.command.QueryWords.{QueryWords}
 use Rattle.program_words.specs.declared.command.ReplayWords.{ReplayWords}
 use Rattle.session_model.specs.Given.{Given}
+use Rattle.session_model.specs.Orders.{Order}
 use Rattle.replay_rounds.specs.Noting.{HasToldSome}
 use Rattle.replay_rounds.specs.Stopping.{AreLoaded, AreNumbersOf, AreSealed}
 use Rattle.replay_rounds.specs.declared.refused.Numbers.{Numbers}
@@ -98,15 +99,15 @@ pub record IsUnbegun (words : ReplayWords) (seen : Observed) (status : Status) :
   pub told : TellsBehind seen front status
 
 -- the numbers in the final line of each status: of the list as it was loaded, as it was before a seal that failed, or as it is
-abbrev pub AreNumbersAt : Status → Observed → Given → Numbers → Type 0
-AreNumbersAt KeeperRefused seen given numbers = AreLoaded (run_in seen given) seen.kept_after numbers
-AreNumbersAt KeeperFault seen given numbers = AreSealed (run_in seen given) seen.kept_after numbers
-AreNumbersAt status seen given numbers = AreNumbersOf (fixed seen given) seen.kept_after numbers
+abbrev pub AreNumbersAt : Order → Status → Observed → Given → Numbers → Type 0
+AreNumbersAt order KeeperRefused seen given numbers = AreLoaded (run_in order seen given) seen.kept_after numbers
+AreNumbersAt order KeeperFault seen given numbers = AreSealed (run_in order seen given) seen.kept_after numbers
+AreNumbersAt order status seen given numbers = AreNumbersOf (fixed order seen given) seen.kept_after numbers
 
 -- behind these lines there stand that of the status and the final line
-abbrev pub EndsWhole : Observed → Given → Status → List ℕ → Type 0
-EndsWhole seen given status between =
-    (numbers : Numbers) × AreNumbersAt status seen given numbers × (seen.status_after ≡ between ++ (refusal_line status ++ final_line (status_number status) numbers 0))
+abbrev pub EndsWhole : Order → Observed → Given → Status → List ℕ → Type 0
+EndsWhole order seen given status between =
+    (numbers : Numbers) × AreNumbersAt order status seen given numbers × (seen.status_after ≡ between ++ (refusal_line status ++ final_line (status_number status) numbers 0))
 
 -- or memory was wanting for them
 abbrev pub EndsStarved : Observed → Status → List ℕ → Type 0
@@ -114,10 +115,10 @@ EndsStarved seen status between = (status ≡ OutOfMemory) × (seen.status_after
 
 -- The kept list was loaded. Behind what the session told the status stream ends with the final line; no clause says what it has behind a fault of
 -- its own.
-pub record IsEnded (words : ReplayWords) (seen : Observed) (status : Status) : Type 0 where
+pub record IsEnded (order : Order) (words : ReplayWords) (seen : Observed) (status : Status) : Type 0 where
   pub given : Given
   pub is : IsReplayGiven words seen given
-  pub told : seen.sink_tells → ((between : List ℕ) × HasToldSome (fixed seen given) seen.kept_after is.notes seen.status_before between × (EndsWhole seen given status between ⊎ EndsStarved seen status between)) ⊎ seen.status_failed
+  pub told : seen.sink_tells → ((between : List ℕ) × HasToldSome (fixed order seen given) seen.kept_after is.notes seen.status_before between × (EndsWhole order seen given status between ⊎ EndsStarved seen status between)) ⊎ seen.status_failed
 
-abbrev pub TellsReplay : ReplayWords → Observed → Status → Type 0
-TellsReplay words seen status = IsRefusal status → IsUnbegun words seen status ⊎ IsEnded words seen status
+abbrev pub TellsReplay : Order → ReplayWords → Observed → Status → Type 0
+TellsReplay order words seen status = IsRefusal status → IsUnbegun words seen status ⊎ IsEnded order words seen status

@@ -1,6 +1,6 @@
 //! What is done for the words of each command.
 
-ghost use Rattle.std.specs.Prelude.{◌≡◌, ◌≢◌, ℕ, List, [], ◌∷◌, true, None, vec_len, length};
+ghost use Rattle.std.specs.Prelude.{◌≡◌, ◌≢◌, ℕ, List, [], ◌∷◌, true, false, None, vec_len, length};
 ghost use Rattle.program_words.specs.Bounds.{IsBounded, RunBounds};
 ghost use Rattle.program_words.specs.declared.command.CheckWords.{CheckWords};
 ghost use Rattle.program_words.specs.declared.command.CollectWords.{CollectWords};
@@ -8,7 +8,7 @@ ghost use Rattle.program_words.specs.declared.command.GenerateWords.{GenerateWor
 ghost use Rattle.program_words.specs.declared.command.QueryWords.{QueryWords};
 ghost use Rattle.program_words.specs.declared.command.ReportWords.{ReportWords};
 ghost use Rattle.program_words.specs.declared.command.CommandWords.TheVariants.{Check as AsksCheck, Collect as AsksCollect, Generate as AsksGenerate, Query as AsksQuery, Report as AsksReport, SelfTest as AsksSelfTest};
-ghost use Rattle.program_words.specs.Commands.{sources_in};
+ghost use Rattle.program_words.specs.Commands.{by_threads, sources_in};
 ghost use Rattle.osq_program.specs.Answers.{IsUsageStatus};
 ghost use Rattle.osq_program.specs.Doing.{MeetsCommand, DoesQuery, TellsCommand, TellsOfQuery};
 
@@ -17,9 +17,9 @@ use crate::collect::run_collect;
 use crate::explain::run_explain;
 use crate::generate::run_generate;
 use crate::link::Link;
+use crate::orders::run_in_turn;
 use crate::outside::{Observes, Outside};
 use crate::query::run_query;
-use crate::replay::run_replay;
 use crate::reporting::run_report;
 use crate::self_test::run_self_test;
 use crate::status::Status;
@@ -51,7 +51,7 @@ fn do_query<S: Source, O: Sink, F: Files, C: Clock, K: Keeper, L: Link>(
     run_query(alloc, words, outside)
 }
 
-/// Does what the words of a command ask for. There are as many sources as they name.
+/// Does what the words of a command ask for, which is no session by threads. There are as many sources as they name.
 pub(crate) fn run_command<S: Source, O: Sink, F: Files, C: Clock, K: Keeper, L: Link>(
     alloc: Global,
     words: &CommandWords,
@@ -59,6 +59,7 @@ pub(crate) fn run_command<S: Source, O: Sink, F: Files, C: Clock, K: Keeper, L: 
 ) -> Status
     requires sources { vec_len outside.old.sources ≡ sources_in words.now }
     requires bounded { IsBounded words.now }
+    requires one_thread { by_threads words.now ≡ false }
     ensures usage { ¬ IsUsageStatus result }
     ensures link { outside.new.link ≡ outside.old.link }
     ensures ledger { ((collect : CollectWords) → words.now ≢ AsksCollect collect) → outside.new.ledger ≡ outside.old.ledger }
@@ -75,7 +76,8 @@ pub(crate) fn run_command<S: Source, O: Sink, F: Files, C: Clock, K: Keeper, L: 
     ensures told { TellsCommand words.now (⟦<Outside<S, O, F, C, K, L> as Observes>⟧.observed outside.old outside.new) result }
 {
     match words {
-        CommandWords::Replay(words) => run_replay(alloc, words, outside),
+        CommandWords::Replay(words) => run_in_turn(alloc, words, outside),
+        CommandWords::Daemon(_) => unreachable!(),
         CommandWords::Query(words) => do_query(alloc, words, outside),
         CommandWords::Check(words) => run_check(alloc, words, outside),
         CommandWords::Collect(words) => run_collect(alloc, words, outside),

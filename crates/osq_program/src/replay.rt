@@ -1,4 +1,4 @@
-//! The command `replay`: a whole session.
+//! The command `replay`: a whole session, in whichever order its ticks are worked on.
 
 ghost use Rattle.std.specs.Prelude.{◌≡◌, ℕ, List, [], ◌∷◌, vec_len, length};
 ghost use Rattle.program_words.specs.Bounds.{RunBounds};
@@ -14,25 +14,31 @@ use crate::setup::setup_of;
 use crate::status::Status;
 use crate::stop::{refuse_unconfigured, starve, stop};
 use batch_keeper::Keeper;
+use daemon_rounds::TakesRound;
 use osq_outside::{Clock, Files, Sink, Source};
 use program_words::ReplayWords;
 use replay_rounds::{Basis, run_session};
 use std::alloc::Global;
 
-/// Runs the session that the words ask for, and tells on the status stream what the session tells, and how it ended.
-pub(crate) fn run_replay<S: Source, O: Sink, F: Files, C: Clock, K: Keeper, L: Link>(
-    alloc: Global,
-    words: &ReplayWords,
-    outside: &mut Outside<S, O, F, C, K, L>,
-) -> Status
+/// Runs the session that the words ask for, whose ticks are worked on in this order, and tells on the status stream what the session tells, and how it ended.
+pub(crate) fn run_replay<
+    T: TakesRound<S>,
+    S: Source,
+    O: Sink,
+    F: Files,
+    C: Clock,
+    K: Keeper,
+    L: Link,
+>(order: &T, alloc: Global, words: &ReplayWords, outside: &mut Outside<S, O, F, C, K, L>) -> Status
     requires sources { vec_len outside.old.sources ≡ length words.now.sources }
+    requires takes { T.takes order.now }
     requires bounded { RunBounds words.now.start words.now.step words.now.ticks words.now.records words.now.sources }
     ensures usage { ¬ IsUsageStatus result }
     ensures link { outside.new.link ≡ outside.old.link }
     ensures ledger { outside.new.ledger ≡ outside.old.ledger }
     ensures sources { vec_len outside.new.sources ≡ vec_len outside.old.sources }
-    ensures does { IsReplay words.now (⟦<Outside<S, O, F, C, K, L> as Observes>⟧.observed outside.old outside.new) result }
-    ensures told { TellsReplay words.now (⟦<Outside<S, O, F, C, K, L> as Observes>⟧.observed outside.old outside.new) result }
+    ensures does { IsReplay T.order words.now (⟦<Outside<S, O, F, C, K, L> as Observes>⟧.observed outside.old outside.new) result }
+    ensures told { TellsReplay T.order words.now (⟦<Outside<S, O, F, C, K, L> as Observes>⟧.observed outside.old outside.new) result }
 {
     let configured = match configured(alloc, &mut outside.files, &words.config) {
         Ok(configured) => configured,
@@ -47,6 +53,7 @@ pub(crate) fn run_replay<S: Source, O: Sink, F: Files, C: Clock, K: Keeper, L: L
         configured,
     };
     match run_session(
+        order,
         &basis,
         &mut outside.clock,
         outside.sources.as_mut_slice(),

@@ -5,8 +5,8 @@ ghost use Rattle.osq_program.specs.Answers.{IsDoneStatus};
 ghost use Rattle.osq_program.specs.SelfTesting.{HasRunOver, config_path, document, self_sources, self_words};
 
 use crate::link::MemoryLink;
+use crate::orders::run_in_turn;
 use crate::outside::Outside;
-use crate::replay::run_replay;
 use crate::status::Status;
 use batch_keeper::{Keeper, MemoryKeeper};
 use osq_outside::{
@@ -139,7 +139,7 @@ pub(crate) fn run_over(
 {
     let words = words_for(alloc, count, start)?;
     let mut inside = inside_of(alloc, lines, start, keeper)?;
-    let status = run_replay(alloc, &words, &mut inside);
+    let status = run_in_turn(alloc, &words, &mut inside);
     Ok(Ran {
         status,
         keeper: inside.keeper,

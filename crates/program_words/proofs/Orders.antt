@@ -5,15 +5,15 @@ use Rattle.std.specs.List.{list_any}
 use Rattle.std.proofs.lemmas.Bool.Decides.{nat_tests, same_from_decides}
 use Rattle.std.proofs.lemmas.Slice.Eq.{bytes_eq-Decides}
 use Rattle.program_words.specs.declared.name.Name.{Name}
-use Rattle.program_words.specs.declared.name.Name.TheVariants.{Config, Host, Platform, Agent, Text, Audit, Changes, Tables, Start, Step, Ticks, Records, Explain, Frames, Ledger, Store, From, Count}
+use Rattle.program_words.specs.declared.name.Name.TheVariants.{Config, Host, Platform, Agent, Text, Audit, Changes, Tables, Start, Step, Ticks, Records, Explain, Frames, Ledger, Store, From, Count, Workers}
 use Rattle.program_words.specs.declared.command.CommandName.{CommandName}
-use Rattle.program_words.specs.declared.command.CommandName.TheVariants.{Replay, Query, Check, Collect, Generate, SelfTest, Report}
-use Rattle.program_words.specs.declared.command.CommandWords.TheVariants.{Replay as AsReplay, Query as AsQuery, Check as AsCheck, Collect as AsCollect, Generate as AsGenerate, SelfTest as AsSelfTest, Report as AsReport}
+use Rattle.program_words.specs.declared.command.CommandName.TheVariants.{Replay, Daemon, Query, Check, Collect, Generate, SelfTest, Report}
+use Rattle.program_words.specs.declared.command.CommandWords.TheVariants.{Replay as AsReplay, Daemon as AsDaemon, Query as AsQuery, Check as AsCheck, Collect as AsCollect, Generate as AsGenerate, SelfTest as AsSelfTest, Report as AsReport}
 use Rattle.osq_value.specs.declared.source.SourceKind.{SourceKind}
 use Rattle.osq_value.specs.declared.source.SourceKind.TheVariants.{Audit as AuditLog, Changes as ChangeList, Tables as TableLines}
 use Rattle.program_words.specs.Names.{is_source, place, same_name, takes}
 use Rattle.program_words.specs.Given.{Given, is_named, none_repeats, number_of, number_or, number_taken, repeats, same_value, stands, value_of, value_or}
-use Rattle.program_words.specs.Commands.{are_options, asked_by, check_of, collect_of, command_with, default_agent, default_platform, generate_of, has_few_sources, has_required, is_right, query_of, replay_of, report_of, required, sources_named, sources_of}
+use Rattle.program_words.specs.Commands.{are_options, asked_by, check_of, collect_of, daemon_of, command_with, default_agent, default_platform, generate_of, has_few_sources, has_required, is_right, query_of, replay_of, report_of, required, sources_named, sources_of}
 use Rattle.program_words.specs.Laws.{AnyOrder}
 use Rattle.program_words.proofs.Swaps.{count_by-swap, filter-swap, find-swap, list_all-same, list_all-swap, list_any-swap}
 
@@ -106,6 +106,10 @@ module _ (front : List Given) (g h : Given) (behind : List Given) (different : s
   replay_of-swap =
       cc (value_or-swap [] Config, value_or-swap [] Host, value_or-swap default_platform Platform, value_or-swap default_agent Agent, sources_of-swap, value_of-swap Store, number_of-swap Start, number_or-swap 60 Step, number_or-swap 60 Ticks, number_or-swap 10000 Records)
 
+  daemon_of-swap : daemon_of (front ++ g ∷ h ∷ behind) ≡ daemon_of (front ++ h ∷ g ∷ behind)
+  unfolding daemon_of
+  daemon_of-swap = cc (replay_of-swap, number_or-swap 4 Workers)
+
   query_of-swap : query_of (front ++ g ∷ h ∷ behind) ≡ query_of (front ++ h ∷ g ∷ behind)
   unfolding query_of
   query_of-swap =
@@ -130,6 +134,7 @@ module _ (front : List Given) (g h : Given) (behind : List Given) (different : s
 
   asked_by-swap : (command : CommandName) → asked_by command (front ++ g ∷ h ∷ behind) ≡ asked_by command (front ++ h ∷ g ∷ behind)
   asked_by-swap Replay = ap AsReplay replay_of-swap
+  asked_by-swap Daemon = ap AsDaemon daemon_of-swap
   asked_by-swap Query = ap AsQuery query_of-swap
   asked_by-swap Check = ap AsCheck check_of-swap
   asked_by-swap Collect = ap AsCollect collect_of-swap

@@ -7,23 +7,23 @@ use Rattle.std.proofs.lemmas.Option.{cond_some}
 use Rattle.std.proofs.lemmas.List.{length-append, length-map}
 use Rattle.std.proofs.lemmas.List.Sums.{length-filter, sum_by-cons}
 use Rattle.program_words.specs.declared.name.Name.{Name}
-use Rattle.program_words.specs.declared.name.Name.TheVariants.{Config, Host, Platform, Agent, Text, Audit, Changes, Tables, Start, Step, Ticks, Records, Explain, Frames, Ledger, Store, From, Count, Other}
+use Rattle.program_words.specs.declared.name.Name.TheVariants.{Config, Host, Platform, Agent, Text, Audit, Changes, Tables, Start, Step, Ticks, Records, Explain, Frames, Ledger, Store, From, Count, Workers, Other}
 use Rattle.program_words.specs.declared.name.Takes.{Takes}
 use Rattle.program_words.specs.declared.name.Takes.TheVariants.{Number}
 use Rattle.program_words.specs.declared.command.CommandName.{CommandName}
-use Rattle.program_words.specs.declared.command.CommandName.TheVariants.{Replay, Query, Check, Collect, Generate, SelfTest, Report}
+use Rattle.program_words.specs.declared.command.CommandName.TheVariants.{Replay, Daemon, Query, Check, Collect, Generate, SelfTest, Report}
 use Rattle.program_words.specs.declared.command.CommandWords.{CommandWords}
-use Rattle.program_words.specs.declared.command.CommandWords.TheVariants.{Replay as AsReplay, Query as AsQuery, Check as AsCheck, Collect as AsCollect, Generate as AsGenerate, SelfTest as AsSelfTest, Report as AsReport}
+use Rattle.program_words.specs.declared.command.CommandWords.TheVariants.{Replay as AsReplay, Daemon as AsDaemon, Query as AsQuery, Check as AsCheck, Collect as AsCollect, Generate as AsGenerate, SelfTest as AsSelfTest, Report as AsReport}
 use Rattle.osq_value.specs.declared.source.SourceKind.{SourceKind}
 use Rattle.osq_value.specs.declared.source.SourceKind.TheVariants.{Audit as AuditLog, Changes as ChangeList, Tables as TableLines}
 use Rattle.osq_value.specs.Spelling.{value_of as digits_value}
 use Rattle.program_words.specs.Texts.{is_number, is_text, number_in}
 use Rattle.program_words.specs.Names.{is_source, place, same_name, takes}
 use Rattle.program_words.specs.Given.{Given, fits, is_named, none_repeats, options_of, number_of, number_or, number_taken, stands, value_of, value_or}
-use Rattle.program_words.specs.Commands.{are_options, asked_by, check_of, collect_of, command_named, command_with, has_few_sources, has_option, has_refused, generate_of, has_required, is_right, paths_in, query_of, replay_of, report_of, required, sources_named, sources_of, unsourced, words_of}
+use Rattle.program_words.specs.Commands.{are_options, asked_by, check_of, collect_of, daemon_of, command_named, command_with, has_few_sources, has_option, has_refused, generate_of, has_required, is_right, paths_in, query_of, replay_of, required, sources_named, sources_of, unsourced, words_of}
 use Rattle.program_words.proofs.Sources.{sources_own}
 use Rattle.program_words.proofs.Conditions.{first, second}
-use Rattle.program_words.specs.Bounds.{ArePathsBounded, ClockBounds, GenerateBounds, HostBounds, IsBounded, RunBounds}
+use Rattle.program_words.specs.Bounds.{ArePathsBounded, ClockBounds, GenerateBounds, HostBounds, IsBounded, RunBounds, SessionBounds}
 
 abbrev Between : ℕ → ℕ → ℕ → Type 0
 Between least most n = (least ≤ n) × (n ≤ most)
@@ -89,6 +89,7 @@ kind_once Ledger = refl
 kind_once Store = refl
 kind_once From = refl
 kind_once Count = refl
+kind_once Workers = refl
 kind_once Other = refl
 
 abbrev of_name : Name → Given → ℕ
@@ -191,6 +192,15 @@ run_within command gs rounds within (right, have, few, none) =
       sources_in = record { few = sources_within gs few; own_paths = sources_own command gs right none };
     }
 
+session_within : (command : CommandName) (gs : List Given) → required command ≡ Config ∷ Host ∷ [] → Parts command gs → SessionBounds (replay_of gs)
+unfolding replay_of
+session_within command gs is parts =
+    (run_within command gs 60 (omega arith, omega arith) parts, host_within command gs parts.0 (has_host command gs is parts.1))
+
+pub few_workers : (gs : List Given) → (1 ≤ number_or 4 Workers gs) × (number_or 4 Workers gs ≤ 16)
+unfolding takes
+few_workers gs = number_or-between 4 Workers gs 1 16 refl (omega arith, omega arith)
+
 load_within : (gs : List Given) → GenerateBounds (generate_of gs)
 unfolding generate_of takes
 load_within gs =
@@ -199,9 +209,11 @@ load_within gs =
     record { from_in = omega arith; some_lines = count.0; lines_in = count.1 }
 
 asked_within : (command : CommandName) (gs : List Given) → Parts command gs → IsBounded (asked_by command gs)
-unfolding replay_of query_of check_of collect_of generate_of required takes IsBounded
-asked_within Replay gs parts =
-    (run_within Replay gs 60 (omega arith, omega arith) parts, host_within Replay gs parts.0 (has_host Replay gs refl parts.1))
+unfolding daemon_of query_of check_of collect_of generate_of required takes IsBounded
+asked_within Replay gs parts = session_within Replay gs refl parts
+asked_within Daemon gs parts =
+    let workers = few_workers gs in
+    record { run_in = session_within Daemon gs refl parts; some_workers = workers.0; workers_in = workers.1 }
 asked_within Query gs parts = run_within Query gs 1000000 (omega arith, omega arith) parts
 asked_within Check gs parts = host_within Check gs parts.0 (has_host Check gs refl parts.1)
 asked_within Collect gs parts =
@@ -233,6 +245,7 @@ unsourced_bounded store =
 pub paths_bounded : (command : CommandWords) → IsBounded command → ArePathsBounded (paths_in command)
 unfolding IsBounded ArePathsBounded
 paths_bounded (AsReplay words) bounded = (bounded.0.clock, bounded.0.sources_in)
+paths_bounded (AsDaemon words) bounded = (bounded.run_in.0.clock, bounded.run_in.0.sources_in)
 paths_bounded (AsQuery words) bounded = (bounded.clock, bounded.sources_in)
 paths_bounded (AsCheck words) bounded = unsourced_bounded None
 paths_bounded (AsCollect words) bounded =

@@ -2,8 +2,10 @@
 use Rattle.std.specs.Prelude.{◌≡◌, ℕ, ◌≤◌, ◌<◌, ◌^◌, ◌≢◌, AllPairs, List, length, Option, IfSome}
 use Rattle.program_words.specs.declared.command.CollectWords.{CollectWords}
 use Rattle.program_words.specs.declared.command.CommandWords.{CommandWords}
-use Rattle.program_words.specs.declared.command.CommandWords.TheVariants.{Replay, Query, Check, Collect, Generate, SelfTest, Report}
+use Rattle.program_words.specs.declared.command.CommandWords.TheVariants.{Replay, Daemon, Query, Check, Collect, Generate, SelfTest, Report}
+use Rattle.program_words.specs.declared.command.DaemonWords.{DaemonWords}
 use Rattle.program_words.specs.declared.command.GenerateWords.{GenerateWords}
+use Rattle.program_words.specs.declared.command.ReplayWords.{ReplayWords}
 use Rattle.program_words.specs.declared.command.Paths.{Paths}
 use Rattle.osq_value.specs.declared.source.SourceName.{SourceName}
 
@@ -30,6 +32,15 @@ pub record HostBounds (host : List ℕ) : Type 0 where
   pub some_bytes : 1 ≤ length host
   pub bytes_in : length host ≤ 255
 
+abbrev pub SessionBounds : ReplayWords → Type 0
+SessionBounds words = RunBounds words.start words.step words.ticks words.records words.sources × HostBounds words.host
+
+-- a session by threads has at least one that answers, and few
+pub record DaemonBounds (words : DaemonWords) : Type 0 where
+  pub run_in : SessionBounds words.run
+  pub some_workers : 1 ≤ words.workers
+  pub workers_in : words.workers ≤ 16
+
 -- a collector has one source
 pub record CollectBounds (words : CollectWords) : Type 0 where
   pub one : length words.sources ≡ 1
@@ -43,7 +54,8 @@ pub record GenerateBounds (words : GenerateWords) : Type 0 where
   pub lines_in : words.count ≤ 1000000
 
 unfoldable pub IsBounded : CommandWords → Type 0
-IsBounded (Replay words) = RunBounds words.start words.step words.ticks words.records words.sources × HostBounds words.host
+IsBounded (Replay words) = SessionBounds words
+IsBounded (Daemon words) = DaemonBounds words
 IsBounded (Query words) = RunBounds words.start words.step words.ticks words.records words.sources
 IsBounded (Check words) = HostBounds words.host
 IsBounded (Collect words) = CollectBounds words

@@ -1,14 +1,15 @@
 -- The commands: the options of each, and what it is asked by them.
-use Rattle.std.specs.Prelude.{ℕ, ◌++◌, ◌&&◌, ◌||◌, not, Bool, bytes_eq, codes, count_by, filter, if◌then◌else◌, map, nat_le, List, [], ◌∷◌, length, Option, None, Some, option_and_then, unwrap_or}
+use Rattle.std.specs.Prelude.{ℕ, ◌++◌, ◌&&◌, ◌||◌, not, Bool, true, false, bytes_eq, codes, count_by, filter, if◌then◌else◌, map, nat_le, List, [], ◌∷◌, length, Option, None, Some, option_and_then, unwrap_or}
 use Rattle.std.specs.List.{list_all, list_any}
-use Rattle.std.specs.Option.{option_map}
+use Rattle.std.specs.Option.{option_map, option_map_or}
 use Rattle.program_words.specs.declared.name.Name.{Name}
-use Rattle.program_words.specs.declared.name.Name.TheVariants.{Config, Host, Platform, Agent, Text, Audit, Changes, Tables, Start, Step, Ticks, Records, Explain, Frames, Ledger, Store, From, Count}
+use Rattle.program_words.specs.declared.name.Name.TheVariants.{Config, Host, Platform, Agent, Text, Audit, Changes, Tables, Start, Step, Ticks, Records, Explain, Frames, Ledger, Store, From, Count, Workers}
 use Rattle.program_words.specs.declared.command.CommandName.{CommandName}
-use Rattle.program_words.specs.declared.command.CommandName.TheVariants.{Replay as ReplayName, Query as QueryName, Check as CheckName, Collect as CollectName, Generate as GenerateName, SelfTest as SelfTestName, Report as ReportName}
+use Rattle.program_words.specs.declared.command.CommandName.TheVariants.{Replay as ReplayName, Daemon as DaemonName, Query as QueryName, Check as CheckName, Collect as CollectName, Generate as GenerateName, SelfTest as SelfTestName, Report as ReportName}
 use Rattle.program_words.specs.declared.command.CommandWords.{CommandWords}
-use Rattle.program_words.specs.declared.command.CommandWords.TheVariants.{Replay, Query, Check, Collect, Generate, SelfTest, Report}
+use Rattle.program_words.specs.declared.command.CommandWords.TheVariants.{Replay, Daemon, Query, Check, Collect, Generate, SelfTest, Report}
 use Rattle.program_words.specs.declared.command.ReplayWords.{ReplayWords}
+use Rattle.program_words.specs.declared.command.DaemonWords.{DaemonWords}
 use Rattle.program_words.specs.declared.command.QueryWords.{QueryWords}
 use Rattle.program_words.specs.declared.command.CheckWords.{CheckWords}
 use Rattle.program_words.specs.declared.command.CollectWords.{CollectWords}
@@ -25,17 +26,19 @@ use Rattle.program_words.specs.Given.{Given, fits, is_named, none_repeats, numbe
 unfoldable pub command_named : List ℕ → Option CommandName
 command_named word =
     if bytes_eq word (codes "replay") then Some ReplayName
+    else (if bytes_eq word (codes "daemon") then Some DaemonName
     else (if bytes_eq word (codes "query") then Some QueryName
     else (if bytes_eq word (codes "check") then Some CheckName
     else (if bytes_eq word (codes "collect") then Some CollectName
     else (if bytes_eq word (codes "generate") then Some GenerateName
     else (if bytes_eq word (codes "selftest") then Some SelfTestName
     else (if bytes_eq word (codes "report") then Some ReportName
-    else None))))))
+    else None)))))))
 
 -- the options that a command must have
 unfoldable pub required : CommandName → List Name
 required ReplayName = Config ∷ Host ∷ []
+required DaemonName = Config ∷ Host ∷ []
 required QueryName = Text ∷ []
 required CheckName = Config ∷ Host ∷ []
 required CollectName = Frames ∷ Ledger ∷ []
@@ -46,6 +49,8 @@ required ReportName = Store ∷ []
 -- those that it may have
 unfoldable pub optional : CommandName → List Name
 optional ReplayName = Platform ∷ Agent ∷ Audit ∷ Changes ∷ Tables ∷ Store ∷ Start ∷ Step ∷ Ticks ∷ Records ∷ []
+optional DaemonName =
+    Platform ∷ Agent ∷ Audit ∷ Changes ∷ Tables ∷ Store ∷ Start ∷ Step ∷ Ticks ∷ Records ∷ Workers ∷ []
 optional QueryName = Config ∷ Audit ∷ Changes ∷ Tables ∷ Store ∷ Start ∷ Step ∷ Ticks ∷ Records ∷ Explain ∷ []
 optional CheckName = Platform ∷ Agent ∷ []
 optional CollectName = Ticks ∷ []
@@ -107,6 +112,9 @@ replay_of gs = record {
   records = number_or 10000 Records gs;
 }
 
+unfoldable pub daemon_of : List Given → DaemonWords
+daemon_of gs = record { run = replay_of gs; workers = number_or 4 Workers gs }
+
 unfoldable pub query_of : List Given → QueryWords
 query_of gs = record {
   text = value_or [] Text gs;
@@ -144,6 +152,7 @@ report_of gs = record { store = value_or [] Store gs }
 
 abbrev pub asked_by : CommandName → List Given → CommandWords
 asked_by ReplayName gs = Replay (replay_of gs)
+asked_by DaemonName gs = Daemon (daemon_of gs)
 asked_by QueryName gs = Query (query_of gs)
 asked_by CheckName gs = Check (check_of gs)
 asked_by CollectName gs = Collect (collect_of gs)
@@ -170,13 +179,27 @@ words_of [] = None
 words_of (word ∷ words) =
     if has_refused (word ∷ words) then None else option_and_then (command_with (options_of words)) (command_named word)
 
+-- the command is a session by threads
+abbrev pub by_threads : CommandWords → Bool
+by_threads (Daemon words) = true
+by_threads _ = false
+
+-- the words are those of such a command
+abbrev pub are_by_threads : List (List ℕ) → Bool
+are_by_threads words = option_map_or by_threads (words_of words) false
+
 -- a command that reads no source
 abbrev pub unsourced : Option (List ℕ) → Paths
 unsourced store = record { sources = []; store = store; start = None; step = 60; ledger = None }
 
+-- a session, in whatever order its ticks are taken
+abbrev pub session_paths : ReplayWords → Paths
+session_paths words = record { sources = words.sources; store = words.store; start = words.start; step = words.step; ledger = None }
+
 -- the sources that a command names, with the moments of its clock, the store that it keeps in, and the file that it adds to
 abbrev pub paths_in : CommandWords → Paths
-paths_in (Replay words) = record { sources = words.sources; store = words.store; start = words.start; step = words.step; ledger = None }
+paths_in (Replay words) = session_paths words
+paths_in (Daemon words) = session_paths words.run
 paths_in (Query words) = record { sources = words.sources; store = words.store; start = words.start; step = words.step; ledger = None }
 paths_in (Check words) = unsourced None
 paths_in (Collect words) = record { sources = words.sources; store = None; start = None; step = 60; ledger = Some words.ledger }

@@ -3,7 +3,7 @@ use Rattle.std.specs.Prelude.{ℕ, ◌-◌, ◌^◌, Bool, true, false, bytes_eq
 use Rattle.std.specs.Option.{option_map_or}
 use Rattle.std.specs.List.{find}
 use Rattle.program_words.specs.declared.name.Name.{Name}
-use Rattle.program_words.specs.declared.name.Name.TheVariants.{Config, Host, Platform, Agent, Text, Audit, Changes, Tables, Start, Step, Ticks, Records, Explain, Frames, Ledger, Store, From, Count, Other}
+use Rattle.program_words.specs.declared.name.Name.TheVariants.{Config, Host, Platform, Agent, Text, Audit, Changes, Tables, Start, Step, Ticks, Records, Explain, Frames, Ledger, Store, From, Count, Workers, Other}
 use Rattle.program_words.specs.declared.name.Takes.{Takes}
 use Rattle.program_words.specs.declared.name.Takes.TheVariants.{Nothing, AnyText, ShortText, Number, Unknown}
 
@@ -13,7 +13,8 @@ names =
     (codes "config", Config) ∷ (codes "host", Host) ∷ (codes "platform", Platform) ∷ (codes "agent", Agent) ∷ (codes "text", Text)
     ∷ (codes "audit", Audit) ∷ (codes "changes", Changes) ∷ (codes "tables", Tables) ∷ (codes "start", Start) ∷ (codes "step", Step)
     ∷ (codes "ticks", Ticks) ∷ (codes "records", Records) ∷ (codes "explain", Explain)
-    ∷ (codes "frames", Frames) ∷ (codes "ledger", Ledger) ∷ (codes "store", Store) ∷ (codes "from", From) ∷ (codes "count", Count) ∷ []
+    ∷ (codes "frames", Frames) ∷ (codes "ledger", Ledger) ∷ (codes "store", Store) ∷ (codes "from", From) ∷ (codes "count", Count)
+    ∷ (codes "workers", Workers) ∷ []
 
 -- the name that is spelled so, or Other: no name is shortened
 unfoldable pub name_of : List ℕ → Name
@@ -39,6 +40,7 @@ takes Ledger = AnyText
 takes Store = AnyText
 takes From = Number 0 (2 ^ 63 - 1)
 takes Count = Number 1 1000000
+takes Workers = Number 1 16
 takes Other = Unknown
 
 -- an option that names a source
@@ -68,7 +70,8 @@ place Ledger = 14
 place Store = 15
 place From = 16
 place Count = 17
-place Other = 18
+place Workers = 18
+place Other = 19
 
 abbrev pub same_name : Name → Name → Bool
 same_name a b = nat_eq (place a) (place b)

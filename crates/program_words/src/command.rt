@@ -1,8 +1,9 @@
 //! The commands, and what their words ask.
 
-ghost use Rattle.std.specs.Prelude.{◌≡◌, length, true};
+ghost use Rattle.std.specs.Prelude.{◌≡◌, List, length, true};
 ghost use Rattle.std.specs.List.{list_all};
-ghost use Rattle.program_words.specs.Commands.{are_options, asked_by, command_named, has_few_sources, has_option, has_required, is_right, optional, paths_in, required, sources_in, unsourced};
+ghost use Rattle.program_words.specs.Commands.{are_options, asked_by, by_threads, command_named, has_few_sources, has_option, has_required, is_right, optional, paths_in, required, session_paths, sources_in, unsourced};
+ghost use Rattle.program_words.specs.Given.{Given};
 ghost use Rattle.program_words.specs.Left.{given, options_in};
 
 use crate::given::GivenOption;
@@ -15,6 +16,7 @@ use std::alloc::Global;
 #[derive(Clone, Copy)]
 pub(crate) enum CommandName {
     Replay,
+    Daemon,
     Query,
     Check,
     Collect,
@@ -31,6 +33,7 @@ impl CommandName {
     {
         match word {
             "replay" => Some(CommandName::Replay),
+            "daemon" => Some(CommandName::Daemon),
             "query" => Some(CommandName::Query),
             "check" => Some(CommandName::Check),
             "collect" => Some(CommandName::Collect),
@@ -47,9 +50,10 @@ impl CommandName {
         ensures { result.now ≡ required self }
     {
         match self {
-            CommandName::Replay => &[Name::Config, Name::Host],
+            CommandName::Replay | CommandName::Daemon | CommandName::Check => {
+                &[Name::Config, Name::Host]
+            }
             CommandName::Query => &[Name::Text],
-            CommandName::Check => &[Name::Config, Name::Host],
             CommandName::Collect => &[Name::Frames, Name::Ledger],
             CommandName::Generate | CommandName::SelfTest => &[Name::From, Name::Count],
             CommandName::Report => &[Name::Store],
@@ -73,6 +77,19 @@ impl CommandName {
                 Name::Step,
                 Name::Ticks,
                 Name::Records,
+            ],
+            CommandName::Daemon => &[
+                Name::Platform,
+                Name::Agent,
+                Name::Audit,
+                Name::Changes,
+                Name::Tables,
+                Name::Store,
+                Name::Start,
+                Name::Step,
+                Name::Ticks,
+                Name::Records,
+                Name::Workers,
             ],
             CommandName::Query => &[
                 Name::Config,
@@ -121,19 +138,28 @@ impl CommandName {
     }
 
     /// How many sources the command reads with these options.
-    #[tactic(auto, unfolding(crate::specs::Commands::replay_of, crate::specs::Commands::query_of, crate::specs::Commands::collect_of))]
+    #[tactic(auto, unfolding(crate::specs::Commands::replay_of, crate::specs::Commands::daemon_of, crate::specs::Commands::query_of, crate::specs::Commands::collect_of))]
     pub(crate) fn count_sources(self, options: OptionWords<'_, '_>) -> usize
         requires few { has_few_sources (options_in options) ≡ true }
         ensures { result ≡ sources_in (asked_by self (options_in options.entry)) }
     {
         match self {
-            CommandName::Replay | CommandName::Query => options.count_sources().unwrap_or(0),
+            CommandName::Replay | CommandName::Daemon | CommandName::Query => {
+                options.count_sources().unwrap_or(0)
+            }
             CommandName::Check
             | CommandName::Generate
             | CommandName::SelfTest
             | CommandName::Report => 0,
             CommandName::Collect => 1,
         }
+    }
+
+    /// The command is a session by threads.
+    pub(crate) fn is_by_threads(self) -> bool
+        ensures { (options : List Given) → by_threads (asked_by self options) ≡ result }
+    {
+        matches!(self, CommandName::Daemon)
     }
 
     /// The options are those of a run of the command.
@@ -172,6 +198,15 @@ pub struct ReplayWords {
     pub ticks: u64,
     /// The most records of one step of a source.
     pub records: u64,
+}
+
+/// The words of a session whose ticks are taken by threads.
+#[derive(Drop)]
+pub struct DaemonWords {
+    /// The words of the session.
+    pub run: ReplayWords,
+    /// How many threads answer queries.
+    pub workers: u32,
 }
 
 /// The words of one question.
@@ -242,6 +277,8 @@ pub struct ReportWords {
 pub enum CommandWords {
     /// Runs a session.
     Replay(ReplayWords),
+    /// Runs a session by threads.
+    Daemon(DaemonWords),
     /// Answers one text.
     Query(QueryWords),
     /// Looks at a configuration.
@@ -284,19 +321,29 @@ fn unsourced(alloc: Global, store: Option<Str>) -> Paths
     }
 }
 
+impl ReplayWords {
+    /// What the program opens for the session.
+    fn into_paths(self) -> Paths
+        ensures { result ≡ session_paths self }
+    {
+        Paths {
+            sources: self.sources,
+            store: self.store,
+            start: self.start,
+            step: self.step,
+            ledger: None,
+        }
+    }
+}
+
 impl CommandWords {
     /// What the program opens for the command.
     pub fn into_paths(self, alloc: Global) -> Paths
         ensures { result ≡ paths_in self }
     {
         match self {
-            CommandWords::Replay(words) => Paths {
-                sources: words.sources,
-                store: words.store,
-                start: words.start,
-                step: words.step,
-                ledger: None,
-            },
+            CommandWords::Replay(words) => words.into_paths(),
+            CommandWords::Daemon(words) => words.run.into_paths(),
             CommandWords::Query(words) => Paths {
                 sources: words.sources,
                 store: words.store,
@@ -324,6 +371,7 @@ impl CommandWords {
     {
         match self {
             CommandWords::Replay(words) => words.sources.len(),
+            CommandWords::Daemon(words) => words.run.sources.len(),
             CommandWords::Query(words) => words.sources.len(),
             CommandWords::Check(_)
             | CommandWords::Generate(_)

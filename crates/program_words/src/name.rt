@@ -25,6 +25,7 @@ pub(crate) enum Name {
     Store,
     From,
     Count,
+    Workers,
     /// The name of no option.
     Other,
 }
@@ -69,6 +70,7 @@ impl Name {
             "store" => Name::Store,
             "from" => Name::From,
             "count" => Name::Count,
+            "workers" => Name::Workers,
             _ => Name::Other,
         }
     }
@@ -92,6 +94,7 @@ impl Name {
             Name::Start | Name::From => Takes::Number(0, i64::MAX as u64),
             Name::Step => Takes::Number(0, 604800),
             Name::Ticks | Name::Records | Name::Count => Takes::Number(1, 1000000),
+            Name::Workers => Takes::Number(1, 16),
             Name::Explain => Takes::Nothing,
             Name::Other => Takes::Unknown,
         }

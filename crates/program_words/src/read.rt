@@ -3,12 +3,12 @@
 ghost use Rattle.std.specs.Option.{option_map};
 ghost use Rattle.std.specs.Prelude.{◌≡◌, ◌↔◌, IfOk, IfSome, MatchOption, None, Some, Err, map, true};
 ghost use Rattle.program_words.specs.Bounds.{ArePathsBounded, IsBounded};
-ghost use Rattle.program_words.specs.Commands.{asked_by, check_of, collect_of, generate_of, has_few_sources, has_refused, is_refused, paths_of, query_of, replay_of, report_of, sources_in, sources_of, words_of};
+ghost use Rattle.program_words.specs.Commands.{are_by_threads, asked_by, check_of, collect_of, daemon_of, generate_of, has_few_sources, has_refused, is_refused, paths_of, query_of, replay_of, report_of, sources_in, sources_of, words_of};
 ghost use Rattle.program_words.specs.Left.{options_in};
 
 use crate::command::{
-    CheckWords, CollectWords, CommandName, CommandWords, GenerateWords, Paths, QueryWords,
-    ReplayWords, ReportWords,
+    CheckWords, CollectWords, CommandName, CommandWords, DaemonWords, GenerateWords, Paths,
+    QueryWords, ReplayWords, ReportWords,
 };
 use crate::error::WordsError;
 use crate::name::Name;
@@ -30,6 +30,9 @@ const RECORDS: u64 = 10000;
 
 /// The most rounds of a command that only reads on.
 const ROUNDS: u64 = 1000000;
+
+/// How many threads answer queries where no number is given.
+const WORKERS: u64 = 4;
 
 /// The word is refused wherever it stands.
 #[tactic(auto, unfolding(crate::specs::Commands::is_refused, crate::specs::Commands::refused))]
@@ -91,6 +94,16 @@ fn replay_of(alloc: Global, options: OptionWords<'_, '_>) -> Result<ReplayWords,
         step: options.number_or(STEP, Name::Step),
         ticks: options.number_or(60, Name::Ticks),
         records: options.number_or(RECORDS, Name::Records),
+    })
+}
+
+#[tactic(auto, unfolding(crate::specs::Commands::daemon_of), using(crate::proofs::Within::few_workers))]
+fn daemon_of(alloc: Global, options: OptionWords<'_, '_>) -> Result<DaemonWords, NoMemory>
+    ensures { IfOk result (λ words. words ≡ daemon_of (options_in options.entry)) }
+{
+    Ok(DaemonWords {
+        run: replay_of(alloc, options)?,
+        workers: options.number_or(WORKERS, Name::Workers) as u32,
     })
 }
 
@@ -167,6 +180,7 @@ fn asked_by(
 {
     match command {
         CommandName::Replay => Ok(CommandWords::Replay(replay_of(alloc, options)?)),
+        CommandName::Daemon => Ok(CommandWords::Daemon(daemon_of(alloc, options)?)),
         CommandName::Query => Ok(CommandWords::Query(query_of(alloc, options)?)),
         CommandName::Check => Ok(CommandWords::Check(check_of(alloc, options)?)),
         CommandName::Collect => Ok(CommandWords::Collect(collect_of(alloc, options)?)),
@@ -196,6 +210,16 @@ pub fn count_sources(words: &[&str]) -> Option<usize>
 {
     let (command, options) = command_in(words)?;
     Some(command.count_sources(options))
+}
+
+/// The words are those of a session by threads. It takes no memory.
+pub fn are_by_threads(words: &[&str]) -> bool
+    ensures { result ≡ are_by_threads (map (λ w. w.now) words.now) }
+{
+    match command_in(words) {
+        Some((command, _options)) => command.is_by_threads(),
+        None => false,
+    }
 }
 
 /// Reads what the program opens for the words of a command; Usage exactly where they are those of no command.

@@ -3,10 +3,11 @@ use Rattle.std.proofs.Common.{◌≡◌, Bool, true, false}
 use Rattle.program_words.specs.Bounds.{IsBounded}
 use Rattle.program_words.specs.declared.command.CheckWords.{CheckWords}
 use Rattle.program_words.specs.declared.command.CommandWords.{CommandWords}
-use Rattle.program_words.specs.declared.command.CommandWords.TheVariants.{Replay as AsksReplay, Query as AsksQuery, Check as AsksCheck, Collect as AsksCollect, Generate as AsksGenerate, SelfTest as AsksSelfTest, Report as AsksReport}
+use Rattle.program_words.specs.declared.command.CommandWords.TheVariants.{Replay as AsksReplay, Daemon as AsksDaemon, Query as AsksQuery, Check as AsksCheck, Collect as AsksCollect, Generate as AsksGenerate, SelfTest as AsksSelfTest, Report as AsksReport}
 use Rattle.program_words.specs.declared.command.GenerateWords.{GenerateWords}
 use Rattle.program_words.specs.declared.command.QueryWords.{QueryWords}
 use Rattle.program_words.specs.Bounds.{RunBounds}
+use Rattle.session_model.specs.Orders.{in_turn, at_once}
 use Rattle.osq_program.specs.declared.status.Status.{Status}
 use Rattle.osq_program.specs.Answers.{IsUsageStatus}
 use Rattle.osq_program.specs.Checking as checking
@@ -124,7 +125,8 @@ by_explain false words seen bounds fails ready status does usage = asked words s
 
 complete : (command : CommandWords) (seen : Observed) → IsBounded command → NoneFails seen → IsReady command seen → (status : Status) → MeetsCommand command seen status → ¬ IsUsageStatus status → IsComplete status
 unfolding IsBounded
-complete (AsksReplay words) seen bounds fails ready status does usage = replayed words seen bounds.0 fails ready status does usage
+complete (AsksReplay words) seen bounds fails ready status does usage = replayed in_turn words seen bounds.0 fails ready status does usage
+complete (AsksDaemon words) seen bounds fails ready status does usage = replayed at_once words.run seen bounds.run_in.0 fails ready status does usage
 complete (AsksQuery words) seen bounds fails ready status does usage = by_explain words.explain words seen bounds fails ready status does usage
 complete (AsksCheck words) seen bounds fails ready status does usage = checked words seen fails ready status does usage
 complete (AsksCollect words) seen bounds fails ready status does usage = collected words seen fails ready status does usage

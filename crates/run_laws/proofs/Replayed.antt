@@ -1,4 +1,4 @@
--- A replay that is ready is complete.
+-- A session that is ready is complete.
 use Rattle.std.proofs.Common.{◌≡◌, ◌⊎◌, inl, inr, ℕ, ◌≤◌, false, List, [], ◌∷◌, ◌++◌, sym, subst, ◌∙◌, arith}
 use Rattle.std.specs.Prelude.{All}
 use Rattle.std.proofs.lemmas.Bool.{true≢false}
@@ -7,6 +7,7 @@ use Rattle.osq_value.specs.declared.moment.TheConstants.{LAST_MOMENT}
 use Rattle.program_words.specs.declared.command.ReplayWords.{ReplayWords}
 use Rattle.program_words.specs.Bounds.{RunBounds}
 use Rattle.session_model.specs.Given.{Source}
+use Rattle.session_model.specs.Orders.{Order}
 use Rattle.session_laws.specs.Enough.{AreEnough}
 use Rattle.session_laws.proofs.Ended.{is_end}
 use Rattle.osq_program.specs.declared.status.Status.{Status}
@@ -28,8 +29,8 @@ pub either : {A B : Type 0} → (A → ⊥) → (B → ⊥) → A ⊎ B → ⊥
 either a b (inl one) = a one
 either a b (inr other) = b other
 
-module _ (words : ReplayWords) (seen : Observed) (bounds : RunBounds words.start words.step words.ticks words.records words.sources) (fails : NoneFails seen) (ready : IsReplayReady words seen) where
-  no_cause : NoCause (causes_of words seen)
+module _ (order : Order) (words : ReplayWords) (seen : Observed) (bounds : RunBounds words.start words.step words.ticks words.records words.sources) (fails : NoneFails seen) (ready : IsReplayReady order words seen) where
+  no_cause : NoCause (causes_of order words seen)
   no_cause = record {
     query = λ place kind none. none;
     files = fails.files;
@@ -47,14 +48,14 @@ module _ (words : ReplayWords) (seen : Observed) (bounds : RunBounds words.start
   }
 
   -- a run that isn't at its sources' ends had too few ticks
-  not_more : Ran words seen false → ⊥
+  not_more : Ran order words seen false → ⊥
   not_more ran =
       let sources : ran.given.sources ≡ sources_named words.sources seen.all_bytes = ran.is.sources in
       let some : 1 ≤ ran.given.records = subst (λ (n : ℕ). 1 ≤ n) (sym ran.is.records) bounds.some_records in
       let enough = subst (λ (n : ℕ). All (AreEnough n seen.kept_before words.ticks) ran.given.sources) (sym ran.is.records)
       (subst (All (AreEnough words.records seen.kept_before words.ticks)) (sym sources) ready.ready.enough) in
-      let end = is_end (run_in seen ran.given) words.ticks seen.kept_after seen.results_after ran.ended ran.run ready.ready.keeper_tells ready.ready.source_tells ready.ready.legal some enough in
+      let end = is_end (run_in order seen ran.given) words.ticks seen.kept_after seen.results_after ran.ended ran.run ready.ready.keeper_tells ready.ready.source_tells ready.ready.legal some enough in
       true≢false (sym end ∙ ran.end_is)
 
-  pub replayed : (status : Status) → IsReplay words seen status → ¬ IsUsageStatus status → IsComplete status
-  replayed status does usage = settled (causes_of words seen) status no_cause does.cause (λ spent. not_more (does.spent spent).0) usage
+  pub replayed : (status : Status) → IsReplay order words seen status → ¬ IsUsageStatus status → IsComplete status
+  replayed status does usage = settled (causes_of order words seen) status no_cause does.cause (λ spent. not_more (does.spent spent).0) usage

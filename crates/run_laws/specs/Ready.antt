@@ -9,12 +9,13 @@ use Rattle.entry_model.specs.Values.{taken_from}
 use Rattle.program_words.specs.declared.command.CheckWords.{CheckWords}
 use Rattle.program_words.specs.declared.command.CollectWords.{CollectWords}
 use Rattle.program_words.specs.declared.command.CommandWords.{CommandWords}
-use Rattle.program_words.specs.declared.command.CommandWords.TheVariants.{Replay as AsksReplay, Query as AsksQuery, Check as AsksCheck, Collect as AsksCollect, Generate as AsksGenerate, SelfTest as AsksSelfTest, Report as AsksReport}
+use Rattle.program_words.specs.declared.command.CommandWords.TheVariants.{Replay as AsksReplay, Daemon as AsksDaemon, Query as AsksQuery, Check as AsksCheck, Collect as AsksCollect, Generate as AsksGenerate, SelfTest as AsksSelfTest, Report as AsksReport}
 use Rattle.program_words.specs.declared.command.QueryWords.{QueryWords}
 use Rattle.program_words.specs.declared.command.ReplayWords.{ReplayWords}
 use Rattle.osq_value.specs.declared.source.SourceName.{SourceName}
 use Rattle.sql_texts.specs.TextFaults.{text_fault}
 use Rattle.session_model.specs.Given.{Given, Source}
+use Rattle.session_model.specs.Orders.{Order, in_turn, at_once}
 use Rattle.replay_rounds.specs.Spent.{RanOutOfNumbers}
 use Rattle.session_laws.specs.Enough.{AreEnough}
 use Rattle.query_rounds.specs.Asking.{Spends}
@@ -47,13 +48,13 @@ pub record AreReady (seen : Observed) (names : List SourceName) (records steps :
   pub there : All (IsThere seen.kept_before) (sources_named names seen.all_bytes)
   pub enough : All (AreEnough records seen.kept_before steps) (sources_named names seen.all_bytes)
 
--- a replay: the configuration is accepted, no reading of the clock is too late, and no number is spent
-pub record IsReplayReady (words : ReplayWords) (seen : Observed) : Type 0 where
+-- a session, in this order of its ticks: the configuration is accepted, no reading of the clock is too late, and no number is spent
+pub record IsReplayReady (order : Order) (words : ReplayWords) (seen : Observed) : Type 0 where
   pub files_tell : seen.files_tell
   pub accepted : IsAccepted words seen
   pub ready : AreReady seen words.sources words.records words.ticks
   pub early : (readings : List ℕ) → seen.has_read readings → All (λ (reading : ℕ). reading ≤ LAST_MOMENT) readings
-  pub numbers : (given : Given) → IsReplayGiven words seen given → ¬ RanOutOfNumbers (run_in seen given) seen.kept_after
+  pub numbers : (given : Given) → IsReplayGiven words seen given → ¬ RanOutOfNumbers (run_in order seen given) seen.kept_after
 
 -- a question: so are its text and the configuration that it names, if it names one
 pub record IsQueryReady (words : QueryWords) (seen : Observed) : Type 0 where
@@ -87,7 +88,8 @@ pub record IsReportReady (seen : Observed) : Type 0 where
   pub legal : Legal seen.kept_before
 
 abbrev pub IsReady : CommandWords → Observed → Type 0
-IsReady (AsksReplay words) seen = IsReplayReady words seen
+IsReady (AsksReplay words) seen = IsReplayReady in_turn words seen
+IsReady (AsksDaemon words) seen = IsReplayReady at_once words.run seen
 IsReady (AsksQuery words) seen = IsAskReady words.explain words seen
 IsReady (AsksCheck words) seen = IsCheckReady words seen
 IsReady (AsksCollect words) seen = IsCollectReady words seen

@@ -16,6 +16,7 @@ use Rattle.program_words.specs.declared.command.GenerateWords.{GenerateWords}
 use Rattle.program_words.specs.Bounds.{GenerateBounds}
 use Rattle.kept_report.specs.Counting.{numbers_in, numbers_line}
 use Rattle.session_model.specs.Given.{Given, Source}
+use Rattle.session_model.specs.Orders.{in_turn}
 use Rattle.replay_rounds.specs.Running.{AddsAt}
 use Rattle.osq_program.specs.SelfTesting.{HasRunOver, IsSelfGiven, document, readings_from, self_key}
 use Rattle.same_sessions.specs.Laws.{StandsAlone}
@@ -48,7 +49,7 @@ given_same lines count start one other x y =
 
 -- a session at these readings adds one list
 adds_same : (words : GenerateWords) (given : Given) (readings : List ℕ) (one other : List Entry) → GenerateBounds words → IsSelfGiven (lines_of words.from words.count) words.count 1000 given
-    → AddsAt (Unit {0}) given [] readings one → AddsAt (Unit {0}) given [] readings other → one ≡ other
+    → AddsAt in_turn (Unit {0}) given [] readings one → AddsAt in_turn (Unit {0}) given [] readings other → one ≡ other
 adds_same words given [] one other bounds is x y = x ∙ sym y
 adds_same words given (reading ∷ readings) one other bounds is x y =
     same_loads (Unit {0}) given [] reading readings one other _ words.from words.count tt is.sources is.records bounds.lines_in x y
@@ -64,8 +65,8 @@ kept_same words one other bounds x y =
     let given = given_same lines words.count 1000 x.given y.given x.is y.is in
     let mine = readings_are ticks x.run.readings x.run.read x.run.count in
     let theirs = readings_are ticks y.run.readings y.run.read y.run.count in
-    let adds = subst (λ (g : Given). AddsAt (Unit {0}) g [] x.run.readings x.run.entries) given (x.run.grows.adds tt tt) in
-    let at = subst (λ (rs : List ℕ). AddsAt (Unit {0}) y.given [] rs x.run.entries) (mine ∙ sym theirs) adds in
+    let adds = subst (λ (g : Given). AddsAt in_turn (Unit {0}) g [] x.run.readings x.run.entries) given (x.run.grows.adds tt tt) in
+    let at = subst (λ (rs : List ℕ). AddsAt in_turn (Unit {0}) y.given [] rs x.run.entries) (mine ∙ sym theirs) adds in
     let entries = adds_same words y.given y.run.readings x.run.entries y.run.entries bounds y.is at (y.run.grows.adds tt tt) in
     x.run.grows.grown tt ∙ (entries ∙ sym (y.run.grows.grown tt))
 

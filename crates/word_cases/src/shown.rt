@@ -2,8 +2,8 @@
 
 use osq_value::{NoMemory, SourceKind, SourceNameList, Str};
 use program_words::{
-    CheckWords, CollectWords, CommandWords, GenerateWords, Paths, QueryWords, ReplayWords,
-    ReportWords,
+    CheckWords, CollectWords, CommandWords, DaemonWords, GenerateWords, Paths, QueryWords,
+    ReplayWords, ReportWords,
 };
 
 /// The most sources that are named.
@@ -55,8 +55,9 @@ fn push_host(text: &mut String, host: &str, platform: &str, agent: &str) -> Resu
     Ok(())
 }
 
-fn push_replay(text: &mut String, words: &ReplayWords) -> Result<(), NoMemory> {
-    write!(text, "replay config {}", words.config.as_str())?;
+/// Adds the words of a session, behind those of its command.
+fn push_session(text: &mut String, words: &ReplayWords) -> Result<(), NoMemory> {
+    write!(text, " config {}", words.config.as_str())?;
     push_host(
         text,
         words.host.as_str(),
@@ -67,6 +68,16 @@ fn push_replay(text: &mut String, words: &ReplayWords) -> Result<(), NoMemory> {
     push_counts(text, words.ticks, words.records)?;
     push_store(text, &words.store)?;
     push_sources(text, &words.sources)
+}
+
+fn push_replay(text: &mut String, words: &ReplayWords) -> Result<(), NoMemory> {
+    text.push_str("replay")?;
+    push_session(text, words)
+}
+
+fn push_daemon(text: &mut String, words: &DaemonWords) -> Result<(), NoMemory> {
+    write!(text, "daemon workers {}", words.workers)?;
+    push_session(text, &words.run)
 }
 
 fn push_query(text: &mut String, words: &QueryWords) -> Result<(), NoMemory> {
@@ -121,6 +132,7 @@ fn push_report(text: &mut String, words: &ReportWords) -> Result<(), NoMemory> {
 pub(crate) fn push_command(text: &mut String, command: &CommandWords) -> Result<(), NoMemory> {
     match command {
         CommandWords::Replay(words) => push_replay(text, words),
+        CommandWords::Daemon(words) => push_daemon(text, words),
         CommandWords::Query(words) => push_query(text, words),
         CommandWords::Check(words) => push_check(text, words),
         CommandWords::Collect(words) => push_collect(text, words),

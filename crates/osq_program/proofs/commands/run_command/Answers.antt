@@ -2,9 +2,9 @@ use Rattle.std.proofs.Common.{subst}
 use Rattle.program_words.specs.Bounds.{IsBounded}
 use Rattle.osq_program.proofs.commands.run_command.Goals as goal
 
-pub run_replay-requires-clause-bounded : goal.run_replay-requires-clause-bounded
+pub run_in_turn-requires-clause-bounded : goal.run_in_turn-requires-clause-bounded
 unfolding IsBounded
-run_replay-requires-clause-bounded g c κs within = (subst IsBounded c.in-Replay.is c.requires.bounded).0
+run_in_turn-requires-clause-bounded g c κs within = (subst IsBounded c.in-Replay.is c.requires.bounded).0
 
 pub do_query-requires-clause-bounded : goal.do_query-requires-clause-bounded
 unfolding IsBounded

@@ -13,20 +13,20 @@ use Rattle.osq_program.proofs.replay.run_replay.Goals as goal
 
 pub returns-in-Err-clause-does : goal.returns-in-Err-clause-does
 returns-in-Err-clause-does g c =
-    refused_config _ _ c.refuse_unconfigured.result (unconfigured_cause _ _ _ c.in-Err.refused c.refuse_unconfigured.result c.in-Err.ensures.cause c.refuse_unconfigured.ensures.same) refl (λ tells. refl) (λ tells. refl)
+    refused_config g.T.TakesRound.order _ _ c.refuse_unconfigured.result (unconfigured_cause _ _ _ c.in-Err.refused c.refuse_unconfigured.result c.in-Err.ensures.cause c.refuse_unconfigured.ensures.same) refl (λ tells. refl) (λ tells. refl)
 
 pub returns-in-Err-clause-told : goal.returns-in-Err-clause-told
 returns-in-Err-clause-told g c =
-    untold_replay c.args.words.now _ c.refuse_unconfigured.result refl
+    untold_replay g.T.TakesRound.order c.args.words.now _ c.refuse_unconfigured.result refl
     (tells_unconfigured (MayReplayTell c.args.words.now _) _ _ _ _ c.in-Err.refused c.refuse_unconfigured.result c.in-Err.ensures.cause c.refuse_unconfigured.ensures.same
     (λ file is. (file, is, refl)) (replay_may c.args.words.now _ _) c.refuse_unconfigured.ensures.told)
 
 pub returns-in_default-clause-does : goal.returns-in_default-clause-does
-returns-in_default-clause-does g c = no_memory _ _ _ c.starve.ensures.same refl (λ tells. refl) (λ tells. refl)
+returns-in_default-clause-does g c = no_memory g.T.TakesRound.order _ _ _ c.starve.ensures.same refl (λ tells. refl) (λ tells. refl)
 
 pub returns-in_default-clause-told : goal.returns-in_default-clause-told
 returns-in_default-clause-told g c =
-    untold_replay c.args.words.now _ c.starve.result refl
+    untold_replay g.T.TakesRound.order c.args.words.now _ c.starve.result refl
     (subst (TellsSome (MayReplayTell c.args.words.now _) _) (sym c.starve.ensures.same) (tells_line (MayReplayTell c.args.words.now _) _ OutOfMemory refl c.starve.ensures.told))
 
 pub run_session-requires-clause-configuration : goal.run_session-requires-clause-configuration
@@ -51,7 +51,7 @@ returns-in-Ok-run_session-clause-does g c =
     let left = g.S.Source.left in
     let bytes = sym (ap (map left) c.as_mut_slice.ensures.value) in
     let is = given_is left _ _ c.in-Ok-setup_of.setup c.in-Ok.configured.config c.in-Ok.configured.documents c.in-Ok.configured.notes _ c.in-Ok-setup_of.ensures bytes c.in-Ok.ensures.config in
-    ran _ _ _ _ is c.in-Ok-run_session.ended (for_ticks c.in-Ok-setup_of.setup c.args.words.now _ _ _ _ c.in-Ok-setup_of.ensures s.done) _ s.told s.fit _
+    ran g.T.TakesRound.order _ _ _ _ is c.in-Ok-run_session.ended (for_ticks c.in-Ok-setup_of.setup c.args.words.now _ _ _ _ c.in-Ok-setup_of.ensures s.done) _ s.told s.fit _
     (rose_behind _ _ _ s.later.2) c.finish.ensures.done c.finish.ensures.spent c.finish.ensures.cause s.kept s.written
 
 pub answer_to-status-requires-clause-fault : goal.answer_to-status-requires-clause-fault
@@ -75,7 +75,7 @@ returns-clause-does g c =
     let bytes = sym (ap (map left) c.as_mut_slice.ensures.value) in
     let is = given_is left _ _ setup c.in-Ok.configured.config c.in-Ok.configured.documents c.in-Ok.configured.notes _ c.in-Ok-setup_of.ensures bytes c.in-Ok.ensures.config in
     let answer = subst (λ (sources : List SourceName). IsAnswerTo sources r.error c.answer_to-status.result) c.as_slice.ensures c.answer_to-status.ensures in
-    stopped _ _ c.stop.result (stopped_cause _ c.answer_to-status.result c.stop.result c.stop.ensures.same
+    stopped g.T.TakesRound.order _ _ c.stop.result (stopped_cause _ c.answer_to-status.result c.stop.result c.stop.ensures.same
     (answered _ c.args.words.now.sources r.error _ answer
     (λ e. ((_, is), s.keeper_cause r refl e))
     (λ e. ((_, is), λ tells. (s.illegal tells r refl e, s.refused tells r refl e)))
@@ -94,7 +94,7 @@ returns-in-Ok-run_session-clause-told g c =
     let left = g.S.Source.left in
     let bytes = sym (ap (map left) c.as_mut_slice.ensures.value) in
     let is = given_is left c.args.words.now _ c.in-Ok-setup_of.setup c.in-Ok.configured.config c.in-Ok.configured.documents c.in-Ok.configured.notes _ c.in-Ok-setup_of.ensures bytes c.in-Ok.ensures.config in
-    ran_telling c.args.words.now _ c.finish.result _ is _ _ (rose_behind _ _ _ s.later.2) s.told c.finish.ensures.told
+    ran_telling g.T.TakesRound.order c.args.words.now _ c.finish.result _ is _ _ (rose_behind _ _ _ s.later.2) s.told c.finish.ensures.told
 
 pub returns-clause-told : goal.returns-clause-told
 returns-clause-told g c =
@@ -105,5 +105,5 @@ returns-clause-told g c =
     let bytes = sym (ap (map left) c.as_mut_slice.ensures.value) in
     let is = given_is left c.args.words.now _ setup c.in-Ok.configured.config c.in-Ok.configured.documents c.in-Ok.configured.notes _ c.in-Ok-setup_of.ensures bytes c.in-Ok.ensures.config in
     let answer = subst (λ (sources : List SourceName). IsAnswerTo sources r.error c.answer_to-status.result) c.as_slice.ensures c.answer_to-status.ensures in
-    stopped_telling c.args.words.now _ _ is c.args.words.now.sources r.error c.answer_to-status.result c.stop.result (g.O.Sink.written c.run_session.new.status) _ _ answer (rose_behind _ _ _ s.later.2)
+    stopped_telling g.T.TakesRound.order c.args.words.now _ _ is c.args.words.now.sources r.error c.answer_to-status.result c.stop.result (g.O.Sink.written c.run_session.new.status) _ _ answer (rose_behind _ _ _ s.later.2)
     r.numbers s.stops (λ same. ap g.O.Sink.written same) (λ tells. failed_before _ _ _ _ c.stop.ensures.later (s.stops_telling tells)) c.stop.ensures.told c.stop.ensures.same

@@ -1,0 +1,22 @@
+use Rattle.std.proofs.Common.{Some, ap, refl, subst, sym, ◌∙◌}
+use Rattle.program_words.specs.Bounds.{IsBounded}
+use Rattle.program_words.specs.declared.command.CommandWords.{CommandWords}
+use Rattle.program_words.specs.declared.command.CommandWords.TheVariants.{Daemon as AsksDaemon}
+use Rattle.osq_program.proofs.Paths.{for_read, tells_wanting, told_for_read, wants_by}
+use Rattle.osq_program.proofs.run.run_daemon.Goals as goal
+
+pub run_by_threads-requires-clause-bounded : goal.run_by_threads-requires-clause-bounded
+unfolding IsBounded
+run_by_threads-requires-clause-bounded g c κs within = subst IsBounded c.in-Ok-Daemon.field-0-is c.in-Ok-Daemon.ensures.bounds
+
+pub returns-in-Ok-Daemon-clause-does : goal.returns-in-Ok-Daemon-clause-does
+returns-in-Ok-Daemon-clause-does g c = λ command is used. for_read (AsksDaemon c.in-Ok-Daemon.words) command _ _ (sym (c.in-Ok-Daemon.ensures.command ∙ ap (λ (w : CommandWords). Some w) c.in-Ok-Daemon.field-0-is) ∙ is) c.run_by_threads.ensures.does
+
+pub returns-in-Err-NoMemory-clause-does : goal.returns-in-Err-NoMemory-clause-does
+returns-in-Err-NoMemory-clause-does g c = λ command is used. wants_by command _ _ c.starve.ensures.same refl (λ seen. refl) (λ seen. refl) (λ seen. refl)
+
+pub returns-in-Ok-Daemon-clause-told : goal.returns-in-Ok-Daemon-clause-told
+returns-in-Ok-Daemon-clause-told g c = λ command is used. told_for_read (AsksDaemon c.in-Ok-Daemon.words) command _ _ (sym (c.in-Ok-Daemon.ensures.command ∙ ap (λ (w : CommandWords). Some w) c.in-Ok-Daemon.field-0-is) ∙ is) c.run_by_threads.ensures.told
+
+pub returns-in-Err-NoMemory-clause-told : goal.returns-in-Err-NoMemory-clause-told
+returns-in-Err-NoMemory-clause-told g c = λ command is used. tells_wanting command _ _ c.starve.ensures.same refl c.starve.ensures.told
