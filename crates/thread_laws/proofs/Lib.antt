@@ -1,5 +1,6 @@
 pub mod Adding
 pub mod Agreed
+pub mod Alike
 pub mod Bodies
 pub mod Joined
 pub mod Numbers

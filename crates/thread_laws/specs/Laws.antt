@@ -2,10 +2,12 @@
 use Rattle.std.specs.Prelude.{◌≡◌, ◌≢◌, ℕ, ◌+◌, ◌≤◌, ◌==◌, ◌||◌, Bool, true, All, Contains, List, ◌++◌, map, bytes_eq, None}
 use Rattle.std.specs.List.{list_any, range_with_len}
 use Rattle.entry_model.specs.declared.entry.Entry.{Entry}
+use Rattle.entry_model.specs.declared.restored.Restored.{Restored}
 use Rattle.entry_model.specs.Fits.{IsDistinct}
 use Rattle.session_model.specs.Taking.{from_source, is_from}
 use Rattle.session_model.specs.Working.{is_batch}
 use Rattle.session_state.specs.Kept.{Kept}
+use Rattle.session_state.specs.StateOf.{IsStateOf}
 use Rattle.session_state.specs.Ticks.{first_due}
 use Rattle.turn_lock.specs.Own.{own}
 use Rattle.turn_lock.specs.Turns.{Grows, IsAbsent, entries}
@@ -14,7 +16,7 @@ use Rattle.shared_store.specs.Notes.{entries_in}
 use Rattle.shared_store.specs.Shares.{StandsFor}
 use Rattle.thread_laws.specs.Jobs.{AddsOwn, Stamped, is_noted_from}
 use Rattle.thread_laws.specs.Joining.{AreAdded, AreApart, HasEach, HasPublished, HasWorked, Part, numbers_of}
-use Rattle.thread_laws.specs.Reached.{NoneDue}
+use Rattle.thread_laws.specs.Reached.{AreAlike, NoneDue}
 use Rattle.thread_laws.specs.Timely.{AreTimely}
 
 -- Where the first seat has joined each seat that it ever split off, and splits off so many more and joins them, each note that it has then seen behind what it
@@ -71,3 +73,8 @@ pub record AreBySeats (parts : List Part) (more : Stamped) : Type 0 where
 
 abbrev pub BySeats : Type 0
 BySeats = (parts : List Part) (workers : List ℕ) (more : Stamped) → IsDistinct bytes_eq (map (λ (part : Part). part.name) parts) → AreAdded parts workers more → AreBySeats parts more
+
+-- Two states that stand for the same notes behind one start, whichever seats saw them, are alike.
+abbrev pub Alike : Type 0
+Alike =
+    (start : Kept) (notes : List Noted) (one other : Kept) (base : Restored) (added : List Entry) → IsStateOf base added start → StandsFor start notes one → StandsFor start notes other → AreAlike one other

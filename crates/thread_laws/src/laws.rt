@@ -1,6 +1,11 @@
 //! The laws of a step that threads work on together, by the list of their store's lock.
 
-ghost use Rattle.thread_laws.specs.Laws.{BySeats, Joins, NoneIntrudes, Numbers, OwnJoined, StayUndue, TimelyJoined};
+ghost use Rattle.thread_laws.specs.Laws.{Alike, BySeats, Joins, NoneIntrudes, Numbers, OwnJoined, StayUndue, TimelyJoined};
+
+/// Whichever seats saw a list, the states that stand for it behind one start are alike but for claims and room.
+pub fn alike()
+    ensures { Alike }
+{}
 
 /// Each entry of a step has the number of one of the step's seats, which differ.
 pub fn numbers()
