@@ -1,11 +1,12 @@
 /* Lets one call of the C library fail, for bench/failures.py, which loads this before the C library.
 
    FAIL_KIND names a kind of calls and FAIL_AT the one that fails, counted over the process from 1; FAIL_ERRNO is what errno is then. A call of the kind
-   short_read or short_write doesn't fail, but reads or writes one byte. FAIL_COUNTS names a file that gets a line `KIND COUNT` for each kind at the end. */
+   short_read or short_write doesn't fail, but reads or writes one byte. A call of the kind thread starts no thread. FAIL_COUNTS names a file that gets a line `KIND COUNT` for each kind at the end. */
 #define _GNU_SOURCE
 #include <dlfcn.h>
 #include <errno.h>
 #include <fcntl.h>
+#include <pthread.h>
 #include <stdarg.h>
 #include <stdio.h>
 #include <stdlib.h>
@@ -14,8 +15,8 @@
 #include <sys/stat.h>
 #include <unistd.h>
 
-enum kind { ALLOC, OPEN, READ, WRITE, SYNC, SIZE, STAT, LOCK, SHORT_READ, SHORT_WRITE, KINDS };
-static const char *const names[KINDS] = {"alloc", "open", "read", "write", "sync", "size", "stat", "lock", "short_read", "short_write"};
+enum kind { ALLOC, OPEN, READ, WRITE, SYNC, SIZE, STAT, LOCK, THREAD, SHORT_READ, SHORT_WRITE, KINDS };
+static const char *const names[KINDS] = {"alloc", "open", "read", "write", "sync", "size", "stat", "lock", "thread", "short_read", "short_write"};
 static long counts[KINDS], at;
 static int failing = -1, with;
 /* No call is counted before the program's main begins. */
@@ -42,8 +43,8 @@ static void end(void) {
     for (int it = 0; out >= 0 && it < KINDS; it++) dprintf(out, "%s %ld\n", names[it], counts[it]);
 }
 
-/* Whether this call, the next one of its kind, is the one. */
-static int is_it(enum kind kind) { return ready && ++counts[kind] == at && failing == (int)kind; }
+/* Whether this call, the next one of its kind by whatever thread, is the one. */
+static int is_it(enum kind kind) { return ready && __atomic_add_fetch(&counts[kind], 1, __ATOMIC_SEQ_CST) == at && failing == (int)kind; }
 
 static int fails(enum kind kind) {
     if (!is_it(kind)) return 0;
@@ -103,4 +104,15 @@ int fcntl(int file, int command, ...) {
     void *given = va_arg(rest, void *);
     va_end(rest);
     return fails(LOCK) ? -1 : REAL(fcntl)(file, command, given);
+}
+
+int pthread_create(pthread_t *thread, const pthread_attr_t *how, void *(*begin)(void *), void *with_it) {
+    return is_it(THREAD) ? EAGAIN : REAL(pthread_create)(thread, how, begin, with_it);
+}
+
+/* A program with threads ends without its destructors. */
+void _exit(int status) {
+    end();
+    REAL(_exit)(status);
+    __builtin_unreachable();
 }

@@ -3,7 +3,7 @@
 
 Usage: bench/failures.py [--every N] [--only CASE] [PROGRAM], by the built program (default crates/osqd/out/osqd); with N only each Nth want of memory.
 It builds bench/failing_calls.c with `cc`. Kinds are want of memory (malloc, realloc), open, read, write, sync, size (ftruncate), stat and lock, and reads
-and writes of one byte. A case is a command over a state of files; its unbroken run says what is to come. For each case and kind it prints how many calls
+and writes of one byte; and of `daemon` threads that can't be started. A case is a command over a state of files; its unbroken run says what is to come. For each case and kind it prints how many calls
 there are and which statuses came how often; for each run of which something doesn't hold, what. Status 1 where there is one.
 
 What holds of each run: it ends by itself with a status of docs/COMMANDS.md, at want of memory that of the unbroken run or 20, at a short read or write
@@ -11,11 +11,14 @@ that of the unbroken run, and at one of a store's files maybe 4; at the status o
 the unbroken run stands in the last lines of standard error, where they could be written. Of a store: it has what the unbroken run's first ticks left in
 it, as `report` says, the results have the lines of all these ticks but the last one's, at least, and no others; and another run takes the rest. Of
 a ledger: it is a front part of that of the unbroken run, each answer stands behind its line, and the same stream given again leaves that run's ledger.
+Of `daemon`, whose order is another one in each run: no row is told twice by it and by a later session that reads all, nor one that `replay` doesn't tell;
+none is missing but where its lines couldn't be written behind their seal; and that session leaves as many events.
 """
 
 import argparse
 import collections
 import dataclasses
+import json
 import os
 import pathlib
 import shutil
@@ -24,14 +27,16 @@ import sys
 import tempfile
 
 TOP = pathlib.Path(__file__).resolve().parent.parent
-KINDS = ("alloc", "open", "read", "write", "sync", "size", "stat", "lock", "short_read", "short_write")
+KINDS = ("alloc", "open", "read", "write", "sync", "size", "stat", "lock", "thread", "short_read", "short_write")
 NO_SPACE, NO_MEMORY = 28, 12
 OUT_OF_MEMORY, KEEPER_FAULT = 20, 4
-FAULTS = {3, 4, 7, 8}
+SINK_FAULT = 8
+FAULTS = {3, KEEPER_FAULT, 7, SINK_FAULT}
 HOST = ["--config", "host.conf", "--host", "web1"]
 SOURCES = ["--audit", "audit.log", "--changes", "changes.jsonl", "--tables", "tables.jsonl"]
 TICKS = 4
 REPLAY = ["replay", *HOST, *SOURCES, "--records", "1"]
+DAEMON = ["daemon", *HOST, *SOURCES, "--records", "1", "--workers", "2"]
 STORE = ["--store", "store"]
 
 
@@ -122,6 +127,38 @@ class StoreCase(Case):
         return "" if events == self.events else f"a later run leaves {events}, and not {self.events}"
 
 
+def told_rows(lines: bytes) -> collections.Counter:
+    """The rows of evented queries, each with its query, whatever batch they stand in."""
+    read = [json.loads(line) for line in lines.splitlines()]
+    return collections.Counter(json.dumps([it["name"], it["columns"]], sort_keys=True) for it in read if it["action"] == "added")
+
+
+class DaemonCase(Case):
+    """Sessions by threads over a store."""
+
+    def __init__(self, bench: Bench, name: str, words: list):
+        super().__init__(bench, name, words)
+        bench.keep({})
+        self.wanted = told_rows(bench.run([*REPLAY, *STORE, *clock(0, TICKS)]).out + self.later().out)
+        self.events = self.told(self.later())
+
+    def later(self) -> Ran:
+        """A session of more than an hour, in which all queries that discovery finds are due."""
+        return self.bench.run([*REPLAY, *STORE, *clock(50, 80)])
+
+    def told(self, ran: Ran) -> str:
+        return next((word for line in ran.err.splitlines() for word in line.split() if word.startswith("events=")), f"none: {ran}")
+
+    def judge(self, ran: Ran) -> str:
+        later = self.later()
+        both = told_rows(ran.out[: ran.out.rfind(b"\n") + 1] + later.out)
+        if both - self.wanted:
+            return f"told twice, or out of nothing: {both - self.wanted}"
+        if self.wanted - both and ran.status not in (SINK_FAULT, KEEPER_FAULT):
+            return f"not told: {self.wanted - both}"
+        return "" if self.told(later) == self.events else f"a later run leaves {self.told(later)}, and not {self.events}"
+
+
 class LedgerCase(Case):
     def judge(self, ran: Ran) -> str:
         ledger, whole = (self.bench.room / "ledger").read_bytes() if "ledger" in self.bench.kept() else b"", self.after["ledger"]
@@ -144,6 +181,7 @@ def cases(bench: Bench):
     yield Case(bench, "replay", [*REPLAY, *clock(0, TICKS)])
     yield StoreCase(bench, "replay, a new store", lambda ticks: [*REPLAY, *STORE, *clock(0, ticks)])
     yield StoreCase(bench, "replay, an old store", lambda ticks: [*REPLAY, *STORE, *clock(10, ticks)], [[*REPLAY, *STORE, *clock(0, 2)]])
+    yield DaemonCase(bench, "daemon, a new store", [*DAEMON, *STORE, *clock(0, TICKS)])
     filled = [[*REPLAY, *STORE, *clock(0, 20)]]
     yield Case(bench, "report", ["report", *STORE], filled)
     yield Case(bench, "query of a store", ["query", "--text", "SELECT target_path FROM file_events", *STORE, *clock(50, 9)], filled)
@@ -159,11 +197,12 @@ def wrong(case: Case, kind: str, ran: Ran) -> str:
     allowed = shortened if kind.startswith("short") else {own, OUT_OF_MEMORY} if kind == "alloc" else {own, *FAULTS}
     if ran.status not in allowed:
         return f"status {ran.status}: {ran.err[-300:]}"
-    if not case.whole.out.startswith(ran.out) or (ran.status == own and ran.out != case.whole.out):
+    is_front = case.whole.out.startswith(ran.out) and (ran.status != own or ran.out == case.whole.out)
+    if not is_front and not isinstance(case, DaemonCase):
         return f"status {ran.status}, and other results"
     if ran.status != own and kind != "write" and f"osqd: status {ran.status} " not in ran.err:
         return f"status {ran.status}, and standard error doesn't say so: {ran.err[-300:]}"
-    if case.start != case.after or isinstance(case, (StoreCase, LedgerCase)):
+    if case.start != case.after or isinstance(case, (StoreCase, DaemonCase, LedgerCase)):
         return case.judge(ran)
     return "" if {it: case.bench.kept().get(it) for it in case.start} == case.start else "its files have changed"
 
