@@ -1,13 +1,14 @@
 //! Runs over the forms in memory.
 
+use batch_forwarder::MemoryLink;
 use batch_keeper::MemoryKeeper;
 use entry_model::entry::{Entry, EntryList};
 use osq_outside::{
     Fail, FailList, Gate, MemoryFiles, MemorySink, MemorySource, NamedFile, NamedFileList,
     StepClock,
 };
+use osq_program::Outside;
 use osq_program::run::{run_daemon, run_plain};
-use osq_program::{MemoryLink, Outside};
 use osq_value::{Bytes, Copied, NoMemory, Sequence, Str};
 use std::alloc::Global;
 use std::str;

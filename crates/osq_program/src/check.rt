@@ -8,12 +8,12 @@ ghost use Rattle.osq_program.specs.Telling.{TellsCheck};
 ghost use Rattle.schedule_notes.specs.Notes.{AreNotes};
 
 use crate::configuration::configured;
-use crate::link::Link;
 use crate::outside::{Observes, Outside};
 use crate::schedule_lines::lines_of;
 use crate::setup::host_of;
 use crate::status::Status;
 use crate::stop::{refuse, refuse_unconfigured, starve};
+use batch_forwarder::Link;
 use batch_keeper::Keeper;
 use config_files::Configured;
 use osq_config::{Config, Pack};

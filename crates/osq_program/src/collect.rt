@@ -11,10 +11,10 @@ ghost use Rattle.osq_program.specs.Collecting.{IsCollect, IsStoppedBy, stream};
 ghost use Rattle.osq_program.specs.Telling.{TellsCollect};
 
 use crate::ending::answer_to;
-use crate::link::Link;
 use crate::outside::{Observes, Outside};
 use crate::status::Status;
 use crate::stop::{refuse, refuse_unread, starve};
+use batch_forwarder::Link;
 use batch_keeper::Keeper;
 use collect_rounds::{CollectError, collect};
 use collector_ledger::{OpenedLedger, open_ledger};

@@ -8,11 +8,11 @@ ghost use Rattle.sql_query.specs.Resolved.{query_of};
 ghost use Rattle.sql_planner.specs.Explained.{explained};
 ghost use Rattle.sql_planner.specs.Plans.{planned};
 
-use crate::link::Link;
 use crate::outside::{Observes, Outside};
 use crate::query::asked;
 use crate::status::Status;
 use crate::stop::{refuse, starve};
+use batch_forwarder::Link;
 use batch_keeper::Keeper;
 use osq_outside::{Clock, Files, Sink, Source, write_all};
 use osq_value::{Bytes, NoMemory};

@@ -5,10 +5,10 @@ ghost use Rattle.osq_program.specs.Answers.{IsUsageStatus};
 ghost use Rattle.osq_program.specs.Generating.{IsGenerate};
 ghost use Rattle.osq_program.specs.Telling.{TellsAlone};
 
-use crate::link::Link;
 use crate::outside::{Observes, Outside};
 use crate::status::Status;
 use crate::stop::{refuse, starve};
+use batch_forwarder::Link;
 use batch_keeper::Keeper;
 use generated_changes::{WriteError, write_lines};
 use osq_outside::{Clock, Files, Sink, Source};

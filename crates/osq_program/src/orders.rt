@@ -9,10 +9,10 @@ ghost use Rattle.osq_program.specs.Answers.{IsUsageStatus};
 ghost use Rattle.osq_program.specs.Replaying.{IsReplay};
 ghost use Rattle.osq_program.specs.Telling.{TellsReplay};
 
-use crate::link::Link;
 use crate::outside::{Observes, Outside};
 use crate::replay::run_replay;
 use crate::status::Status;
+use batch_forwarder::Link;
 use batch_keeper::Keeper;
 use daemon_rounds::{AtOnce, InTurn, TakeError, round_in_turn};
 use osq_outside::{Clock, Files, Gate, Sink, Source};

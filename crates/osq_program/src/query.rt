@@ -13,11 +13,11 @@ ghost use Rattle.sql_texts.specs.TextFaults.{text_fault};
 ghost use Rattle.sql_texts.specs.Texts.{query_in};
 
 use crate::ending::{answer_to, ended};
-use crate::link::Link;
 use crate::outside::{Observes, Outside};
 use crate::status::Status;
 use crate::stop::{refuse, refuse_unconfigured, starve};
 use crate::watching::watched_by;
+use batch_forwarder::Link;
 use batch_keeper::Keeper;
 use osq_outside::{Clock, Files, Sink, Source, write_all};
 use osq_value::{Bytes, NoMemory, RowList, TextList};

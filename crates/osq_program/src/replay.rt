@@ -8,11 +8,11 @@ ghost use Rattle.osq_program.specs.Telling.{TellsReplay};
 
 use crate::configuration::configured;
 use crate::ending::{answer_to, finish};
-use crate::link::Link;
 use crate::outside::{Observes, Outside};
 use crate::setup::setup_of;
 use crate::status::Status;
 use crate::stop::{refuse_unconfigured, starve, stop};
+use batch_forwarder::Link;
 use batch_keeper::Keeper;
 use daemon_rounds::TakesRound;
 use osq_outside::{Clock, Files, Sink, Source};

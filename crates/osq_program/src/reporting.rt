@@ -6,10 +6,10 @@ ghost use Rattle.osq_program.specs.Answers.{IsCaused, IsUsageStatus};
 ghost use Rattle.osq_program.specs.Reporting.{HasReport, IsShown, loading_causes};
 ghost use Rattle.osq_program.specs.Telling.{TellsAlone};
 
-use crate::link::Link;
 use crate::outside::{Observes, Outside};
 use crate::status::Status;
 use crate::stop::refuse;
+use batch_forwarder::Link;
 use batch_keeper::Keeper;
 use kept_report::report_text;
 use osq_outside::{Clock, Files, Sink, Source, write_all};

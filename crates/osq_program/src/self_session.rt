@@ -4,10 +4,10 @@ ghost use Rattle.std.specs.Prelude.{◌≡◌, ◌≤◌, ◌<◌, ◌^◌, ℕ,
 ghost use Rattle.osq_program.specs.Answers.{IsDoneStatus};
 ghost use Rattle.osq_program.specs.SelfTesting.{HasRunOver, config_path, document, self_sources, self_words};
 
-use crate::link::MemoryLink;
 use crate::orders::run_in_turn;
 use crate::outside::Outside;
 use crate::status::Status;
+use batch_forwarder::MemoryLink;
 use batch_keeper::{Keeper, MemoryKeeper};
 use osq_outside::{
     FailList, FileSink, Files, MemoryFiles, MemorySource, NamedFile, NamedFileList, Source,

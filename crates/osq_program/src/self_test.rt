@@ -7,11 +7,11 @@ ghost use Rattle.osq_program.specs.Answers.{IsUsageStatus};
 ghost use Rattle.osq_program.specs.SelfTesting.{HasTested, IsSelfTest, self_key};
 ghost use Rattle.osq_program.specs.Telling.{TellsAlone};
 
-use crate::link::Link;
 use crate::outside::{Observes, Outside};
 use crate::self_session::{Ran, run_over};
 use crate::status::Status;
 use crate::stop::{refuse, starve};
+use batch_forwarder::Link;
 use batch_keeper::{Keeper, MemoryKeeper};
 use entry_model::entry::EntryList;
 use generated_changes::lines_of;

@@ -2,9 +2,9 @@
 
 ghost use Rattle.run_laws.specs.Laws.{Completes};
 
+use batch_forwarder::Link;
 use batch_keeper::Keeper;
 use osq_outside::{Clock, Files, Sink, Source};
-use osq_program::link::Link;
 use osq_program::outside::{Observes, Outside};
 
 /// Where no object of the outside fails, and what they hold is in order, a run of a command answers Ok, or memory was wanting.

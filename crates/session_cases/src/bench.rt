@@ -4,13 +4,14 @@ use crate::given::{Given, KEYS, push_odd};
 use crate::left::push_left;
 use crate::link::polled;
 use crate::story::{is_kept, kept_of};
+use batch_forwarder::MemoryLink;
 use batch_keeper::MemoryKeeper;
 use entry_model::entry::EntryList;
 use osq_outside::{
     FailList, Failures, MemoryFiles, MemorySink, MemorySource, NamedFileList, StepClock,
 };
+use osq_program::Outside;
 use osq_program::run::run_plain;
-use osq_program::{MemoryLink, Outside};
 use osq_value::{NoMemory, Sequence};
 use serde_json::Value as Json;
 use std::alloc::Global;

@@ -1,8 +1,8 @@
 //! Polls of a link.
 
 use crate::given::{bytes_of, calls_of, push_odd};
+use batch_forwarder::{Link, LinkError, MemoryLink};
 use case_text::items_of;
-use osq_program::{Link, LinkError, MemoryLink};
 use osq_value::{Bytes, NoMemory, Sequence};
 use serde_json::Value as Json;
 use std::alloc::Global;

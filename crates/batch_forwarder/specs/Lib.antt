@@ -1,0 +1,5 @@
+pub mod Frames
+pub mod Laws
+pub mod Polling
+pub mod Sending
+pub mod Windows
