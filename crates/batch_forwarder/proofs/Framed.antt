@@ -1,7 +1,7 @@
 -- Each batch of a legal list has a frame.
 use Rattle.std.proofs.Common.{◌≡◌, ℕ, zero, suc, ◌<◌, ◌≤◌, ◌^◌, ◌&&◌, Bool, true, false, cond, List, [], ◌∷◌, ◌++◌, length, length-append, map, refl, sym, ap, ◌∙◌, subst, arith, Option, Some, None}
 use Rattle.std.specs.Prelude.{All, Contains, filter, slice_get}
-use Rattle.std.proofs.lemmas.List.Elements.{All-nil}
+use Rattle.std.proofs.lemmas.List.Elements.{All-contains, All-nil}
 use Rattle.std.proofs.lemmas.Option.{same_Some}
 use Rattle.sql_texts.specs.Meaning.{is_accepted}
 use Rattle.pack_rules.specs.declared.schedule.Schedule.{Schedule}
@@ -45,23 +45,16 @@ runs_sound = over_legal (λ entries. IsSound (schedule_of entries)) none_sound m
         subst IsSound (sym (last_of-append schedule_in no_schedule entries (Configured document schedule moment ∷ []))) next.0
     more entries entry legal sound next = subst IsSound (sym (last_of-append schedule_in no_schedule entries (entry ∷ []))) sound
 
--- one of what all are is one
-one_of : {X : Type 0} (P : X → Type 0) (xs : List X) (x : X) → All P xs → Contains xs x → P x
-one_of P xs x all (place, within, at) = subst P at (all place within)
-
 -- a query that is due is one of the schedule's
 due_accepted : (entries : List Entry) (batch : Batch) → IsSound (schedule_of entries) → Contains (due_queries entries) batch.query → is_accepted batch.query.text ≡ true
 due_accepted entries batch sound due = by_tick (has_ticked entries) due
   where
-    keys : List Scheduled → List _
-    keys = map (λ (scheduled : Scheduled). scheduled.key)
-
     by_tick : (ticked : Bool) → Contains (cond ticked (map (λ (scheduled : Scheduled). scheduled.key) (filter (is_due entries) (schedule_of entries).queries)) []) batch.query → is_accepted batch.query.text ≡ true
     by_tick false (place, within, at) = absurd (omega (arith, within))
     by_tick true is =
         let one = Contains-from_map (λ (scheduled : Scheduled). scheduled.key) (filter (is_due entries) (schedule_of entries).queries) batch.query is in
         let member = Contains-from_filter (is_due entries) (schedule_of entries).queries one.source one.member in
-        let runnable = one_of IsRunnable (schedule_of entries).queries one.source sound.runnable member.0 in
+        let runnable = All-contains IsRunnable (schedule_of entries).queries one.source sound.runnable member.0 in
         ap (λ key. is_accepted key.text) (sym one.is) ∙ runnable.accepted
 
 -- what stands before a batch, and behind it

@@ -21,11 +21,7 @@ fn one_row(alloc: Global) -> Result<RowList, NoMemory> {
 
 /// The batch of this number, which answers a text with one row.
 fn committed(alloc: Global, number: u64, text: &str) -> Result<Entry, NoMemory> {
-    let query = QueryKey::read(
-        Str::of(alloc, "u")?,
-        Str::of(alloc, text)?,
-        Mode::Evented,
-    );
+    let query = QueryKey::read(Str::of(alloc, "u")?, Str::of(alloc, text)?, Mode::Evented);
     let batch = Batch {
         number,
         query,

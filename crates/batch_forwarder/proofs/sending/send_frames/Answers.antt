@@ -42,8 +42,8 @@ returns-then-not-branch-clause-whole g c = λ told tells over legal few named.
     let before = g.L.Link.faults c.loop.link in
     let now = g.L.Link.faults c.send_next.new.link in
     let sends =
-        subst (λ (entries : List Entry). SendsNext (next_frame host c.loop.forwarder entries) (Rose before now) (sent c.loop.link) (sent c.send_next.new.link) false) (i.kept told)
-        (subst (λ (b : Bool). SendsNext (next_frame host c.loop.forwarder (kept c.loop.keeper)) (Rose before now) (sent c.loop.link) (sent c.send_next.new.link) b) c.if-not-branch.true (c.in_ok-send_next.ensures.sent told tells)) in
+    subst (λ (entries : List Entry). SendsNext (next_frame host c.loop.forwarder entries) (Rose before now) (sent c.loop.link) (sent c.send_next.new.link) false) (i.kept told)
+    (subst (λ (b : Bool). SendsNext (next_frame host c.loop.forwarder (kept c.loop.keeper)) (Rose before now) (sent c.loop.link) (sent c.send_next.new.link) b) c.if-not-branch.true (c.in_ok-send_next.ensures.sent told tells)) in
     or_rose_back (sent c.send_next.new.link ≡ sent c.args.link.now ++ frames_due host (kept c.args.keeper.now)) first before now i.link
     (sent_all host (kept c.args.keeper.now) (sent c.args.link.now) (sent c.loop.link) c.loop.forwarder c.loop.counter (i.sent told tells over) (Rose before now) (sent c.send_next.new.link) sends
     (λ place batch at. commits_are_sent (kept c.args.keeper.now) place batch host legal few named at))
