@@ -9,12 +9,12 @@ use Rattle.sql_meaning.specs.Cut.{cut_by, passed_over}
 use Rattle.sql_meaning.specs.Expressions.{alone, holds, value_at, value_of}
 use Rattle.sql_meaning.specs.Firsts.{firsts_by}
 use Rattle.sql_meaning.specs.Order.{ordered_by}
-use Rattle.sql_meaning.specs.Steps.{behind_from, cut, distinct, items_in, keys_in, kept_groups, ordered, result_row}
+use Rattle.sql_meaning.specs.Steps.{behind_from, cut, distinct, items_in, key_values, keys_in, kept_groups, ordered, result_row}
 use Rattle.sql_meaning.specs.declared.joined.Joined.{Joined}
 use Rattle.sql_meaning.specs.Lent.{values_in}
 use Rattle.sql_meaning.proofs.Mapped.{filter_mapped, firsts_mapped, map_twice, ordered_mapped}
 use Rattle.sql_meaning.proofs.OrderLaws.{is_less, is_less-order}
-use Rattle.sql_groups.specs.Different.{different}
+use Rattle.sql_groups.specs.Different.{different, different_by}
 use Rattle.sql_groups.specs.Kept.{is_kept}
 use Rattle.sql_groups.specs.Leading.{leading}
 use Rattle.sql_groups.proofs.Climbing.{taken-sorted}
@@ -150,4 +150,14 @@ module _ (query : QueryTree) where
       (sym (firsts_mapped values_in (λ row. value_at row place ∷ []) (filter (is_kept query.filter) rows))
       ∙ ap (firsts_by (λ row. value_at row place ∷ [])) (sym (filter_mapped values_in (passes query) rows))
       ∙ (λ i. firsts_by (λ row. sym (only row) i) (filter (passes query) (map values_in rows))))
+      ∙ different-means ungrouped is (map values_in rows)
+
+  pub different-by-lent : query.is_grouped ≡ false → query.is_distinct ≡ true → (rows : List Joined)
+      → behind_from query (map values_in (different_by (map (λ (item : ResultTree). item.expr) query.items) query.filter rows)) ≡ behind_from query (map values_in rows)
+  different-by-lent ungrouped is rows =
+      let exprs = map (λ (item : ResultTree). item.expr) query.items in
+      ap (behind_from query)
+      (sym (firsts_mapped values_in (key_values exprs) (filter (is_kept query.filter) rows))
+      ∙ ap (firsts_by (key_values exprs)) (sym (filter_mapped values_in (passes query) rows))
+      ∙ (λ i. firsts_by (λ row. map_twice (value_of (alone row)) (λ (item : ResultTree). item.expr) query.items i) (filter (passes query) (map values_in rows))))
       ∙ different-means ungrouped is (map values_in rows)

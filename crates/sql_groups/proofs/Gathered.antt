@@ -19,15 +19,13 @@ use Rattle.sql_meaning.proofs.FirstsLaws.{has_key}
 use Rattle.sql_meaning.proofs.GroupsLaws.{added-one, groups-are, grown-one, lists_of, place_in}
 use Rattle.sql_meaning.proofs.HashedLaws.{any_made, insert_key-made}
 use Rattle.sql_meaning.proofs.Mapped.{filter_mapped, groups_mapped, map_twice}
-use Rattle.sql_groups.specs.declared.grouped.FoundGroups.{FoundGroups}
 use Rattle.sql_groups.specs.declared.items.GroupItem.{GroupItem}
 use Rattle.sql_groups.specs.declared.so_far.SoFar.{SoFar}
-use Rattle.sql_groups.specs.Different.{equal, held, held_alone}
-use Rattle.sql_groups.specs.Folding.{item_over, lists}
-use Rattle.sql_groups.specs.Grouping.{Adds, AreKnown, Folds, IsFolded, Puts, kept_values, place_of, values_of}
+use Rattle.sql_groups.specs.Folding.{item_over}
+use Rattle.sql_groups.specs.Grouping.{AreKnown, IsFolded, Puts, kept_values, place_of}
 use Rattle.sql_groups.specs.Kept.{is_kept}
 use Rattle.sql_groups.specs.Totals.{AreItems, IsOneGroup}
-use Rattle.sql_groups.proofs.Adding.{alike, kept-one}
+use Rattle.sql_groups.proofs.Adding.{kept-one}
 use Rattle.sql_groups.proofs.Zipped.{zip-long, zip-nth, zip-push, zip-set}
 
 -- what a list of the same length replaced
@@ -38,10 +36,8 @@ replaced old new long =
     ∙ ap (take (length old)) (append-nil new)
     ∙ take_all (length old) new (omega (arith, within))
 
-module _ (place : ℕ) (condition : List ExprTree) (items : List GroupItem) where
-  abbrev key : Joined → List Value
-  key = held_alone place
-
+-- a row stands among the others as what `make` gives of it, and such are equal where the keys are
+module _ {F : Type 0} (same : F → F → Bool) (key : Joined → List Value) (make : Joined → F) (is : (x y : Joined) → same (make x) (make y) ≡ same_values (key x) (key y)) (condition : List ExprTree) (items : List GroupItem) where
   abbrev kept : List Joined → List Joined
   kept rows = filter (is_kept condition) rows
 
@@ -51,18 +47,18 @@ module _ (place : ℕ) (condition : List ExprTree) (items : List GroupItem) wher
   abbrev gathered : List Joined → List (List (List Value))
   gathered some = map (map values_in) (groups_by key some)
 
-  any-known : (rows : List Joined) (row : Joined) (values : List Value) → values ≡ map (held place) (firsts rows) → list_any (equal (held place row)) values ≡ list_any (has_key key (key row)) (firsts rows)
-  any-known rows row values are = ap (list_any (equal (held place row))) are ∙ any_made equal key (held place) (alike place) row (firsts rows)
+  any-known : (rows : List Joined) (row : Joined) (values : List F) → values ≡ map make (firsts rows) → list_any (same (make row)) values ≡ list_any (has_key key (key row)) (firsts rows)
+  any-known rows row values are = ap (list_any (same (make row))) are ∙ any_made same key make is row (firsts rows)
 
-  places-alike : (row : Joined) (some : List Joined) → position_or_len (equal (held place row)) (map (held place) some) ≡ position_or_len (same_values (key row)) (map key some)
+  places-alike : (row : Joined) (some : List Joined) → position_or_len (same (make row)) (map make some) ≡ position_or_len (same_values (key row)) (map key some)
   places-alike row [] = refl
-  places-alike row (first ∷ rest) = λ i. cond (not (alike place row first i)) (1 + places-alike row rest i) 0
+  places-alike row (first ∷ rest) = λ i. cond (not (is row first i)) (1 + places-alike row rest i) 0
 
-  place-known : (rows : List Joined) (row : Joined) (values : List Value) → values ≡ map (held place) (firsts rows) → (known : Bool) → list_any (has_key key (key row)) (firsts rows) ≡ known
-      → place_of (held place row) values ≡ (if known then Some (place_in key values_in row (firsts rows)) else None)
+  place-known : (rows : List Joined) (row : Joined) (values : List F) → values ≡ map make (firsts rows) → (known : Bool) → list_any (has_key key (key row)) (firsts rows) ≡ known
+      → place_of same (make row) values ≡ (if known then Some (place_in key values_in row (firsts rows)) else None)
   place-known rows row values are known at =
       ap₂ (λ (b : Bool) (n : ℕ). if b then Some n else None) (any-known rows row values are ∙ at)
-      (ap (position_or_len (equal (held place row))) are ∙ places-alike row (firsts rows))
+      (ap (position_or_len (same (make row))) are ∙ places-alike row (firsts rows))
 
   -- one more row in the groups
   put-more : (rows : List Joined) (row : Joined) (old new : List (List SoFar)) (known : Bool) → list_any (has_key key (key row)) (firsts rows) ≡ known
@@ -86,23 +82,26 @@ module _ (place : ℕ) (condition : List ExprTree) (items : List GroupItem) wher
       (subst (λ (gs : List (List SoFar)). IsFolded items (lists_of key values_in some ++ (values_in row ∷ []) ∷ []) gs) (sym puts.1)
       (zip-push (AreKnown items) (lists_of key values_in some) old (values_in row ∷ []) puts.0 folded puts.2))
 
+  -- what was found of these rows
+  abbrev pub HasGathered : List Joined → List F → List (List SoFar) → Type 0
+  HasGathered rows values groups = (values ≡ map make (firsts rows)) × IsFolded items (gathered (kept rows)) groups
+
   -- one more row for which the condition holds
-  pub folds-more : (rows : List Joined) (row : Joined) (value : Value) (old new : FoundGroups) → is_kept condition row ≡ true → value ≡ held place row → Adds items old row value new
-      → Folds place condition items rows old → Folds place condition items (rows ++ row ∷ []) new
-  folds-more rows row value old new keeps is adds was =
+  pub folds-more : (rows : List Joined) (row : Joined) (value : F) (olds news : List F) (old new : List (List SoFar)) → is_kept condition row ≡ true → value ≡ make row
+      → news ≡ insert_key same olds value → Puts items old (place_of same value olds) (values_in row) new → HasGathered rows olds old → HasGathered (rows ++ row ∷ []) news new
+  folds-more rows row value olds news old new keeps made inserts puts was =
       let known = list_any (has_key key (key row)) (firsts rows) in
-      let puts = subst (λ (o : Option ℕ). Puts items old.groups.items o (values_in row) new.groups.items)
-      (ap (λ (v : Value). place_of v (values_of old)) is ∙ place-known rows row (values_of old) was.0 known refl) adds.1 in
-      subst (λ (some : List Joined). (values_of new ≡ map (held place) (firsts_by key some)) × IsFolded items (gathered some) new.groups.items) (sym (kept-one place (is_kept condition) rows row true keeps)) (
-        adds.0 ∙ ap (insert_key equal (values_of old)) is ∙ ap (λ vs. insert_key equal vs (held place row)) was.0 ∙ insert_key-made equal key (held place) (alike place) (kept rows) row,
-        put-more rows row old.groups.items new.groups.items known refl puts was.1,
+      let stands = subst (λ (o : Option ℕ). Puts items old o (values_in row) new) (ap (λ (v : F). place_of same v olds) made ∙ place-known rows row olds was.0 known refl) puts in
+      subst (λ (some : List Joined). (news ≡ map make (firsts_by key some)) × IsFolded items (gathered some) new) (sym (kept-one (is_kept condition) rows row true keeps)) (
+        inserts ∙ ap (insert_key same olds) made ∙ ap (λ (vs : List F). insert_key same vs (make row)) was.0 ∙ insert_key-made same key make is (kept rows) row,
+        put-more rows row old new known refl stands was.1,
       )
 
   -- one for which it doesn't
-  pub folds-still : (rows : List Joined) (row : Joined) (found : FoundGroups) → is_kept condition row ≡ false → Folds place condition items rows found → Folds place condition items (rows ++ row ∷ []) found
-  folds-still rows row found left was =
-      subst (λ (some : List Joined). (values_of found ≡ map (held place) (firsts_by key some)) × IsFolded items (gathered some) found.groups.items)
-      (sym (kept-one place (is_kept condition) rows row false left ∙ append-nil (kept rows))) was
+  pub folds-still : (rows : List Joined) (row : Joined) (values : List F) (groups : List (List SoFar)) → is_kept condition row ≡ false → HasGathered rows values groups → HasGathered (rows ++ row ∷ []) values groups
+  folds-still rows row values groups left was =
+      subst (λ (some : List Joined). (values ≡ map make (firsts_by key some)) × IsFolded items (gathered some) groups)
+      (sym (kept-one (is_kept condition) rows row false left ∙ append-nil (kept rows))) was
 
 -- one more row for which a condition holds, or doesn't
 pub values-more : (condition : List ExprTree) (rows : List (List Value)) (row : List Value) (keeps : Bool) → holds (alone row) condition ≡ keeps
@@ -110,36 +109,9 @@ pub values-more : (condition : List ExprTree) (rows : List (List Value)) (row : 
 values-more condition rows row keeps is =
     filter-append (λ row. holds (alone row) condition) rows (row ∷ []) ∙ ap (λ (b : Bool). kept_values condition rows ++ cond b (row ∷ []) []) is
 
-every-environment : (envs : List Environment) → filter (λ env. holds env []) envs ≡ envs
+pub every-environment : (envs : List Environment) → filter (λ env. holds env []) envs ≡ envs
 every-environment [] = refl
 every-environment (env ∷ envs) = ap (λ (rest : List Environment). env ∷ rest) (every-environment envs)
-
-by-column : (place : ℕ) (keys : List ExprTree) (rows : List (List Value)) → ((row : List Value) → map (value_of (alone row)) keys ≡ value_at row place ∷ []) → groups keys rows ≡ groups_by (λ row. value_at row place ∷ []) rows
-by-column place [] rows is = absurd (empty (is []))
-  where
-    empty : {v : Value} → [] ≡ v ∷ [] → ⊥
-    empty e = cc
-by-column place (key ∷ keys) rows is = λ i. groups_by (λ row. is row i) rows
-
-module _ (query : QueryTree) (place : ℕ) (items : List GroupItem) where
-  -- the groups by a column are what the meaning makes of the rows
-  pub gathered-mean : query.is_grouped ≡ true → query.having ≡ [] → ((row : List Value) → map (value_of (alone row)) query.keys ≡ value_at row place ∷ [])
-      → ((rows : List (List Value)) → result_row query (together rows) ≡ map (λ item. item_over item rows) items) → (rows : List Joined)
-      → finished query (map (λ rows. map (λ item. item_over item rows) items) (lists place query.filter rows)) ≡ behind_from query (map values_in rows)
-  gathered-mean grouped none by is rows =
-      let some = filtered query (map values_in rows) in
-      let made : groups query.keys some ≡ lists place query.filter rows =
-      by-column place query.keys some by
-      ∙ ap (groups_by (λ row. value_at row place ∷ [])) (filter_mapped values_in (λ row. holds (alone row) query.filter) rows)
-      ∙ groups_mapped values_in (λ row. value_at row place ∷ []) (filter (is_kept query.filter) rows) in
-      ap (finished query)
-      ((λ i. map (λ rows. sym (is rows) i) (lists place query.filter rows))
-      ∙ sym (map_twice (result_row query) together (lists place query.filter rows))
-      ∙ ap (map (result_row query))
-      (ap (map together) (sym made)
-      ∙ sym (every-environment (map together (groups query.keys some)))
-      ∙ ap (λ (having : List ExprTree). filter (λ env. holds env having) (map together (groups query.keys some))) (sym none)
-      ∙ ap (λ (b : Bool). if b then kept_groups query some else map alone some) (sym grouped)))
 
 module _ (query : QueryTree) (items : List GroupItem) where
   -- without GROUP BY all rows are the one group of the meaning

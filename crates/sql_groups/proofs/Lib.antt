@@ -2,10 +2,13 @@ mod Adding
 mod Climbing
 mod Cutting
 mod Gathered
+mod Keeping
 mod Leaders
+mod Lonely
 mod Passing
 mod Placing
 mod Ranked
 mod Standing
+mod Stored
 mod Taken
 mod Zipped

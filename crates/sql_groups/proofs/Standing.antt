@@ -8,7 +8,11 @@ use Rattle.osq_value.specs.declared.value.Value.{Value}
 use Rattle.osq_value.specs.declared.value.Value.TheVariants.{Null, Int, Text}
 use Rattle.sql_tree.specs.declared.functions.Fold.TheVariants.{Count, Sum}
 use Rattle.sql_scalar.specs.Arithmetic.{whole}
-use Rattle.sql_meaning.specs.Expressions.{value_at}
+use Rattle.sql_query.specs.declared.tree.Expr.{Expr}
+use Rattle.sql_query.specs.View.{expr_of}
+use Rattle.sql_meaning.specs.declared.joined.Joined.{Joined}
+use Rattle.sql_meaning.specs.Lent.{values_in}
+use Rattle.sql_meaning.specs.Expressions.{alone, value_at, value_of}
 use Rattle.sql_meaning.specs.Folds.{sum_over, total}
 use Rattle.sql_meaning.specs.Known.{is_known, known_of}
 use Rattle.sql_meaning.specs.Looks.{extreme_of}
@@ -16,7 +20,7 @@ use Rattle.sql_meaning.proofs.FoldsLaws.{reduce-push, total-more}
 use Rattle.sql_groups.specs.declared.items.GroupItem.{GroupItem}
 use Rattle.sql_groups.specs.declared.items.GroupItem.TheVariants as item
 use Rattle.sql_groups.specs.declared.so_far.SoFar.TheVariants as so_far
-use Rattle.sql_groups.specs.Folding.{HasFolded, best_with, count_with, counted, first, greatest, item_over, known, knowns, least, number_in, sum_of, sum_with, sum_worth, summed}
+use Rattle.sql_groups.specs.Folding.{HasFolded, best_with, count_with, counted, first, greatest, item_over, known, knowns, lone, least, number_in, sum_of, sum_with, sum_worth, summed}
 
 pub is-copied : (value : Option (Bor Value)) → is_some value ≡ is_some (option_copied value)
 is-copied None = refl
@@ -61,6 +65,13 @@ best-more is_greatest values (Some value) = reduce-push is_greatest values value
 
 pub first-more : (item : GroupItem) (rows : List (List Value)) (row : List Value) (value : Bor Value) → HasFolded rows item (so_far.First value) → HasFolded (rows ++ row ∷ []) item (so_far.First value)
 first-more item rows row value (first before others place v is) = first before (others ++ row ∷ []) place v is
+
+pub lone-more : (item : GroupItem) (rows : List (List Value)) (row : List Value) (joined : Joined) (e : Bor Expr) → HasFolded rows item (so_far.Alone joined e) → HasFolded (rows ++ row ∷ []) item (so_far.Alone joined e)
+lone-more item rows row joined e (lone before others j f is) = lone before (others ++ row ∷ []) j f is
+
+-- what an expression without an aggregate is worth over the first row
+pub lone-worth : (item : GroupItem) (rows : List (List Value)) (joined : Joined) (e : Bor Expr) → HasFolded rows item (so_far.Alone joined e) → value_of (alone (values_in joined)) (expr_of e.now) ≡ item_over item rows
+lone-worth item rows joined e (lone before others j f is) = ap (λ (row : List Value). value_of (alone row) (expr_of e.now)) is
 
 pub rows-more : (item : GroupItem) (rows : List (List Value)) (row : List Value) (count : ℕ) → HasFolded rows item (so_far.Rows count) → HasFolded (rows ++ row ∷ []) item (so_far.Rows (count + 1))
 rows-more item rows row count (counted rs n is) = counted (rows ++ row ∷ []) (count + 1) (ap (λ n. n + 1) is ∙ sym (length-append rows (row ∷ [])))

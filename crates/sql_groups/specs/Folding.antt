@@ -8,7 +8,9 @@ use Rattle.sql_tree.specs.declared.functions.Fold.TheVariants.{Count, Sum, Min, 
 use Rattle.sql_scalar.specs.Arithmetic.{whole, within}
 use Rattle.sql_query.specs.Exprs.{ExprTree}
 use Rattle.sql_meaning.specs.declared.joined.Joined.{Joined}
-use Rattle.sql_meaning.specs.Expressions.{value_at}
+use Rattle.sql_query.specs.declared.tree.Expr.{Expr}
+use Rattle.sql_query.specs.View.{expr_of}
+use Rattle.sql_meaning.specs.Expressions.{alone, value_at, value_of}
 use Rattle.sql_meaning.specs.Folds.{folded_over, total}
 use Rattle.sql_meaning.specs.Groups.{groups_by}
 use Rattle.sql_meaning.specs.Known.{is_known}
@@ -25,6 +27,7 @@ use Rattle.sql_groups.specs.Kept.{is_kept}
 -- what a column of the result is of the rows of a group
 abbrev pub item_over : GroupItem → List (List Value) → Value
 item_over (item.First place) rows = value_at (first_row rows) place
+item_over (item.Alone e) rows = value_of (alone (first_row rows)) (expr_of e.now)
 item_over item.Rows rows = Int (pos (length rows))
 item_over (item.Folded fold place) rows = folded_over fold false (map (λ row. value_at row place) rows)
 
@@ -66,12 +69,17 @@ count_with count false = count
 -- what is known of a column of the result after these rows
 pub data HasFolded : List (List Value) → GroupItem → SoFar → Type 0 where
   first : (row : List Value) (rows : List (List Value)) (place : ℕ) (value : Bor Value) → value.now ≡ value_at row place → HasFolded (row ∷ rows) (item.First place) (so_far.First value)
+  lone : (row : List Value) (rows : List (List Value)) (joined : Joined) (e : Bor Expr) → values_in joined ≡ row → HasFolded (row ∷ rows) (item.Alone e) (so_far.Alone joined e)
   counted : (rows : List (List Value)) (count : ℕ) → count ≡ length rows → HasFolded rows item.Rows (so_far.Rows count)
   known : (rows : List (List Value)) (place count : ℕ) → count ≡ length (knowns place rows) → HasFolded rows (item.Folded Count place) (so_far.Known place count)
   summed : (rows : List (List Value)) (place : ℕ) (sum : Option ℤ) → sum ≡ sum_of (filter_map whole (knowns place rows)) → HasFolded rows (item.Folded Sum place) (so_far.Sum place sum)
   least : (rows : List (List Value)) (place : ℕ) (best : Option (Bor Value)) → option_copied best ≡ extreme_of false (knowns place rows) → HasFolded rows (item.Folded Min place) (so_far.Nearest place false best)
   greatest : (rows : List (List Value)) (place : ℕ) (best : Option (Bor Value)) → option_copied best ≡ extreme_of true (knowns place rows) → HasFolded rows (item.Folded Max place) (so_far.Nearest place true best)
 
--- the rows for which the condition holds, grouped by the value at a place
+-- the rows for which the condition holds, grouped by a key
+abbrev pub lists_by : (Joined → List Value) → List ExprTree → List Joined → List (List (List Value))
+lists_by key condition rows = map (map values_in) (groups_by key (filter (is_kept condition) rows))
+
+-- the same by the value at a place
 abbrev pub lists : ℕ → List ExprTree → List Joined → List (List (List Value))
-lists place condition rows = map (map values_in) (groups_by (held_alone place) (filter (is_kept condition) rows))
+lists place condition rows = lists_by (held_alone place) condition rows

@@ -1,7 +1,11 @@
+pub mod Alone
 pub mod Different
+pub mod FirstKeys
 pub mod Folding
 pub mod Grouping
+pub mod Having
 pub mod Kept
+pub mod Keys
 pub mod Leading
 pub mod Sorted
 pub mod Totals

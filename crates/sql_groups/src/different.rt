@@ -1,14 +1,17 @@
-//! The first of rows with equal values of a column.
+//! The first of rows with equal values of a column, or of some expressions.
 ghost use Rattle.std.specs.Prelude.{◌≡◌, ◌++◌, ◌∷◌, [], IfOk, IfSome, List, OnOk, map, true};
 ghost use Rattle.sql_query.specs.View.{expr_of};
 ghost use Rattle.sql_meaning.specs.declared.joined.Joined.{Joined as JoinedOf};
-ghost use Rattle.sql_groups.specs.Different.{Adds, HasFound, different};
+ghost use Rattle.sql_groups.specs.Different.{Adds, AddsKey, HasFound, HasFoundKeys, different, different_by};
+ghost use Rattle.sql_groups.specs.Keys.{key_worths};
 
 use crate::kept::is_kept;
+use crate::keys::{RowKey, key_in};
 use indexmap::IndexSet;
 use osq_value::{NoMemory, Sequence, Value};
 use sql_meaning::{Joined, value_in};
 use sql_query::query::Condition;
+use sql_query::tree::Expr;
 use std::alloc::Global;
 
 /// Rows whose values of a column differ, and these values.
@@ -67,6 +70,61 @@ fn add<'a>(found: &mut FoundRows<'a>, row: Joined<'a>, value: &'a Value) -> Resu
     ensures { OnOk result (Adds found.old row.entry value.entry.now found.new) }
 {
     if found.values.insert(value)? {
+        found.rows.push(row)?;
+    }
+    Ok(())
+}
+
+/// Rows whose values of some expressions differ, and these values.
+#[derive(Drop)]
+struct FoundKeys<'a> {
+    keys: IndexSet<RowKey<'a>>,
+    rows: Sequence<Joined<'a>>,
+}
+
+/// The rows for which the condition holds and whose values of the expressions no earlier one of them has. Null is equal to Null, and no
+/// number to a text. Each row's values are hashed once.
+pub(crate) fn different_by<'a>(
+    alloc: Global,
+    exprs: &[&'a Expr],
+    condition: &Condition,
+    rows: &[Joined<'a>],
+) -> Result<Sequence<Joined<'a>>, NoMemory>
+    ensures { IfOk result (λ made. made ≡ different_by (map (λ expr. expr_of expr.now) exprs.now) (map expr_of condition.now.parts) rows.now) }
+{
+    let mut found = FoundKeys {
+        keys: IndexSet::new(alloc),
+        rows: Sequence::new(alloc),
+    };
+    for row in rows {
+        look_by(alloc, exprs, condition, &mut found, *row)?;
+    }
+    Ok(found.rows)
+}
+
+/// Adds a row for which the condition holds, where no earlier one has its values.
+fn look_by<'a>(
+    alloc: Global,
+    exprs: &[&'a Expr],
+    condition: &Condition,
+    found: &mut FoundKeys<'a>,
+    row: Joined<'a>,
+) -> Result<(), NoMemory>
+    ensures { OnOk result ((rows : List JoinedOf) → HasFoundKeys (map (λ expr. expr_of expr.now) exprs.now) (map expr_of condition.now.parts) rows found.old → HasFoundKeys (map (λ expr. expr_of expr.now) exprs.now) (map expr_of condition.now.parts) (rows ++ row.entry ∷ []) found.new) }
+{
+    if is_kept(alloc, condition, row)? {
+        let key = key_in(alloc, row, exprs)?;
+        add_key(found, row, key)
+    } else {
+        Ok(())
+    }
+}
+
+/// Adds a row, where no earlier one has its values.
+fn add_key<'a>(found: &mut FoundKeys<'a>, row: Joined<'a>, key: RowKey<'a>) -> Result<(), NoMemory>
+    ensures { OnOk result (AddsKey found.old row.entry (key_worths key.entry) found.new) }
+{
+    if found.keys.insert(key)? {
         found.rows.push(row)?;
     }
     Ok(())

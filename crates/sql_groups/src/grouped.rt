@@ -1,22 +1,25 @@
-//! Groups by a column, or one group of all rows, folded as the rows come.
-ghost use Rattle.std.specs.Prelude.{◌≡◌, ◌++◌, ◌∷◌, [], IfOk, IfSome, List, length, map, true};
+//! Groups by a column or by some expressions, or one group of all rows, folded as the rows come.
+ghost use Rattle.std.specs.Prelude.{◌≡◌, ◌++◌, ◌∷◌, [], IfOk, IfSome, List, None, Some, if◌then◌else◌, length, map, true};
 ghost use Rattle.osq_value.specs.declared.value.Value.{Value as ValueOf};
 ghost use Rattle.sql_query.specs.View.{expr_of};
 ghost use Rattle.sql_meaning.specs.declared.joined.Joined.{Joined as JoinedOf};
 ghost use Rattle.sql_meaning.specs.Lent.{values_in};
 ghost use Rattle.sql_meaning.specs.Worths.{worths};
 ghost use Rattle.sql_groups.specs.declared.items.GroupItem.{GroupItem as GroupItemOf};
-ghost use Rattle.sql_groups.specs.Folding.{item_over, lists};
-ghost use Rattle.sql_groups.specs.Grouping.{Adds, AreKnown, Begins, Folds, Grows, IsFolded, kept_values};
+ghost use Rattle.sql_groups.specs.Folding.{item_over, lists, lists_by};
+ghost use Rattle.sql_groups.specs.Grouping.{Adds, AddsKey, AreKnown, Begins, Folds, FoldsKeys, Grows, IsFolded, Puts, kept_values};
+ghost use Rattle.sql_groups.specs.Keys.{key_worths, row_values};
 
 use crate::items::GroupItem;
 use crate::kept::is_kept;
+use crate::keys::{RowKey, key_in};
 use crate::so_far::SoFar;
 use indexmap::IndexSet;
 use osq_value::{NoMemory, Sequence, Value};
 use sql_meaning::worth::{ResultRow, ResultRowList};
 use sql_meaning::{Joined, value_in};
 use sql_query::query::Condition;
+use sql_query::tree::Expr;
 use std::alloc::Global;
 
 /// The columns of the result of one group, so far.
@@ -31,13 +34,22 @@ pub(crate) struct FoundGroups<'a> {
     pub groups: Vec<GroupSoFar<'a>>,
 }
 
+/// Groups by different values of some expressions, so far.
+#[derive(Drop)]
+pub(crate) struct KeyedGroups<'a> {
+    /// The values, in the order of the first rows that have them.
+    pub keys: IndexSet<RowKey<'a>>,
+    /// The group of each, at its place.
+    pub groups: Vec<GroupSoFar<'a>>,
+}
+
 /// The groups of the rows for which the condition holds, by their values at a place, in the order of their first rows. Null is equal to
 /// Null, and no number to a text. Each value is hashed once, where it stands, and each row is looked at once. None where a row doesn't
 /// have the place, or a number leaves its bounds.
 pub(crate) fn groups_by_column<'a>(
     alloc: Global,
     place: u32,
-    items: &[GroupItem],
+    items: &[GroupItem<'a>],
     condition: &Condition,
     rows: &[Joined<'a>],
 ) -> Result<Option<Vec<GroupSoFar<'a>>>, NoMemory>
@@ -111,7 +123,7 @@ pub(crate) fn no_rows<'a>(
 fn look_at<'a>(
     alloc: Global,
     place: u32,
-    items: &[GroupItem],
+    items: &[GroupItem<'a>],
     condition: &Condition,
     found: &mut FoundGroups<'a>,
     row: Joined<'a>,
@@ -130,7 +142,7 @@ fn look_at<'a>(
 /// Adds a row to the group of its value, which begins with it where no earlier row has that value.
 fn add<'a>(
     alloc: Global,
-    items: &[GroupItem],
+    items: &[GroupItem<'a>],
     found: &mut FoundGroups<'a>,
     row: Joined<'a>,
     value: &'a Value,
@@ -138,10 +150,79 @@ fn add<'a>(
     ensures { IfOk result (λ is_told. is_told ≡ true → Adds items.now found.old row.entry value.entry.now found.new) }
 {
     let (at, is_new) = found.values.insert_full(value)?;
+    put(alloc, items, &mut found.groups, row, at, is_new)
+}
+
+/// The groups of the rows for which the condition holds, by their values of some expressions, in the order of their first rows. Null is
+/// equal to Null, and no number to a text. Each row's values are hashed once. None where a number leaves its bounds.
+pub(crate) fn groups_by_keys<'a>(
+    alloc: Global,
+    exprs: &[&'a Expr],
+    items: &[GroupItem<'a>],
+    condition: &Condition,
+    rows: &[Joined<'a>],
+) -> Result<Option<Vec<GroupSoFar<'a>>>, NoMemory>
+    ensures { IfOk result (λ found. IfSome found (λ groups. IsFolded items.now (lists_by (row_values (map (λ expr. expr_of expr.now) exprs.now)) (map expr_of condition.now.parts) rows.now) groups.items)) }
+{
+    let mut found = KeyedGroups {
+        keys: IndexSet::new(alloc),
+        groups: Vec::new(alloc),
+    };
+    for row in rows {
+        if !look_by(alloc, exprs, items, condition, &mut found, *row)? {
+            return Ok(None);
+        }
+    }
+    Ok(Some(found.groups))
+}
+
+/// Adds a row for which the condition holds to its group. The answer is false where a number leaves its bounds.
+fn look_by<'a>(
+    alloc: Global,
+    exprs: &[&'a Expr],
+    items: &[GroupItem<'a>],
+    condition: &Condition,
+    found: &mut KeyedGroups<'a>,
+    row: Joined<'a>,
+) -> Result<bool, NoMemory>
+    ensures { IfOk result (λ is_told. is_told ≡ true → (rows : List JoinedOf) → FoldsKeys (map (λ expr. expr_of expr.now) exprs.now) (map expr_of condition.now.parts) items.now rows found.old → FoldsKeys (map (λ expr. expr_of expr.now) exprs.now) (map expr_of condition.now.parts) items.now (rows ++ row.entry ∷ []) found.new) }
+{
+    if !is_kept(alloc, condition, row)? {
+        return Ok(true);
+    }
+    let key = key_in(alloc, row, exprs)?;
+    add_by(alloc, items, found, row, key)
+}
+
+/// Adds a row to the group of its values, which begins with it where no earlier row has them.
+fn add_by<'a>(
+    alloc: Global,
+    items: &[GroupItem<'a>],
+    found: &mut KeyedGroups<'a>,
+    row: Joined<'a>,
+    key: RowKey<'a>,
+) -> Result<bool, NoMemory>
+    ensures { IfOk result (λ is_told. is_told ≡ true → AddsKey items.now found.old row.entry (key_worths key.entry) found.new) }
+{
+    let (at, is_new) = found.keys.insert_full(key)?;
+    put(alloc, items, &mut found.groups, row, at, is_new)
+}
+
+/// Adds a row to the group at a place, or a new one that begins with it.
+fn put<'a>(
+    alloc: Global,
+    items: &[GroupItem<'a>],
+    groups: &mut Vec<GroupSoFar<'a>>,
+    row: Joined<'a>,
+    at: usize,
+    is_new: bool,
+) -> Result<bool, NoMemory>
+    ensures { IfOk result (λ is_told. is_told ≡ true → Puts items.now groups.old.items (if is_new then None else Some at) (values_in row.entry) groups.new.items) }
+{
     if is_new {
-        push_begun(alloc, items, &mut found.groups, row)
-    } else if at < found.groups.len() {
-        Ok(add_row(found.groups[at].as_mut_slice(), row))
+        push_begun(alloc, items, groups, row)
+    } else if at < groups.len() {
+        Ok(add_row(groups[at].as_mut_slice(), row))
     } else {
         Ok(false)
     }
@@ -150,7 +231,7 @@ fn add<'a>(
 /// Adds a group that begins with a row.
 fn push_begun<'a>(
     alloc: Global,
-    items: &[GroupItem],
+    items: &[GroupItem<'a>],
     groups: &mut Vec<GroupSoFar<'a>>,
     row: Joined<'a>,
 ) -> Result<bool, NoMemory>
@@ -168,7 +249,7 @@ fn push_begun<'a>(
 /// The columns of the result after the first row of a group.
 fn begun<'a>(
     alloc: Global,
-    items: &[GroupItem],
+    items: &[GroupItem<'a>],
     row: Joined<'a>,
 ) -> Result<Option<GroupSoFar<'a>>, NoMemory>
     ensures { IfOk result (λ begun. IfSome begun (λ group. AreKnown items.now (values_in row.entry ∷ []) group)) }
@@ -214,12 +295,15 @@ pub(crate) fn result_rows<'a>(
     Ok(Some(rows))
 }
 
-fn result_row<'a>(alloc: Global, group: &[SoFar<'a>]) -> Result<Option<ResultRow<'a>>, NoMemory>
+pub(crate) fn result_row<'a>(
+    alloc: Global,
+    group: &[SoFar<'a>],
+) -> Result<Option<ResultRow<'a>>, NoMemory>
     ensures { IfOk result (λ made. IfSome made (λ row. (items : List GroupItemOf) (rows : List (List ValueOf)) → AreKnown items rows group.now → worths row ≡ map (λ item. item_over item rows) items)) }
 {
     let mut row = ResultRow::with_capacity(alloc, group.len())?;
     for so_far in group {
-        let Some(worth) = so_far.worth() else {
+        let Some(worth) = so_far.worth(alloc)? else {
             return Ok(None);
         };
         row.push(worth)?;

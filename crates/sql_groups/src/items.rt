@@ -8,6 +8,7 @@ ghost use Rattle.sql_meaning.specs.Folds.{counted_rows};
 ghost use Rattle.sql_meaning.specs.Steps.{result_row, together};
 ghost use Rattle.sql_groups.specs.Folding.{item_over};
 
+use crate::alone::is_alone;
 use crate::columns::place_of;
 use osq_value::{NoMemory, Sequence};
 use sql_query::query::Query;
@@ -17,9 +18,11 @@ use std::alloc::Global;
 
 /// What a column of the result is of the rows of a group.
 #[derive(Clone, Copy, Drop)]
-pub(crate) enum GroupItem {
+pub(crate) enum GroupItem<'a> {
     /// The value at a place of the first row.
     First { place: u32 },
+    /// What an expression without an aggregate is worth over the first row.
+    Alone { expr: &'a Expr },
     /// The number of rows.
     Rows,
     /// An aggregate of the values at a place, without DISTINCT.
@@ -27,11 +30,14 @@ pub(crate) enum GroupItem {
 }
 
 /// Columns of the result, in order.
-pub(crate) type GroupItemList = Sequence<GroupItem>;
+pub(crate) type GroupItemList<'a> = Sequence<GroupItem<'a>>;
 
 /// The columns of the result and behind them what a row is sorted by, where each can be folded row by row.
-pub(crate) fn group_items(alloc: Global, query: &Query) -> Result<Option<GroupItemList>, NoMemory>
-    ensures { IfOk result (λ found. IfSome found (λ items. (rows : List (List Value)) → result_row (query_of query.now) (together rows) ≡ map (λ item. item_over item rows) items)) }
+pub(crate) fn group_items<'a>(
+    alloc: Global,
+    query: &'a Query,
+) -> Result<Option<GroupItemList<'a>>, NoMemory>
+    ensures { IfOk result (λ found. IfSome found (λ items. (rows : List (List Value)) → result_row (query_of query.entry.now) (together rows) ≡ map (λ item. item_over item rows) items)) }
 {
     let mut items = GroupItemList::with_capacity(alloc, query.items.len())?;
     for item in query.items.as_slice() {
@@ -48,8 +54,8 @@ pub(crate) fn group_items(alloc: Global, query: &Query) -> Result<Option<GroupIt
 }
 
 /// Adds the column that an expression is, where it can be folded.
-fn push_item(items: &mut GroupItemList, expr: &Expr) -> Result<bool, NoMemory>
-    ensures { IfOk result (λ is_pushed. is_pushed ≡ true → (rows : List (List Value)) → map (λ item. item_over item rows) items.new ≡ map (λ item. item_over item rows) items.old ++ value_of (together rows) (expr_of expr.now) ∷ []) }
+pub(crate) fn push_item<'a>(items: &mut GroupItemList<'a>, expr: &'a Expr) -> Result<bool, NoMemory>
+    ensures { IfOk result (λ is_pushed. is_pushed ≡ true → (rows : List (List Value)) → map (λ item. item_over item rows) items.new ≡ map (λ item. item_over item rows) items.old ++ value_of (together rows) (expr_of expr.entry.now) ∷ []) }
 {
     match item_of(expr) {
         None => Ok(false),
@@ -61,17 +67,27 @@ fn push_item(items: &mut GroupItemList, expr: &Expr) -> Result<bool, NoMemory>
 }
 
 fn item_of(expr: &Expr) -> Option<GroupItem>
-    ensures { IfSome result (λ item. (rows : List (List Value)) → value_of (together rows) (expr_of expr.now) ≡ item_over item rows) }
+    ensures { IfSome result (λ item. (rows : List (List Value)) → value_of (together rows) (expr_of expr.entry.now) ≡ item_over item rows) }
 {
     match expr {
         Expr::Column { at, .. } => Some(GroupItem::First { place: *at }),
         Expr::Folded { aggregate } => folded_item(aggregate),
-        _ => None,
+        _ => alone_item(expr),
+    }
+}
+
+fn alone_item(expr: &Expr) -> Option<GroupItem>
+    ensures { IfSome result (λ item. (rows : List (List Value)) → value_of (together rows) (expr_of expr.entry.now) ≡ item_over item rows) }
+{
+    if is_alone(expr) {
+        Some(GroupItem::Alone { expr })
+    } else {
+        None
     }
 }
 
 fn folded_item(aggregate: &Aggregate) -> Option<GroupItem>
-    ensures { IfSome result (λ item. (rows : List (List Value)) → value_of (together rows) (aggregate_of aggregate.now) ≡ item_over item rows) }
+    ensures { IfSome result (λ item. (rows : List (List Value)) → value_of (together rows) (aggregate_of aggregate.entry.now) ≡ item_over item rows) }
 {
     match &aggregate.argument {
         None => rows_item(aggregate.fold),
@@ -91,7 +107,7 @@ fn folded_item(aggregate: &Aggregate) -> Option<GroupItem>
 }
 
 /// An aggregate without an argument, where it counts the rows.
-fn rows_item(fold: Fold) -> Option<GroupItem>
+fn rows_item<'a>(fold: Fold) -> Option<GroupItem<'a>>
     ensures { IfSome result (λ item. (rows : List (List Value)) → counted_rows fold (length rows) ≡ item_over item rows) }
 {
     match fold {

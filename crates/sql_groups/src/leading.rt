@@ -11,12 +11,14 @@ ghost use Rattle.sql_meaning.specs.Order.{directed, first_key, order_by};
 ghost use Rattle.sql_meaning.specs.Worths.{worths};
 ghost use Rattle.sql_groups.specs.Leading.{IsBehind, Leads, all_of, directions, firsts_of, kept_pairs, leading, members_of, sort_keys, sorted_row};
 
+use crate::first_key::{compare_firsts, first_in, first_of};
 use crate::kept::is_kept;
 use crate::order::{behind_first, compare_keys, compare_to, directed};
+use crate::worth_in::worth_in;
 use osq_value::NoMemory;
 use sql_meaning::groups::Keyed;
 use sql_meaning::worth::{ResultRow, Worth};
-use sql_meaning::{Joined, JoinedList, Over, evaluate_over};
+use sql_meaning::{Joined, JoinedList};
 use sql_query::query::{Condition, Order};
 use std::alloc::Global;
 use std::cmp::Ordering;
@@ -168,8 +170,11 @@ fn term_order(
 ) -> Result<Ordering, NoMemory>
     ensures { IfOk result (λ order. order ≡ directed term.now.is_descending (order_of (value_of (alone (values_in row.entry)) (expr_of term.now.expr)) (first_key (worths keys.now)))) }
 {
-    let worth = evaluate_over(alloc, Over::Lent { row }, &term.expr)?;
-    Ok(directed(term.is_descending, compare_to(worth.as_value(), keys)))
+    let order = match first_in(row, &term.expr) {
+        Some(first) => compare_firsts(first, first_of(keys)),
+        None => compare_to(worth_in(alloc, row, &term.expr)?.as_value(), keys),
+    };
+    Ok(directed(term.is_descending, order))
 }
 
 /// What a row is sorted by.
@@ -182,7 +187,7 @@ pub(crate) fn keys_of<'a>(
 {
     let mut keys = ResultRow::with_capacity(alloc, terms.len())?;
     for term in terms {
-        keys.push(evaluate_over(alloc, Over::Lent { row }, &term.expr)?)?;
+        keys.push(worth_in(alloc, row, &term.expr)?)?;
     }
     Ok(keys)
 }

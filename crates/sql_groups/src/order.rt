@@ -42,7 +42,7 @@ pub(crate) fn compare_to(value: &Value, keys: &[Worth]) -> Ordering
 {
     match keys {
         [] => compare(value, &Value::Null),
-        [key, ..] => compare(value, key.as_value()),
+        [key, ..] => order_of(value, key.as_value()),
     }
 }
 
@@ -64,5 +64,15 @@ pub(crate) fn directed(is_descending: bool, order: Ordering) -> Ordering
         order.reverse()
     } else {
         order
+    }
+}
+
+/// The order of two values: that of `compare`, which two numbers don't wait for.
+pub(crate) fn order_of(left: &Value, right: &Value) -> Ordering
+    ensures { result ≡ order_of left.now right.now }
+{
+    match (left, right) {
+        (Value::Int(first), Value::Int(second)) => first.cmp(second),
+        _ => compare(left, right),
     }
 }

@@ -1,6 +1,5 @@
 //! All rows of a result in the order of ORDER BY.
-ghost use Rattle.std.specs.Prelude.{◌≡◌, ◌++◌, ◌∷◌, [], IfOk, OnOk, false, filter, map};
-ghost use Rattle.osq_value.specs.Order.{order_of};
+ghost use Rattle.std.specs.Prelude.{◌≡◌, ◌++◌, ◌∷◌, [], IfOk, OnOk, drop, false, filter, map};
 ghost use Rattle.sql_query.specs.Resolved.{order_of as term_of, query_of, result_of};
 ghost use Rattle.sql_query.specs.View.{expr_of};
 ghost use Rattle.sql_meaning.specs.Cut.{cut_by};
@@ -9,26 +8,43 @@ ghost use Rattle.sql_meaning.specs.Lent.{values_in};
 ghost use Rattle.sql_meaning.specs.Order.{first_key, order_by, ordered_by};
 ghost use Rattle.sql_meaning.specs.Steps.{asked_by, behind_from};
 ghost use Rattle.sql_meaning.specs.Worths.{worths};
+ghost use Rattle.sql_groups.specs.FirstKeys.{first_value};
 ghost use Rattle.sql_groups.specs.Kept.{is_kept};
-ghost use Rattle.sql_groups.specs.Leading.{directions as directions_of};
-ghost use Rattle.sql_groups.specs.Sorted.{first_value, keyed_row, pair_of};
+ghost use Rattle.sql_groups.specs.Leading.{directions as directions_of, sort_keys};
+ghost use Rattle.sql_groups.specs.Sorted.{columns, key_values, keyed_row, pair_of};
 
+use crate::first_key::{FirstKey, compare_firsts, first_in, first_of};
 use crate::kept::is_kept;
 use crate::leading::{directions, keys_of};
 use crate::order::{behind_first, compare_keys, directed};
-use osq_value::{Copied, NoMemory, Row, RowList, Sequence, Str, Value};
+use crate::worth_in::worth_in;
+use osq_value::{Copied, NoMemory, Row, RowList, Sequence, Value};
+use sql_meaning::Joined;
 use sql_meaning::cut::cut;
 use sql_meaning::worth::{ResultRow, Worth};
-use sql_meaning::{Joined, Over, evaluate_over};
 use sql_query::query::{Condition, Order, Query, QueryItem};
 use std::alloc::Global;
 use std::cmp::Ordering;
+
+/// What a row is sorted by.
+#[derive(Drop)]
+pub(crate) enum SortKeys<'a> {
+    /// The first key, where it is found at once, and the others.
+    Known {
+        first: FirstKey<'a>,
+        others: ResultRow<'a>,
+    },
+    /// All of them.
+    Made {
+        keys: ResultRow<'a>,
+    },
+}
 
 /// A row of the result, and what it is sorted by.
 #[derive(Drop)]
 pub(crate) struct KeyedRow<'a> {
     /// What it is sorted by.
-    pub keys: ResultRow<'a>,
+    pub keys: SortKeys<'a>,
     /// The columns of the result.
     pub row: Row,
 }
@@ -36,26 +52,8 @@ pub(crate) struct KeyedRow<'a> {
 /// Such rows.
 type KeyedRowList<'a> = Sequence<KeyedRow<'a>>;
 
-/// The first of a row's keys. Numbers lie in it, so that they are compared without a look at the row.
-#[derive(Clone, Copy, Drop)]
-pub(crate) enum FirstKey<'a> {
-    Null,
-    Number { number: i64 },
-    Text { text: &'a Str },
-}
-
-/// A row of the result where it stands, beside its first key.
-#[derive(Clone, Copy, Drop)]
-pub(crate) struct Place<'a, 'b> {
-    /// The first key.
-    pub first: FirstKey<'b>,
-    /// The row.
-    pub held: &'b KeyedRow<'a>,
-    ghost fits: { first_value first ≡ first_key (worths held.now.keys) },
-}
-
-/// The rows of a query with neither groups nor DISTINCT. The keys of each row are made once, beside the columns of the result, and what is
-/// sorted are the places of these.
+/// The rows of a query with neither groups nor DISTINCT. The keys of each row are made once, and the row of the result beside them, which is
+/// then moved and neither copied nor sought.
 pub(crate) fn sorted_rows(
     alloc: Global,
     query: &Query,
@@ -73,16 +71,16 @@ pub(crate) fn sorted_rows(
         condition,
         rows,
     )?;
-    in_order(alloc, query, made.as_slice())
+    in_order(alloc, query, made)
 }
 
 /// The rows of the result in the order of their keys, of which LIMIT and OFFSET leave some.
-fn in_order(alloc: Global, query: &Query, made: &[KeyedRow]) -> Result<RowList, NoMemory>
-    ensures { IfOk result (λ rows. rows ≡ cut_by query.now.limit query.now.skip (map (λ row. row.row) (ordered_by (λ row. worths row.keys) (directions_of (map term_of query.now.terms)) made.now))) }
+fn in_order<'a>(alloc: Global, query: &Query, made: KeyedRowList<'a>) -> Result<RowList, NoMemory>
+    ensures { IfOk result (λ rows. rows ≡ map (λ row. row.row) (cut_by query.now.limit query.now.skip (ordered_by (λ row. key_values row.keys) (directions_of (map term_of query.now.terms)) made.entry))) }
 {
     let ways = directions(alloc, query.terms.as_slice())?;
-    let sorted = sorted_places(alloc, made, ways.as_slice())?;
-    results_at(alloc, cut(sorted, query.limit, query.skip).as_slice())
+    let sorted = sorted(made, ways.as_slice())?;
+    results(alloc, cut(sorted, query.limit, query.skip))
 }
 
 /// A row of the result for each row for which the condition holds, with what it is sorted by.
@@ -128,14 +126,38 @@ fn keyed<'a>(
     ensures { IfOk result (λ made. pair_of made ≡ keyed_row (map term_of terms.entry.now) (map result_of items.now) row.entry) }
 {
     Ok(KeyedRow {
-        keys: keys_of(alloc, terms, row)?,
+        keys: sort_keys_of(alloc, terms, row)?,
         row: result_row(alloc, items, row)?,
     })
 }
 
+/// What a row is sorted by. Where that is one column it takes no memory.
+fn sort_keys_of<'a>(
+    alloc: Global,
+    terms: &'a [Order],
+    row: Joined<'a>,
+) -> Result<SortKeys<'a>, NoMemory>
+    ensures { IfOk result (λ keys. key_values keys ≡ sort_keys (map term_of terms.entry.now) (values_in row.entry)) }
+{
+    let [term, others @ ..] = terms else {
+        return Ok(SortKeys::Made {
+            keys: ResultRow::new(alloc),
+        });
+    };
+    match first_in(row, &term.expr) {
+        Some(first) => Ok(SortKeys::Known {
+            first,
+            others: keys_of(alloc, others, row)?,
+        }),
+        None => Ok(SortKeys::Made {
+            keys: keys_of(alloc, terms, row)?,
+        }),
+    }
+}
+
 /// The columns of the result of a row.
 fn result_row(alloc: Global, items: &[QueryItem], row: Joined) -> Result<Row, NoMemory>
-    ensures { IfOk result (λ made. made ≡ map (λ item. value_of (alone (values_in row.entry)) item.expr) (map result_of items.now)) }
+    ensures { IfOk result (λ made. made ≡ columns (map result_of items.now) row.entry) }
 {
     let mut made = Row::with_capacity(alloc, items.len())?;
     for item in items {
@@ -148,111 +170,63 @@ fn result_row(alloc: Global, items: &[QueryItem], row: Joined) -> Result<Row, No
 fn value_over(alloc: Global, row: Joined, item: &QueryItem) -> Result<Value, NoMemory>
     ensures { IfOk result (λ value. value ≡ value_of (alone (values_in row.entry)) (result_of item.now).expr) }
 {
-    match evaluate_over(alloc, Over::Lent { row }, &item.expr)? {
+    match worth_in(alloc, row, &item.expr)? {
         Worth::Held { value } => value.copy(alloc),
         Worth::Made { value } => Ok(value),
     }
 }
 
-/// The places of rows, in the order of their keys. Rows that tie keep their order.
-fn sorted_places<'a, 'b>(
-    alloc: Global,
-    made: &'b [KeyedRow<'a>],
-    ways: &[bool],
-) -> Result<Sequence<Place<'a, 'b>>, NoMemory>
-    ensures { IfOk result (λ places. map (λ place. place.held.now) places ≡ ordered_by (λ row. worths row.keys) ways.now made.entry.now) }
+/// The rows in the order of their keys. Rows that tie keep their order.
+fn sorted<'a>(made: KeyedRowList<'a>, ways: &[bool]) -> Result<KeyedRowList<'a>, NoMemory>
+    ensures { IfOk result (λ rows. rows ≡ ordered_by (λ row. key_values row.keys) ways.now made.entry) }
 {
-    let mut places = places_of(alloc, made)?;
-    places.sort_by(|left, right| compare_places(*left, *right, ways))?;
-    Ok(Sequence::from_vec(places))
-}
-
-fn places_of<'a, 'b>(
-    alloc: Global,
-    made: &'b [KeyedRow<'a>],
-) -> Result<Vec<Place<'a, 'b>>, NoMemory>
-    ensures { IfOk result (λ places. map (λ place. place.held.now) places.items ≡ made.entry.now) }
-{
-    let mut places = Vec::with_capacity(alloc, made.len())?;
-    for row in made {
-        places.push(place_of(row))?;
-    }
-    Ok(places)
-}
-
-fn place_of<'a, 'b>(row: &'b KeyedRow<'a>) -> Place<'a, 'b>
-    ensures { result.held.now ≡ row.entry.now }
-{
-    Place {
-        first: first_of(row.keys.as_slice()),
-        held: row,
-    }
-}
-
-/// The first of these keys, Null where there is none.
-fn first_of<'a, 'b>(keys: &'b [Worth<'a>]) -> FirstKey<'b>
-    ensures { first_value result ≡ first_key (worths keys.entry.now) }
-{
-    match keys {
-        [] => FirstKey::Null,
-        [key, ..] => key_of(key.as_value()),
-    }
-}
-
-fn key_of(value: &Value) -> FirstKey
-    ensures { first_value result ≡ value.entry.now }
-{
-    match value {
-        Value::Null => FirstKey::Null,
-        Value::Int(number) => FirstKey::Number { number: *number },
-        Value::Text(text) => FirstKey::Text { text },
-    }
+    let mut rows = made.into_vec();
+    rows.sort_by(|left, right| compare_rows(left, right, ways))?;
+    Ok(KeyedRowList::from_vec(rows))
 }
 
 /// The order of two rows by one key after another. Those behind the first are looked at where the first ones tie.
-fn compare_places(left: Place, right: Place, ways: &[bool]) -> Ordering
-    ensures { result ≡ order_by ways.now (worths left.entry.held.now.keys) (worths right.entry.held.now.keys) }
+fn compare_rows(left: &KeyedRow, right: &KeyedRow, ways: &[bool]) -> Ordering
+    ensures { result ≡ order_by ways.now (key_values left.now.keys) (key_values right.now.keys) }
 {
     let [is_descending, others @ ..] = ways else {
         return Ordering::Equal;
     };
-    let order = directed(*is_descending, compare_firsts(left.first, right.first));
+    let order = compare_firsts(first_key_of(&left.keys), first_key_of(&right.keys));
+    let order = directed(*is_descending, order);
     if order.is_ne() {
         return order;
     }
-    compare_keys(
-        behind_first(left.held.keys.as_slice()),
-        behind_first(right.held.keys.as_slice()),
-        others,
-    )
+    compare_keys(other_keys(&left.keys), other_keys(&right.keys), others)
 }
 
-/// Null stands before numbers, and these before texts, which go by their bytes.
-fn compare_firsts(left: FirstKey, right: FirstKey) -> Ordering
-    ensures { result ≡ order_of (first_value left.entry) (first_value right.entry) }
+/// The first of these keys, Null where there is none.
+fn first_key_of<'a, 'b>(keys: &'b SortKeys<'a>) -> FirstKey<'b>
+    ensures { first_value result ≡ first_key (key_values keys.entry.now) }
 {
-    match (left, right) {
-        (FirstKey::Null, FirstKey::Null) => Ordering::Equal,
-        (FirstKey::Null, _) => Ordering::Less,
-        (_, FirstKey::Null) => Ordering::Greater,
-        (FirstKey::Number { number: left }, FirstKey::Number { number: right }) => {
-            left.cmp(&right)
-        }
-        (FirstKey::Number { .. }, FirstKey::Text { .. }) => Ordering::Less,
-        (FirstKey::Text { .. }, FirstKey::Number { .. }) => Ordering::Greater,
-        (FirstKey::Text { text: left }, FirstKey::Text { text: right }) => {
-            left.as_str().as_bytes().cmp(right.as_str().as_bytes())
-        }
+    match keys {
+        SortKeys::Known { first, .. } => *first,
+        SortKeys::Made { keys } => first_of(keys.as_slice()),
     }
 }
 
-/// Copies of the rows at these places, which share their values.
-fn results_at(alloc: Global, places: &[Place]) -> Result<RowList, NoMemory>
-    ensures { IfOk result (λ rows. rows ≡ map (λ place. place.held.now.row) places.now) }
+/// The keys behind the first.
+fn other_keys<'a, 'b>(keys: &'b SortKeys<'a>) -> &'b [Worth<'a>]
+    ensures { worths result.now ≡ drop 1 (key_values keys.now) }
 {
-    let mut rows = RowList::with_capacity(alloc, places.len())?;
-    for place in places {
-        rows.push(place.held.row.copy(alloc)?)?;
+    match keys {
+        SortKeys::Known { others, .. } => others.as_slice(),
+        SortKeys::Made { keys } => behind_first(keys.as_slice()),
+    }
+}
+
+/// The rows of the result, which are moved.
+fn results<'a>(alloc: Global, made: KeyedRowList<'a>) -> Result<RowList, NoMemory>
+    ensures { IfOk result (λ rows. rows ≡ map (λ row. row.row) made.entry) }
+{
+    let mut rows = RowList::with_capacity(alloc, made.len())?;
+    for keyed in made.into_vec() {
+        rows.push(keyed.row)?;
     }
     Ok(rows)
 }

@@ -1,20 +1,21 @@
 use Rattle.std.proofs.Common.{◌∙◌, sym, ap, Bool, ◌++◌, ◌∷◌, [], true, false}
 use Rattle.std.specs.Prelude.{if◌then◌else◌}
-use Rattle.sql_groups.proofs.Adding.{fresh-is, inserted}
+use Rattle.sql_groups.specs.Different.{equal}
+use Rattle.sql_groups.proofs.Stored.{fresh-shown, inserted-shown, places-are, same_places, value_in_place}
 use Rattle.sql_groups.proofs.different.add.Goals as goal
 
 pub returns-in_ok-push : goal.returns-in_ok-push
 returns-in_ok-push c =
     let old = c.args.found.now in
-    let fresh = fresh-is old.values.keys c.args.value c.in_ok-insert.field-0 true c.in_ok-insert.ensures.added c.if-branch.true in (
-      inserted old.values.keys c.insert.new.self.keys c.args.value c.in_ok-insert.ensures.keys,
+    let fresh = fresh-shown value_in_place same_places equal places-are old.values.keys c.args.value c.in_ok-insert.field-0 true c.in_ok-insert.ensures.added c.if-branch.true in (
+      inserted-shown value_in_place same_places equal places-are old.values.keys c.insert.new.self.keys c.args.value c.in_ok-insert.ensures.keys,
       c.in_ok-push.ensures.ok ∙ sym (ap (λ (b : Bool). if b then old.rows else old.rows ++ c.args.row ∷ []) fresh),
     )
 
 pub returns-else-branch : goal.returns-else-branch
 returns-else-branch c =
     let old = c.args.found.now in
-    let fresh = fresh-is old.values.keys c.args.value c.in_ok-insert.field-0 false c.in_ok-insert.ensures.added c.if-branch.false in (
-      inserted old.values.keys c.insert.new.self.keys c.args.value c.in_ok-insert.ensures.keys,
+    let fresh = fresh-shown value_in_place same_places equal places-are old.values.keys c.args.value c.in_ok-insert.field-0 false c.in_ok-insert.ensures.added c.if-branch.false in (
+      inserted-shown value_in_place same_places equal places-are old.values.keys c.insert.new.self.keys c.args.value c.in_ok-insert.ensures.keys,
       sym (ap (λ (b : Bool). if b then old.rows else old.rows ++ c.args.row ∷ []) fresh),
     )

@@ -1,4 +1,4 @@
-use Rattle.std.proofs.Common.{List, subst, sym, ◌+◌, ◌++◌, ◌∷◌, [], take}
+use Rattle.std.proofs.Common.{List, ap, subst, sym, ◌∙◌, ◌+◌, ◌++◌, ◌∷◌, [], take}
 use Rattle.std.specs.List.{AllZip}
 use Rattle.std.proofs.lemmas.List.{take_more}
 use Rattle.sql_meaning.specs.Lent.{values_in}
@@ -14,5 +14,5 @@ loop-item-preserved c =
     let at = c.loop-item.item-index in
     let R = HasFolded (values_in c.args.row ∷ []) in
     subst (λ (group : List SoFar). AllZip R (take (at + 1) items) group) (sym c.in_ok-push.ensures.ok)
-    (subst (λ (some : List GroupItem). AllZip R some (c.loop-item.group ++ c.in-Some.so_far ∷ [])) (sym (take_more items at _ c.loop-item-test.true))
+    (subst (λ (some : List GroupItem). AllZip R some (c.loop-item.group ++ c.in-Some.so_far ∷ [])) (sym (take_more items at c.item-item.result c.loop-item-test.true ∙ ap (λ (item : GroupItem). take at items ++ item ∷ []) (sym c.item-item.is)))
     (zip-push R (take at items) c.loop-item.group _ c.in-Some.so_far c.loop-item.invariant c.in-Some.ensures))

@@ -7,13 +7,18 @@ use Rattle.sql_meaning.specs.Lent.{values_in}
 use Rattle.sql_groups.specs.declared.so_far.SoFar.TheVariants as so_far
 use Rattle.sql_groups.specs.Folding.{HasFolded, best_with, count_with, number_in, sum_with}
 use Rattle.sql_meaning.specs.Known.{known_of}
-use Rattle.sql_groups.proofs.Standing.{first-more, is-copied, known-more, nearest-more, rows-more, sum-grows}
+use Rattle.sql_groups.proofs.Standing.{first-more, is-copied, known-more, lone-more, nearest-more, rows-more, sum-grows}
 use Rattle.sql_groups.proofs.so_far.SoFar.with_row.Goals as goal
 
 pub returns-in-First : goal.returns-in-First
 returns-in-First c = λ item rows stands.
     subst (HasFolded (rows ++ values_in c.args.row ∷ []) item) (sym c.in-First.is)
     (first-more item rows (values_in c.args.row) c.in-First.value (subst (HasFolded rows item) c.in-First.is stands))
+
+pub returns-in-Alone : goal.returns-in-Alone
+returns-in-Alone c = λ item rows stands.
+    subst (HasFolded (rows ++ values_in c.args.row ∷ []) item) (sym c.in-Alone.is)
+    (lone-more item rows (values_in c.args.row) c.in-Alone.row c.in-Alone.expr (subst (HasFolded rows item) c.in-Alone.is stands))
 
 pub returns-in-Some : goal.returns-in-Some
 returns-in-Some c = λ item rows stands.

@@ -1,0 +1,12 @@
+use Rattle.std.proofs.Common.{Option, ap, ◌∙◌, unwrap_or}
+use Rattle.std.proofs.lemmas.Option.{unwrap_or-slice_get}
+use Rattle.osq_value.specs.declared.value.Value.{Value}
+use Rattle.osq_value.specs.declared.value.Value.TheVariants.{Null}
+use Rattle.sql_meaning.specs.Lent.{values_in}
+use Rattle.sql_groups.proofs.first_key.first_at.Goals as goal
+
+pub returns-in-None : goal.returns-in-None
+returns-in-None c = ap (λ (o : Option Value). unwrap_or o Null) c.in-None.ensures ∙ unwrap_or-slice_get (values_in c.args.row) c.args.place Null
+
+pub returns-in-Some : goal.returns-in-Some
+returns-in-Some c = c.key_of.ensures ∙ ap (λ (o : Option Value). unwrap_or o Null) c.in-Some.ensures ∙ unwrap_or-slice_get (values_in c.args.row) c.args.place Null
