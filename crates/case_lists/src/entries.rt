@@ -108,6 +108,64 @@ fn committed(
     Ok(Entry::Committed { batch })
 }
 
+/// A row of this number with values of each kind.
+fn long_row(alloc: Global, number: u64) -> Result<Row, NoMemory> {
+    let mut row = Row::new(alloc);
+    row.push(Value::Int(i64::try_from(number).unwrap_or(0)))?;
+    row.push(Value::Null)?;
+    row.push(Value::Int(i64::MIN))?;
+    row.push(Value::Text(Str::of(alloc, "/etc/\"a\" \\ \n zażółć")?))?;
+    Ok(row)
+}
+
+/// The batch of this number with so many rows. It answers one of two queries, and each of its numbers is another one.
+fn batch_of(alloc: Global, number: u64, count: u64) -> Result<Batch, NoMemory> {
+    let (name, mode) = if number % 2 == 0 {
+        ("even", Mode::Snapshot)
+    } else {
+        ("odd", Mode::Evented)
+    };
+    let mut rows = RowList::new(alloc);
+    for at in 0..count {
+        rows.push(long_row(alloc, at)?)?;
+    }
+    Ok(Batch {
+        number,
+        query: QueryKey::read(
+            Str::of(alloc, name)?,
+            Str::of(alloc, "SELECT * FROM file_events")?,
+            mode,
+        ),
+        lo: number.saturating_add(10),
+        hi: number.saturating_add(20),
+        cut: number.saturating_add(30),
+        moment: number.saturating_add(1000),
+        rows,
+    })
+}
+
+/// The number behind the first letters of a word that begins with them.
+fn number_behind(word: &str, front: &str) -> Option<u64> {
+    let Some(rest) = word.strip_prefix(front) else {
+        return None;
+    };
+    rest.parse::<u64>().ok()
+}
+
+/// The entry of a word that ends with a number: a batch with as many rows, one whose rows take three parts of some 64 kB, and what is
+/// acknowledged.
+fn numbered_entry(alloc: Global, word: &str) -> Result<Option<Entry>, NoMemory> {
+    if let Some(number) = number_behind(word, "batch") {
+        let batch = batch_of(alloc, number, number)?;
+        return Ok(Some(Entry::Committed { batch }));
+    }
+    if let Some(number) = number_behind(word, "long") {
+        let batch = batch_of(alloc, number, 2500)?;
+        return Ok(Some(Entry::Committed { batch }));
+    }
+    Ok(number_behind(word, "acked").map(|upto| Entry::Acked { upto }))
+}
+
 /// Events of a table expire up to a number.
 fn expired(table: TableId, floor: u64) -> Entry {
     Entry::Expired {
@@ -152,7 +210,7 @@ fn entry_of(alloc: Global, word: &str, at: u64) -> Result<Option<Entry>, NoMemor
         "recommitted" => committed(alloc, "q", at, 6, 1060)?,
         "answered" => committed(alloc, "r", at, 5, 1000)?,
         "acked" => Entry::Acked { upto: 1 },
-        _ => return Ok(None),
+        _ => return numbered_entry(alloc, word),
     }))
 }
 

@@ -5,12 +5,14 @@ ghost use Rattle.osq_outside.specs.Causes.{FaultHasCause};
 ghost use Rattle.sqlite.specs.Held.{state};
 ghost use Rattle.keeper_sqlite.specs.Commits.{CommitsNothing, IsOneCommit};
 
-use crate::database::{make_all, show};
+use crate::database::{make_all, show, show_of};
 use crate::stop::{Stop, told};
 use batch_keeper::{Keeper, KeeperError};
-use entry_model::entry::EntryList;
+use entry_model::entry::{Batch, EntryList};
 use entry_model::restored::Restored;
-use kept_tables::{Found, changes_of, counts_of, has_layout, layout, restored_of};
+use kept_tables::{
+    Found, FoundBatch, batch_of, changes_of, counts_of, has_layout, is_fetched, layout, restored_of,
+};
 use sqlite::{Alter, Connection, Transaction};
 use std::alloc::Global;
 
@@ -77,6 +79,32 @@ fn load_inside<S: Alter>(alloc: Global, tx: &mut Transaction<'_, S>) -> Result<R
     Ok(restored_of(alloc, &found)?)
 }
 
+/// What is shown of the batch of this number.
+fn find_batch<S: Alter>(
+    alloc: Global,
+    tx: &mut Transaction<'_, S>,
+    number: u64,
+) -> Result<FoundBatch, Stop> {
+    Ok(FoundBatch {
+        batches: show_of(alloc, tx, layout::BATCH, number)?,
+        parts: show_of(alloc, tx, layout::BATCH_PARTS, number)?,
+    })
+}
+
+fn fetch_inside<S: Alter>(
+    alloc: Global,
+    tx: &mut Transaction<'_, S>,
+    number: u64,
+) -> Result<Option<Batch>, Stop> {
+    ready(alloc, tx)?;
+    let counts = counts_of(&show(alloc, tx, layout::COUNTS)?)?;
+    if !is_fetched(&counts, number) {
+        return Ok(None);
+    }
+    let found = find_batch(alloc, tx, number)?;
+    Ok(Some(batch_of(alloc, &found)?))
+}
+
 /// Makes the changes of a seal.
 #[tactic(auto, using(crate::proofs::Commits::same_commits_nothing, crate::proofs::Commits::nothing_then_nothing))]
 fn seal_inside<S: Alter>(
@@ -101,6 +129,20 @@ fn load<S: Alter>(alloc: Global, conn: &mut Connection<S>) -> Result<Restored, S
     let restored = load_inside(alloc, &mut tx)?;
     tx.commit()?;
     Ok(restored)
+}
+
+fn fetch<S: Alter>(
+    alloc: Global,
+    conn: &mut Connection<S>,
+    number: u64,
+) -> Result<Option<Batch>, Stop> {
+    if !conn.is_autocommit() {
+        return Err(Stop::Fault);
+    }
+    let mut tx = conn.transaction();
+    let batch = fetch_inside(alloc, &mut tx, number)?;
+    tx.commit()?;
+    Ok(batch)
 }
 
 fn seal<S: Alter>(alloc: Global, conn: &mut Connection<S>, entries: &EntryList) -> Result<(), Stop>
@@ -129,6 +171,13 @@ impl<S: Alter> Keeper for ConnectionKeeper<S> {
     {
         let loaded = load(alloc, &mut self.conn);
         told(&mut self.faults, loaded)
+    }
+
+    fn fetch(&mut self, alloc: Global, number: u64) -> Result<Option<Batch>, KeeperError>
+        ensures cause { FaultHasCause KeeperError.Fault self.old.faults self.new.faults result }
+    {
+        let fetched = fetch(alloc, &mut self.conn, number);
+        told(&mut self.faults, fetched)
     }
 
     /// All that a call writes is one commit: a crash behind it leaves what it could leave before, or all of the entries.

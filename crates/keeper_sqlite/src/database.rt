@@ -83,6 +83,21 @@ pub(crate) fn show<S: Alter>(
     rows_of(alloc, shown.as_slice())
 }
 
+/// All rows of an answer about this number.
+pub(crate) fn show_of<S: Alter>(
+    alloc: Global,
+    tx: &mut Transaction<'_, S>,
+    sql: &str,
+    number: u64,
+) -> Result<RowList, Stop> {
+    let number = match i64::try_from(number) {
+        Ok(number) => number,
+        Err(_) => return Err(Stop::Fault),
+    };
+    let shown = tx.query_all(sql, &[ValueRef::Int(number)])?;
+    rows_of(alloc, shown.as_slice())
+}
+
 fn rows_of(alloc: Global, shown: &[Shown]) -> Result<RowList, Stop> {
     let mut rows = Sequence::with_capacity(alloc, shown.len())?;
     for row in shown {

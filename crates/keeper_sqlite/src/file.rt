@@ -6,7 +6,7 @@ ghost use Rattle.osq_outside.specs.Causes.{FaultHasCause};
 use crate::connection::ConnectionKeeper;
 use crate::stop::{Stop, told};
 use batch_keeper::{Keeper, KeeperError};
-use entry_model::entry::EntryList;
+use entry_model::entry::{Batch, EntryList};
 use entry_model::restored::Restored;
 use osq_value::Str;
 use sqlite::{Connection, File, FileStore};
@@ -58,6 +58,20 @@ fn load(rt: &HostRuntime, path: &str, slot: &mut Slot, alloc: Global) -> Result<
     }
 }
 
+fn fetch(
+    rt: &HostRuntime,
+    path: &str,
+    slot: &mut Slot,
+    alloc: Global,
+    number: u64,
+) -> Result<Option<Batch>, Stop> {
+    open(rt, path, slot)?;
+    match slot {
+        Some(keeper) => Ok(keeper.fetch(alloc, number)?),
+        None => Err(Stop::Fault),
+    }
+}
+
 fn seal(
     rt: &HostRuntime,
     path: &str,
@@ -84,6 +98,17 @@ impl Keeper for SqliteKeeper {
     fn load(&mut self, alloc: Global) -> Result<Restored, KeeperError> {
         let loaded = load(&self.rt, self.path.as_str(), &mut self.opened, alloc);
         told(&mut self.faults, loaded)
+    }
+
+    fn fetch(&mut self, alloc: Global, number: u64) -> Result<Option<Batch>, KeeperError> {
+        let fetched = fetch(
+            &self.rt,
+            self.path.as_str(),
+            &mut self.opened,
+            alloc,
+            number,
+        );
+        told(&mut self.faults, fetched)
     }
 
     fn seal(&mut self, alloc: Global, entries: &EntryList) -> Result<(), KeeperError> {

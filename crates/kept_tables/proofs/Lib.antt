@@ -1,4 +1,5 @@
 pub mod Answering
+pub mod Archiving
 pub mod Behind
 pub mod Cutting
 pub mod Expiring

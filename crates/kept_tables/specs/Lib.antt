@@ -1,6 +1,8 @@
+pub mod Archive
 pub mod Columns
 pub mod Counting
 pub mod Edits
+pub mod Fetches
 pub mod Groups
 pub mod Keeps
 pub mod Lists

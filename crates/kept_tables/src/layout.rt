@@ -43,6 +43,13 @@ pub const SET: &str = "SELECT tbl, rows FROM set_part ORDER BY place";
 /// Shows the runs, in the order of the first batches of their queries.
 pub const RUNS: &str = "SELECT name, text, mode, number, hi, moment, count FROM run ORDER BY place";
 
+/// Shows the batch of a number without its rows, with what its query is known by.
+pub const BATCH: &str =
+    "SELECT name, text, mode, batch.number, lo, batch.hi, cut, batch.moment FROM batch JOIN run ON run.place = batch.run WHERE batch.number = ?1";
+
+/// Shows the parts of that batch's rows, in the order in which they were added.
+pub const BATCH_PARTS: &str = "SELECT rows FROM batch_part WHERE number = ?1 ORDER BY place";
+
 pub(crate) const WRITE_COUNTS: &str =
     "UPDATE kept SET position = ?1, sessions = ?2, moment = ?3, last = ?4, floor0 = ?5, floor1 = ?6, floor2 = ?7, batches = ?8, acked = ?9, parts = ?10";
 

@@ -5,6 +5,7 @@
 pub mod changes;
 pub mod counts;
 mod error;
+pub mod fetching;
 pub mod laws;
 pub mod layout;
 pub mod lists;
@@ -19,5 +20,6 @@ mod values;
 pub use changes::{Change, ChangeList, Parameter, Statement};
 pub use counts::{Counts, counts_of, has_layout};
 pub use error::TableError;
+pub use fetching::{FoundBatch, batch_of, is_fetched};
 pub use restoring::{Found, restored_of};
 pub use sealing::changes_of;

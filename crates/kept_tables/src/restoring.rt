@@ -99,7 +99,7 @@ impl Shown for Run {
     }
 }
 
-fn number_in(row: &Row, at: usize) -> Result<u64, TableError>
+pub(crate) fn number_in(row: &Row, at: usize) -> Result<u64, TableError>
     ensures { (number : ℕ) → number_at row.now at ≡ Some number → result ≡ Ok number }
 {
     match number_at(row, at) {
@@ -118,7 +118,7 @@ fn text_in(alloc: Global, row: &Row, at: usize) -> Result<Str, TableError>
 }
 
 /// What a query is known by, which stands in the first three columns.
-fn key_of(alloc: Global, row: &Row) -> Result<QueryKey, TableError>
+pub(crate) fn key_of(alloc: Global, row: &Row) -> Result<QueryKey, TableError>
     ensures { (key : QueryKey) → ShowsKey row.now key → Gives key result }
 {
     let name = text_in(alloc, row, 0)?;
