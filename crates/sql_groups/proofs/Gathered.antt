@@ -9,7 +9,7 @@ use Rattle.osq_value.specs.declared.value.Value.{Value}
 use Rattle.sql_query.specs.Exprs.{ExprTree}
 use Rattle.sql_query.specs.Resolved.{QueryTree}
 use Rattle.sql_meaning.specs.declared.joined.Joined.{Joined}
-use Rattle.sql_meaning.specs.Expressions.{Environment, alone, holds, value_at, value_of}
+use Rattle.sql_meaning.specs.Expressions.{Environment, alone, holds}
 use Rattle.sql_meaning.specs.Finished.{finished}
 use Rattle.sql_meaning.specs.Firsts.{firsts_by, same_values}
 use Rattle.sql_meaning.specs.Groups.{groups_by}
@@ -18,7 +18,6 @@ use Rattle.sql_meaning.specs.Steps.{behind_from, filtered, groups, kept_groups, 
 use Rattle.sql_meaning.proofs.FirstsLaws.{has_key}
 use Rattle.sql_meaning.proofs.GroupsLaws.{added-one, groups-are, grown-one, lists_of, place_in}
 use Rattle.sql_meaning.proofs.HashedLaws.{any_made, insert_key-made}
-use Rattle.sql_meaning.proofs.Mapped.{filter_mapped, groups_mapped, map_twice}
 use Rattle.sql_groups.specs.declared.items.GroupItem.{GroupItem}
 use Rattle.sql_groups.specs.declared.so_far.SoFar.{SoFar}
 use Rattle.sql_groups.specs.Folding.{item_over}

@@ -1,5 +1,5 @@
 -- What HAVING keeps of groups that were folded.
-use Rattle.std.proofs.Common.{◌≡◌, ◌<◌, ◌≤◌, ◌+◌, ◌-◌, ℕ, get_or, zero, refl, sym, ap, ap₂, subst, ◌∙◌, Bool, true, false, cond, ◌&&◌, List, [], ◌∷◌, ◌++◌, drop, filter, length, map, take, arith}
+use Rattle.std.proofs.Common.{◌≡◌, ◌<◌, ◌≤◌, ◌+◌, ◌-◌, ℕ, get_or, refl, sym, ap, ap₂, ◌∙◌, Bool, true, false, cond, ◌&&◌, List, [], ◌∷◌, ◌++◌, drop, filter, length, map, take, arith}
 use Rattle.std.specs.Prelude.{if◌then◌else◌}
 use Rattle.std.proofs.lemmas.List.{append_assoc, append-nil, length-map, map-append, take_all, take_more}
 use Rattle.std.proofs.lemmas.List.Elements.{filter-append}
@@ -18,7 +18,6 @@ use Rattle.sql_meaning.proofs.Mapped.{filter_mapped, groups_mapped}
 use Rattle.sql_groups.specs.declared.having.GroupTest.{GroupTest}
 use Rattle.sql_groups.specs.declared.having.Grouping.{Grouping}
 use Rattle.sql_groups.specs.declared.items.GroupItem.{GroupItem}
-use Rattle.sql_groups.specs.Different.{held_alone}
 use Rattle.sql_groups.specs.Folding.{item_over, lists, lists_by}
 use Rattle.sql_groups.specs.Having.{AddsTest, Gives, HasSides, IsGrouping, over_all, tests_hold}
 use Rattle.sql_groups.specs.Kept.{is_kept}

@@ -1,5 +1,5 @@
 -- For proofs of the code's steps, and no part of the meaning: what HAVING asks of columns that were folded.
-use Rattle.std.specs.Prelude.{◌≡◌, ℕ, Bool, true, false, ◌&&◌, List, [], ◌∷◌, ◌++◌, length, map}
+use Rattle.std.specs.Prelude.{◌≡◌, Bool, true, false, ◌&&◌, List, [], ◌∷◌, ◌++◌, length, map}
 use Rattle.osq_value.specs.declared.value.Value.{Value}
 use Rattle.sql_tree.specs.declared.tree.Operator.{Operator}
 use Rattle.sql_scalar.specs.Operators.{apply_of}

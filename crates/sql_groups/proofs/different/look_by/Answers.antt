@@ -1,4 +1,4 @@
-use Rattle.std.proofs.Common.{Bor, map, sym, ◌∙◌, true, false}
+use Rattle.std.proofs.Common.{Bor, map, sym, ◌∙◌}
 use Rattle.std.proofs.lemmas.Result.{on_ok_weaker}
 use Rattle.sql_query.specs.declared.tree.Expr.{Expr}
 use Rattle.sql_query.specs.View.{expr_of}

@@ -1,4 +1,4 @@
-use Rattle.std.proofs.Common.{List, Option, Some, None, ◌≡◌, ◌∙◌, ap, subst, sym, Bool, true, false, ℕ, ◌<◌, ◌++◌, [], drop, get_or, length, refl, set, take, arith}
+use Rattle.std.proofs.Common.{List, Some, None, ◌≡◌, ◌∙◌, ap, subst, sym, Bool, ◌<◌, ◌++◌, [], drop, get_or, length, refl, set, take, arith}
 use Rattle.std.specs.Prelude.{if◌then◌else◌}
 use Rattle.std.proofs.lemmas.List.{get_or_default}
 use Rattle.std.proofs.lemmas.Result.{IfOk-weaker}

@@ -1,4 +1,4 @@
-use Rattle.std.proofs.Common.{◌∙◌, List, ap, filter, map, sym}
+use Rattle.std.proofs.Common.{◌∙◌, ap, filter, map, sym}
 use Rattle.std.proofs.lemmas.Result.{IfOk-weaker}
 use Rattle.sql_query.specs.Resolved.{order_of, query_of, result_of}
 use Rattle.sql_query.specs.View.{expr_of}

@@ -1,11 +1,9 @@
-use Rattle.std.proofs.Common.{Bor, IfSome, List, Option, Vec, ap, map, subst, sym, ◌∙◌}
+use Rattle.std.proofs.Common.{Bor, List, ap, map, subst, ◌∙◌}
 use Rattle.std.proofs.lemmas.Option.{IfSome_then}
 use Rattle.std.proofs.lemmas.Result.{IfOk-weaker}
-use Rattle.osq_value.specs.declared.value.Value.{Value}
 use Rattle.sql_query.specs.declared.tree.Expr.{Expr}
 use Rattle.sql_query.specs.Exprs.{ExprTree}
 use Rattle.sql_query.specs.View.{expr_of}
-use Rattle.sql_groups.specs.declared.so_far.SoFar.{SoFar}
 use Rattle.sql_groups.specs.Folding.{lists_by}
 use Rattle.sql_groups.specs.Grouping.{IsFolded}
 use Rattle.sql_groups.specs.Keys.{row_values}
