@@ -1,6 +1,6 @@
 -- The next frame is the next of those that are due.
-use Rattle.std.proofs.Common.{◌≡◌, ℕ, suc, ◌+◌, ◌-◌, ◌<◌, ◌≤◌, Bool, true, false, cond, List, [], ◌∷◌, ◌++◌, length, map, take, drop, min, refl, sym, ap, ◌∙◌, subst, arith, append_assoc, Option, Some, None}
-use Rattle.std.specs.Prelude.{nat_lt, nat_le, ◌&&◌, slice_get, option_and_then, unwrap_or}
+use Rattle.std.proofs.Common.{◌≡◌, ℕ, ◌+◌, ◌-◌, ◌<◌, ◌≤◌, Bool, true, false, cond, List, length, take, drop, min, refl, sym, ap, ◌∙◌, arith, Option, Some, None}
+use Rattle.std.specs.Prelude.{nat_lt, slice_get, option_and_then, unwrap_or}
 use Rattle.std.specs.Option.{option_map}
 use Rattle.std.proofs.lemmas.Bool.Decides.{nat_tests}
 use Rattle.std.proofs.lemmas.List.{length-drop, length-map, length-take}
@@ -12,7 +12,7 @@ use Rattle.batch_keeper.specs.Fetching.{fetched}
 use Rattle.batch_forwarder.specs.declared.forwarder.Forwarder.{Forwarder}
 use Rattle.batch_forwarder.specs.Frames.{frame_for, frame_text, frames_due, has_frame}
 use Rattle.batch_forwarder.specs.Sending.{IsOver, next_frame}
-use Rattle.batch_forwarder.specs.Windows.{IN_FLIGHT, after_next, may_send, next_of}
+use Rattle.batch_forwarder.specs.Windows.{IN_FLIGHT, after_next, may_send}
 use Rattle.batch_forwarder.proofs.Places.{get_drop, get_take, none_past}
 
 -- the next frame is that of a batch, which may be sent

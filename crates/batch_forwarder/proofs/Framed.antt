@@ -1,24 +1,22 @@
 -- Each batch of a legal list has a frame.
-use Rattle.std.proofs.Common.{◌≡◌, ℕ, zero, suc, ◌<◌, ◌≤◌, ◌^◌, ◌&&◌, Bool, true, false, cond, List, [], ◌∷◌, ◌++◌, length, length-append, map, refl, sym, ap, ◌∙◌, subst, arith, Option, Some, None}
-use Rattle.std.specs.Prelude.{All, Contains, filter, slice_get}
+use Rattle.std.proofs.Common.{◌≡◌, ℕ, zero, suc, ◌<◌, ◌≤◌, ◌^◌, ◌&&◌, Bool, true, false, cond, List, [], ◌∷◌, ◌++◌, length, length-append, map, refl, sym, ap, ◌∙◌, subst, arith, Some, None}
+use Rattle.std.specs.Prelude.{Contains, filter, slice_get}
 use Rattle.std.proofs.lemmas.List.Elements.{All-contains, All-nil}
 use Rattle.std.proofs.lemmas.Option.{same_Some}
 use Rattle.sql_texts.specs.Meaning.{is_accepted}
-use Rattle.pack_rules.specs.declared.schedule.Schedule.{Schedule}
 use Rattle.pack_rules.specs.declared.schedule.Scheduled.{Scheduled}
 use Rattle.pack_rules.specs.Sound.{IsRunnable, IsSound}
 use Rattle.entry_model.specs.declared.entry.Batch.{Batch}
 use Rattle.entry_model.specs.declared.entry.Entry.{Entry}
-use Rattle.entry_model.specs.declared.entry.Entry.TheVariants.{Opened, Configured, Ticked, Appended, TableSet, Expired, Committed, Acked}
+use Rattle.entry_model.specs.declared.entry.Entry.TheVariants.{Opened, Configured, Committed}
 use Rattle.entry_model.specs.Legal.{Legal, LegalNext, MayCommit}
-use Rattle.entry_model.specs.Values.{commits, has_ticked, last_of, no_schedule, schedule_in, schedule_of}
+use Rattle.entry_model.specs.Values.{commits, has_ticked, no_schedule, schedule_in, schedule_of}
 use Rattle.entry_model.specs.Views.{due_queries, is_due}
 use Rattle.entry_model.proofs.Commits.{Contains-from_map}
 use Rattle.entry_model.proofs.Follows.{Follow-split, over_legal}
 use Rattle.entry_model.proofs.Lasts.{last_of-append}
 use Rattle.entry_model.proofs.Lists.{Contains-from_filter}
-use Rattle.batch_frames.specs.Valid.{is_host, is_valid}
-use Rattle.frame_laws.specs.Laws.{frame_of}
+use Rattle.batch_frames.specs.Valid.{is_host}
 use Rattle.frame_laws.proofs.Made.{commits_make_frames}
 use Rattle.batch_forwarder.specs.Frames.{frame_for, frame_text}
 use Rattle.batch_forwarder.specs.Laws.{CommitsAreSent}

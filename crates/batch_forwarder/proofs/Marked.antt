@@ -3,7 +3,7 @@ use Rattle.std.proofs.Common.{◌≡◌, ℕ, List, Option, Some, None, sym, ap,
 use Rattle.std.specs.Prelude.{IfSome, option_and_then}
 use Rattle.collector_answers.specs.declared.answer.Answer.{Answer}
 use Rattle.collector_answers.specs.Reads.{IsHeld, Reads}
-use Rattle.batch_forwarder.specs.Polling.{IsMark, mark_of}
+use Rattle.batch_forwarder.specs.Polling.{mark_of}
 use Rattle.batch_forwarder.specs.Laws.{MarksAreOne}
 
 same_answer : (line : List ℕ) (one other : Option Answer) → Reads line one → IfSome one IsHeld → Reads line other → IfSome other IsHeld → one ≡ other

@@ -1,12 +1,12 @@
 -- Answers polled one after another.
-use Rattle.std.proofs.Common.{◌≡◌, ◌⊎◌, ℕ, ◌+◌, ◌<◌, ◌≤◌, Bool, true, false, cond, List, [], ◌∷◌, ◌++◌, length, length-append, refl, sym, ap, ◌∙◌, subst, inl, inr, arith, append_assoc, Option, Some, None}
+use Rattle.std.proofs.Common.{◌≡◌, ◌⊎◌, ℕ, ◌+◌, ◌<◌, Bool, true, false, cond, List, [], ◌∷◌, ◌++◌, length, length-append, refl, sym, ap, ◌∙◌, subst, inl, inr, arith, append_assoc, Option, Some, None}
 use Rattle.std.specs.Prelude.{nat_lt, nat_le, ◌&&◌}
 use Rattle.std.proofs.lemmas.List.{append-nil}
 use Rattle.entry_model.specs.Values.{last_of}
 use Rattle.entry_model.proofs.Lasts.{last_of-append}
 use Rattle.session_model.specs.Working.{marks_beyond}
 use Rattle.batch_forwarder.specs.declared.forwarder.Forwarder.{Forwarder}
-use Rattle.batch_forwarder.specs.Polling.{AreMarks, IsMark, Marks, POLLS, Polls, PollsAll, PollsPart, moved}
+use Rattle.batch_forwarder.specs.Polling.{AreMarks, IsMark, Marks, Polls, PollsAll, PollsPart, moved}
 
 by_move : (moves : Bool) (mark upto sealed : ℕ) (further staying more : List ℕ) (rest : List (Option ℕ)) (going : List ℕ)
     → going ≡ further ++ marks_beyond (last_of Some upto further) sealed rest → more ≡ staying ++ marks_beyond (last_of Some mark staying) sealed rest

@@ -1,16 +1,16 @@
 -- Frames sent one after another.
-use Rattle.std.proofs.Common.{◌≡◌, ◌⊎◌, ℕ, suc, ◌+◌, ◌-◌, ◌≤◌, ◌<◌, ◌^◌, true, false, List, [], ◌∷◌, ◌++◌, length, take, refl, sym, ap, ◌∙◌, subst, inl, inr, arith, append_assoc, Option, Some, None}
+use Rattle.std.proofs.Common.{◌≡◌, ◌⊎◌, ℕ, suc, ◌+◌, ◌-◌, ◌≤◌, true, false, List, [], ◌∷◌, ◌++◌, length, take, sym, ap, ◌∙◌, subst, inl, inr, arith, append_assoc, Some}
 use Rattle.std.specs.Prelude.{slice_get}
 use Rattle.std.proofs.lemmas.List.{append-nil, take_all}
 use Rattle.osq_outside.specs.Causes.{Rose}
 use Rattle.entry_model.specs.declared.entry.Batch.{Batch}
 use Rattle.entry_model.specs.declared.entry.Entry.{Entry}
-use Rattle.entry_model.specs.Values.{acked_upto, commits}
+use Rattle.entry_model.specs.Values.{commits}
 use Rattle.batch_forwarder.specs.declared.forwarder.Forwarder.{Forwarder}
 use Rattle.batch_forwarder.specs.Frames.{frame_for, frame_text, frames_due}
 use Rattle.batch_forwarder.specs.Sending.{IsOver, SendsFront, SendsNext, next_frame}
 use Rattle.batch_forwarder.specs.Windows.{after_next, restarted}
-use Rattle.batch_forwarder.proofs.Due.{IsNext, due_few, next_due, next_is, next_last, none_due}
+use Rattle.batch_forwarder.proofs.Due.{due_few, next_due, next_is, next_last, none_due}
 use Rattle.batch_forwarder.proofs.Places.{take_more}
 
 rose_back : (first before now : ℕ) → first ≤ before → Rose before now → Rose first now

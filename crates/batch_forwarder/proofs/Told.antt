@@ -1,7 +1,7 @@
 -- Frames of one host and number.
-use Rattle.std.proofs.Common.{◌≡◌, ℕ, ◌-◌, List, sym, ap, ◌∙◌}
+use Rattle.std.proofs.Common.{◌-◌, sym, ap, ◌∙◌}
 use Rattle.std.proofs.lemmas.Option.{same_Some}
-use Rattle.batch_forwarder.specs.Frames.{IsFrameOf, frame_text}
+use Rattle.batch_forwarder.specs.Frames.{frame_text}
 use Rattle.batch_forwarder.specs.Laws.{HaveOneText, StayFrames}
 use Rattle.batch_forwarder.proofs.Places.{get_stays}
 

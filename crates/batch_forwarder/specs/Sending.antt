@@ -4,7 +4,7 @@ use Rattle.entry_model.specs.declared.entry.Entry.{Entry}
 use Rattle.entry_model.specs.Values.{acked_upto, commits}
 use Rattle.batch_keeper.specs.Fetching.{fetched}
 use Rattle.batch_forwarder.specs.declared.forwarder.Forwarder.{Forwarder}
-use Rattle.batch_forwarder.specs.Frames.{frame_for, frames_due}
+use Rattle.batch_forwarder.specs.Frames.{frame_for}
 use Rattle.batch_forwarder.specs.Windows.{next_of}
 
 -- the forwarder has the mark and the count of this list

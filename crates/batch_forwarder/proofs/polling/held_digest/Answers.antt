@@ -1,4 +1,4 @@
-use Rattle.std.proofs.Common.{◌≡◌, ◌<◌, ℕ, suc, List, [], ◌∷◌, get_or, length}
+use Rattle.std.proofs.Common.{◌<◌, ℕ, suc, List, [], ◌∷◌, get_or}
 use Rattle.std.specs.List.{AllByRecursion}
 use Rattle.batch_forwarder.proofs.polling.held_digest.Goals as goal
 

@@ -1,4 +1,4 @@
-use Rattle.std.proofs.Common.{rules, ◌≡◌, ◌∷◌, ◌≤◌, List, ℕ, arith, refl, subst}
+use Rattle.std.proofs.Common.{rules, List, ℕ, arith, refl, subst}
 use Rattle.osq_outside.specs.Causes.{Rose}
 use Rattle.batch_forwarder.specs.Polling.{IsMark}
 use Rattle.batch_forwarder.proofs.Polled.{polled_more, polled_most, polled_none}

@@ -1,4 +1,4 @@
-use Rattle.std.proofs.Common.{◌≡◌, ◌≤◌, ◌+◌, ◌++◌, ℕ, Bool, true, false, List, sym, ap, ◌∙◌, subst, inl, arith}
+use Rattle.std.proofs.Common.{◌≡◌, ◌+◌, ◌++◌, Bool, true, false, List, sym, ap, ◌∙◌, subst, inl, arith}
 use Rattle.osq_outside.specs.Causes.{Rose}
 use Rattle.entry_model.specs.declared.entry.Entry.{Entry}
 use Rattle.batch_forwarder.specs.declared.forwarder.Forwarder.{Forwarder}
