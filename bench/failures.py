@@ -12,7 +12,7 @@ the unbroken run stands in the last lines of standard error, where they could be
 it, as `report` says, the results have the lines of all these ticks but the last one's, at least, and no others; and another run takes the rest. Of
 a ledger: it is a front part of that of the unbroken run, each answer stands behind its line, and the same stream given again leaves that run's ledger.
 Of `daemon`, whose order is another one in each run: no row is told twice by it and by a later session that reads all, nor one that `replay` doesn't tell;
-none is missing but where its lines couldn't be written behind their seal; and that session leaves as many events.
+none is missing but where the run ended with 4 or 8, of which isn't judged which lines may be; and that session leaves as many events.
 """
 
 import argparse

@@ -166,7 +166,7 @@ def tables(folder: pathlib.Path, name: str, count: int) -> str:
 def tell(what: str, found: tuple[int, int, int, int, int]) -> None:
     answers, longest, together, append, whole = found
     print(f"{what}: {answers} cuts; the longest commit with the cut behind it {longest / 1000:.1f} us, {longest / whole:.6f} of the run; "
-          f"the middle {together / max(answers - 1, 1) / 1000:.2f} us; the longest append {append / 1000:.1f} us; the run {whole / 1e9:.3f} s")
+          f"the mean {together / max(answers - 1, 1) / 1000:.2f} us; the longest append {append / 1000:.1f} us; the run {whole / 1e9:.3f} s")
 
 
 def measure(program: str, folder: pathlib.Path) -> None:
