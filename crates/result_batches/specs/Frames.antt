@@ -1,10 +1,9 @@
 -- The text of a frame: one batch of one host, as it is sent.
-use Rattle.std.specs.Prelude.{◌≡◌, ◌≤◌, ℕ, ◌-◌, ◌/◌, ◌%◌, List, [], ◌∷◌, ◌++◌, map, flat_map, slice_get, Some, codes}
+use Rattle.std.specs.Prelude.{ℕ, ◌/◌, ◌%◌, List, [], ◌∷◌, ◌++◌, map, flat_map, codes}
 use Rattle.std.specs.Fmt.{decimal, signed_decimal}
 use Rattle.sha2.specs.Sha256.{sha256}
 use Rattle.osq_value.specs.declared.value.Value.{Value}
 use Rattle.osq_value.specs.declared.value.Value.TheVariants.{Null, Int, Text}
-use Rattle.sql_texts.specs.Meaning.{names_of}
 use Rattle.pack_rules.specs.declared.schedule.Mode.{Mode}
 use Rattle.pack_rules.specs.declared.schedule.Mode.TheVariants.{Evented, Snapshot}
 use Rattle.entry_model.specs.declared.entry.Batch.{Batch}
@@ -34,11 +33,3 @@ frame_body host names batch =
 -- the frame, with the digest of what stands before it
 abbrev pub frame_text : List ℕ → List (List ℕ) → Batch → List ℕ
 frame_text host names batch = frame_body host names batch ++ codes ",\"sha256\":" ++ quoted (hexadecimal (sha256 (frame_body host names batch))) ++ codes "}"
-
--- these bytes are some host's frame of the batch that has this number among these batches, counted from 1
-pub record IsFrameAt (batches : List Batch) (number : ℕ) (frame : List ℕ) : Type 0 where
-  pub first : 1 ≤ number
-  pub batch : Batch
-  pub at : slice_get batches (number - 1) ≡ Some batch
-  pub host : List ℕ
-  pub text : frame ≡ frame_text host (names_of batch.query.text) batch
