@@ -134,9 +134,9 @@ lines_short from (suc count) small =
 
 -- so a session over a load adds one list
 pub same_loads : (tells : Type 0) → SameLoads tells
-same_loads tells given kept reading readings one other name from count told sources records few x y =
+same_loads tells given kept first beats one other name from count told sources records few x y =
     let source : Source = record { name = name; kind = Changes; bytes = load.lines_of from count } in
     let small : count < 2 ^ 64 = omega (arith, few) in
     let lines : HasShortLines given.records source.bytes = record { most = 100; fit = (let hundred = records in omega (arith, hundred)); short = (lines_short from count small).0 } in
     let gives : GivesOne tells given source = lines_give_one tells given source told refl lines in
-    same_entries tells given kept reading readings one other (subst (All (GivesOne tells given)) (sym sources) (All-cons (GivesOne tells given) source [] gives (All-nil (GivesOne tells given)))) x y
+    same_entries tells given kept first beats one other (subst (All (GivesOne tells given)) (sym sources) (All-cons (GivesOne tells given) source [] gives (All-nil (GivesOne tells given)))) x y

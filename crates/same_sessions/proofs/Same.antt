@@ -1,5 +1,5 @@
 -- What the same session adds is the same, part by part.
-use Rattle.std.proofs.Common.{◌≡◌, ℕ, ◌+◌, Bool, true, false, List, [], ◌∷◌, ◌++◌, length, take, ap, sym, ◌∙◌, subst}
+use Rattle.std.proofs.Common.{◌≡◌, ℕ, ◌+◌, Option, Bool, true, false, List, [], ◌∷◌, ◌++◌, length, take, ap, sym, ◌∙◌, subst}
 use Rattle.std.specs.Prelude.{All, max, filter}
 use Rattle.std.proofs.lemmas.List.Elements.{All-head, All-tail, All-filter}
 use Rattle.osq_value.specs.declared.value.Value.{Value}
@@ -14,9 +14,11 @@ use Rattle.entry_model.specs.Views.{due_queries, view_of}
 use Rattle.entry_model.proofs.Follows.{Follow-split}
 use Rattle.session_model.specs.Configuring.{Configures, ConfiguresBy, is_outdated}
 use Rattle.session_model.specs.Given.{Given, Source}
-use Rattle.session_model.specs.Sessions.{IsSession, Opens, TicksAt, is_tables}
+use Rattle.session_model.specs.Orders.{in_turn}
+use Rattle.session_model.specs.Sessions.{Beat, IsSession, Opens, TicksAt, is_tables}
 use Rattle.session_model.specs.Taking.{GivesSteps}
 use Rattle.session_model.specs.Ticking.{Answers, Ticks, expiries_of}
+use Rattle.session_model.specs.Working.{acks_of}
 use Rattle.same_sessions.specs.Laws.{GivesOne, SameEntries}
 use Rattle.same_sessions.proofs.Schedules.{configures_same}
 
@@ -113,15 +115,22 @@ module _ (tells : Type 0) (given : Given) where
         let y_is : other ≡ whole y.configured y.taken = y.are ∙ ap (tick_of kept moment y.configured y.taken) (answered_are kept moment other g y) in
         x_is ∙ (ap (λ (c : List Entry). whole c x.taken) conf ∙ (ap (whole y.configured) took ∙ sym y_is))
 
-    ticks_same : (kept : List Entry) (readings : List ℕ) (one other : List Entry) → Follow kept one → Follow kept other → TicksAt tells given kept readings one → TicksAt tells given kept readings other → one ≡ other
+    -- a tick with what is acknowledged behind its seal
+    abbrev sealed_by : List Entry → List (Option ℕ) → List Entry → List Entry
+    sealed_by kept polled own = own ++ acks_of (kept ++ own) polled
+
+    ticks_same : (kept : List Entry) (beats : List Beat) (one other : List Entry) → Follow kept one → Follow kept other → TicksAt in_turn tells given kept beats one → TicksAt in_turn tells given kept beats other → one ≡ other
     ticks_same kept [] one other f g x y = x ∙ sym y
-    ticks_same kept (reading ∷ readings) one other f g x y =
-        let fs = Follow-split kept x.0 x.1 (subst (Follow kept) x.4 f) in
-        let gs = Follow-split kept y.0 y.1 (subst (Follow kept) y.4 g) in
-        let own : x.0 ≡ y.0 = tick_same kept (max reading (moment_of kept)) x.0 y.0 fs.0 gs.0 x.2 y.2 in
-        let others : x.1 ≡ y.1 = ticks_same (kept ++ y.0) readings x.1 y.1 (subst (λ (es : List Entry). Follow (kept ++ es) x.1) own fs.1) gs.1
-        (subst (λ (es : List Entry). TicksAt tells given (kept ++ es) readings x.1) own x.3) y.3 in
-        x.4 ∙ (ap (λ (es : List Entry). es ++ x.1) own ∙ (ap (λ (es : List Entry). y.0 ++ es) others ∙ sym y.4))
+    ticks_same kept (beat ∷ beats) one other f g x y =
+        let sealed = sealed_by kept beat.polled in
+        let fs = Follow-split kept (sealed x.0) x.1 (subst (Follow kept) x.4 f) in
+        let gs = Follow-split kept (sealed y.0) y.1 (subst (Follow kept) y.4 g) in
+        let f_own = (Follow-split kept x.0 (acks_of (kept ++ x.0) beat.polled) fs.0).0 in
+        let g_own = (Follow-split kept y.0 (acks_of (kept ++ y.0) beat.polled) gs.0).0 in
+        let own : x.0 ≡ y.0 = tick_same kept (max beat.reading (moment_of kept)) x.0 y.0 f_own g_own x.2 y.2 in
+        let others : x.1 ≡ y.1 = ticks_same (kept ++ sealed y.0) beats x.1 y.1 (subst (λ (es : List Entry). Follow (kept ++ sealed es) x.1) own fs.1) gs.1
+        (subst (λ (es : List Entry). TicksAt in_turn tells given (kept ++ sealed es) beats x.1) own x.3) y.3 in
+        x.4 ∙ (ap (λ (es : List Entry). sealed es ++ x.1) own ∙ (ap (λ (es : List Entry). sealed y.0 ++ es) others ∙ sym y.4))
 
     opening_same : (kept : List Entry) (reading : ℕ) (one other : List Entry) → Opens tells given kept reading one → Opens tells given kept reading other → one ≡ other
     opening_same kept reading one other x y =
@@ -132,15 +141,15 @@ module _ (tells : Type 0) (given : Given) where
         (subst (λ (es : List Entry). Configures given (kept ++ (opened ∷ es)) (max reading (moment_of kept)) x.configured) tables x.configures) y.configures in
         x.are ∙ (ap (λ (es : List Entry). opened ∷ es ++ x.configured ∷ []) tables ∙ (ap (λ (e : Entry). opened ∷ y.tables ++ e ∷ []) conf ∙ sym y.are))
 
-    session_same : (kept : List Entry) (reading : ℕ) (readings : List ℕ) (one other : List Entry) → IsSession tells given kept reading readings one → IsSession tells given kept reading readings other → one ≡ other
-    session_same kept reading readings one other x y =
-        let opening : x.opening ≡ y.opening = opening_same kept reading x.opening y.opening x.opens y.opens in
+    session_same : (kept : List Entry) (beat : Beat) (beats : List Beat) (one other : List Entry) → IsSession in_turn tells given kept beat beats one → IsSession in_turn tells given kept beat beats other → one ≡ other
+    session_same kept beat beats one other x y =
+        let opening : x.opening ≡ y.opening = opening_same kept beat.reading x.opening y.opening x.opens y.opens in
         let fs = Follow-split kept x.opening x.ticks (subst (Follow kept) x.are (Follow-split [] kept one x.legal).1) in
         let gs = Follow-split kept y.opening y.ticks (subst (Follow kept) y.are (Follow-split [] kept other y.legal).1) in
-        let ticks : x.ticks ≡ y.ticks = ticks_same (kept ++ y.opening) (reading ∷ readings) x.ticks y.ticks
+        let ticks : x.ticks ≡ y.ticks = ticks_same (kept ++ y.opening) (beat ∷ beats) x.ticks y.ticks
         (subst (λ (es : List Entry). Follow (kept ++ es) x.ticks) opening fs.1) gs.1
-        (subst (λ (es : List Entry). TicksAt tells given (kept ++ es) (reading ∷ readings) x.ticks) opening x.ticks_at) y.ticks_at in
+        (subst (λ (es : List Entry). TicksAt in_turn tells given (kept ++ es) (beat ∷ beats) x.ticks) opening x.ticks_at) y.ticks_at in
         x.are ∙ (ap (λ (es : List Entry). es ++ x.ticks) opening ∙ (ap (λ (es : List Entry). y.opening ++ es) ticks ∙ sym y.are))
 
 pub same_entries : (tells : Type 0) → SameEntries tells
-same_entries tells given kept reading readings one other sole = session_same tells given sole kept reading readings one other
+same_entries tells given kept beat beats one other sole = session_same tells given sole kept beat beats one other

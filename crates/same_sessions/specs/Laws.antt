@@ -12,7 +12,8 @@ use Rattle.generated_changes.specs.Generated as load
 use Rattle.publisher_core.specs.Stepping.{STEP_BYTES}
 use Rattle.entry_model.specs.declared.entry.Entry.{Entry}
 use Rattle.session_model.specs.Given.{Given, Source}
-use Rattle.session_model.specs.Sessions.{IsSession}
+use Rattle.session_model.specs.Orders.{in_turn}
+use Rattle.session_model.specs.Sessions.{Beat, IsSession}
 use Rattle.session_model.specs.Taking.{GivesStep}
 
 -- behind one list two steps of the source add the same
@@ -20,12 +21,12 @@ abbrev pub GivesOne : Type 0 → Given → Source → Type 0
 GivesOne tells given source =
     (kept one other : List Entry) → GivesStep tells given kept source one → GivesStep tells given kept source other → one ≡ other
 
--- Then two sessions that are given the same, behind the same list and at the same readings, add the same entries: what they answer, what expires and
--- how they are configured is settled by the list before it.
+-- Then two sessions of one thread that are given the same, behind the same list and at the same beats, add the same entries: what they answer, what
+-- expires, how they are configured and what is acknowledged is settled by the list before it and by the answers that were polled.
 abbrev pub SameEntries : Type 0 → Type 0
 SameEntries tells =
-    (given : Given) (kept : List Entry) (reading : ℕ) (readings : List ℕ) (one other : List Entry) → All (GivesOne tells given) given.sources
-    → IsSession tells given kept reading readings one → IsSession tells given kept reading readings other → one ≡ other
+    (given : Given) (kept : List Entry) (first : Beat) (beats : List Beat) (one other : List Entry) → All (GivesOne tells given) given.sources
+    → IsSession in_turn tells given kept first beats one → IsSession in_turn tells given kept first beats other → one ≡ other
 
 -- Each line has at most so many bytes, and so many records of such lines, each with its line feed, have no more than a step reads: each step is
 -- full by its records, or takes all lines.
@@ -41,9 +42,9 @@ LinesGiveOne tells = (given : Given) (source : Source) → tells → source.kind
 -- So a session that is given a load as its one source, by steps of a hundred records, adds one list.
 abbrev pub SameLoads : Type 0 → Type 0
 SameLoads tells =
-    (given : Given) (kept : List Entry) (reading : ℕ) (readings : List ℕ) (one other : List Entry) (name : List ℕ) (from count : ℕ) → tells
+    (given : Given) (kept : List Entry) (first : Beat) (beats : List Beat) (one other : List Entry) (name : List ℕ) (from count : ℕ) → tells
     → given.sources ≡ (record { name = name; kind = Changes; bytes = load.lines_of from count }) ∷ [] → given.records ≡ 100 → count ≤ 1000000
-    → IsSession tells given kept reading readings one → IsSession tells given kept reading readings other → one ≡ other
+    → IsSession in_turn tells given kept first beats one → IsSession in_turn tells given kept first beats other → one ≡ other
 
 -- no pack of the document stands in a file of its own
 abbrev pub StandsAlone : List ℕ → Type 0

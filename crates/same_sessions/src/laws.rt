@@ -4,8 +4,8 @@ ghost use Rattle.same_sessions.specs.Laws.{LinesGiveOne, OneConfiguration, SameE
 
 use osq_outside::Source;
 
-/// Two sessions that are given the same, behind the same list and at the same readings of the clock, add the same entries, where no step of theirs
-/// is left open.
+/// Two sessions of one thread that are given the same, behind the same list, at the same readings of the clock and with the same answers polled, add the
+/// same entries, where no step of theirs is left open.
 pub fn same_entries<S: Source>()
     ensures { SameEntries S.tells }
 {}

@@ -1,5 +1,5 @@
 -- Worked sessions, checked on the definitions.
-use Rattle.std.proofs.Common.{ℕ, false, List, [], ◌∷◌, refl, lit≤}
+use Rattle.std.proofs.Common.{ℕ, false, List, [], ◌∷◌, Some, None, refl, lit≤}
 use Rattle.std.proofs.lemmas.List.Elements.{All-nil}
 use Rattle.osq_config.specs.declared.config.Config.{Config}
 use Rattle.config_files.specs.Configurations.{IsConfigOf}
@@ -11,7 +11,8 @@ use Rattle.entry_model.specs.declared.entry.Entry.TheVariants.{Opened, Configure
 use Rattle.entry_model.specs.Legal.{Legal, LegalNext, MayCome}
 use Rattle.pack_rules.specs.Sound.{IsRunnable, IsSound}
 use Rattle.session_model.specs.Given.{Given}
-use Rattle.session_model.specs.Sessions.{IsSession}
+use Rattle.session_model.specs.Orders.{in_turn}
+use Rattle.session_model.specs.Sessions.{IsSession, quiet}
 
 -- what a configuration gives in which nothing is said
 abbrev plain : Config
@@ -21,7 +22,7 @@ abbrev no_queries : Schedule
 no_queries = record { queries = []; events_expiry = 3600; events_max = 50000; form = form.Event }
 
 -- Over no source, such a configuration and an empty list, a session of two ticks opens, is configured once, and ticks twice; the clock goes
--- back before the second tick, which has the moment of the first.
+-- back before the second tick, which has the moment of the first; and there is no batch that the answers behind it could acknowledge.
 module _ (host : Host) (documents : List (List ℕ)) (notes : List ℕ) (is : IsConfigOf documents plain notes) where
   abbrev given : Given
   given = record { host = host; documents = documents; config = plain; sources = []; records = 10000 }
@@ -47,7 +48,7 @@ module _ (host : Host) (documents : List (List ℕ)) (notes : List ℕ) (is : Is
       let again : LegalNext (Opened 1 ∷ Configured documents no_queries 1000 ∷ Ticked 1000 ∷ []) (Ticked 1000) = (on, refl, λ table evented. refl) in
       (refl, ((sound, record { later = lit≤ tt; calendar = lit≤ tt }), (tick, (again, tt))))
 
-  quiet_session : IsSession (Unit {0}) given [] 1000 (940 ∷ []) entries
+  quiet_session : IsSession in_turn (Unit {0}) given [] (quiet 1000) (record { reading = 940; polled = Some 3 ∷ None ∷ [] } ∷ []) entries
   quiet_session = record {
     notes = notes;
     configuration = is;

@@ -11,10 +11,11 @@ use Rattle.entry_model.specs.Values.{moment_of}
 use Rattle.entry_model.specs.Views.{due_queries}
 use Rattle.session_model.specs.Given.{Given, Source}
 use Rattle.session_model.specs.Laws.{Forgets, names_of}
-use Rattle.session_model.specs.Sessions.{PassesAt, TicksAt, quiet}
+use Rattle.session_model.specs.Orders.{in_turn, at_once}
+use Rattle.session_model.specs.Sessions.{Beat, TicksAt}
 use Rattle.session_model.specs.Taking.{GivesStep, GivesSteps, from_source, is_from}
 use Rattle.session_model.specs.Ticking.{Answers, Ticks, expiries_of}
-use Rattle.session_model.specs.Working.{Passes, Works, is_batch, is_part}
+use Rattle.session_model.specs.Working.{Passes, Works, acks_of, is_batch, is_part}
 use Rattle.session_model.proofs.Names.{or_left, or_right}
 use Rattle.session_model.proofs.Steps.{steps_each, steps_parts}
 
@@ -56,15 +57,13 @@ module _ (tells : Type 0) (given : Given) (distinct : IsDistinct bytes_eq (names
           answered = none;
         }
 
-  passes : (kept : List Entry) (moment : ℕ) (own : List Entry) → Ticks tells given kept moment own → Passes tells given kept moment [] own
+  passes : (kept : List Entry) (moment : ℕ) (own : List Entry) → Ticks tells given kept moment own → Passes tells given kept moment own
   passes kept moment own t = record {
     configured = t.configured;
     body = body;
-    sealed = begun ++ body ++ expiries_of (kept ++ (begun ++ body));
     configures = t.configures;
     works = by_turns (kept ++ begun) (kept ++ (begun ++ t.taken)) t.taken t.answered (due_queries (kept ++ (begun ++ t.taken))) t.takes t.answers (ap due_queries behind ∙ t.none);
-    settles = refl;
-    are = t.are ∙ ap (λ (es : List Entry). es ++ expiries_of (kept ++ es)) (append_assoc begun t.taken t.answered) ∙ sym (append-nil (begun ++ body ++ expiries_of (kept ++ (begun ++ body))));
+    are = t.are ∙ ap (λ (es : List Entry). es ++ expiries_of (kept ++ es)) (append_assoc begun t.taken t.answered);
   }
     where
       begun : List Entry
@@ -77,19 +76,24 @@ module _ (tells : Type 0) (given : Given) (distinct : IsDistinct bytes_eq (names
       behind =
           append_assoc kept (Ticked moment ∷ t.configured) (t.taken ++ t.answered) ∙ ap (λ (es : List Entry). kept ++ es) (sym (append_assoc (Ticked moment ∷ t.configured) t.taken t.answered))
 
-  passes_at : (kept : List Entry) (readings : List ℕ) (entries : List Entry) → TicksAt tells given kept readings entries → PassesAt tells given kept (map quiet readings) entries
-  passes_at kept [] entries none = none
-  passes_at kept (reading ∷ readings) entries (own, others, tick, rest, are) =
-      (own, others, passes kept (max reading (moment_of kept)) own tick, passes_at (kept ++ own) readings others rest, are)
+  ticks_at : (kept : List Entry) (beats : List Beat) (entries : List Entry) → TicksAt in_turn tells given kept beats entries → TicksAt at_once tells given kept beats entries
+  ticks_at kept [] entries none = none
+  ticks_at kept (beat ∷ beats) entries (own, others, tick, rest, are) = (
+    own,
+    others,
+    passes kept (max beat.reading (moment_of kept)) own tick,
+    ticks_at (kept ++ (own ++ acks_of (kept ++ own) beat.polled)) beats others rest,
+    are,
+  )
 
 pub forgets : (tells : Type 0) → Forgets tells
-forgets tells given kept reading readings entries distinct s = record {
+forgets tells given kept first beats entries distinct s = record {
   notes = s.notes;
   configuration = s.configuration;
   opening = s.opening;
   ticks = s.ticks;
   opens = s.opens;
-  passes_at = passes_at tells given distinct (kept ++ s.opening) (reading ∷ readings) s.ticks s.ticks_at;
+  ticks_at = ticks_at tells given distinct (kept ++ s.opening) (first ∷ beats) s.ticks s.ticks_at;
   are = s.are;
   legal = s.legal;
 }

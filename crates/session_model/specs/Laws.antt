@@ -6,17 +6,18 @@ use Rattle.entry_model.specs.Fits.{IsDistinct}
 use Rattle.entry_model.specs.Legal.{Legal}
 use Rattle.entry_model.specs.Views.{due_queries}
 use Rattle.session_model.specs.Given.{Given, Source}
-use Rattle.session_model.specs.Sessions.{IsSession, IsSessionInAnyOrder, quiet}
+use Rattle.session_model.specs.Orders.{in_turn, at_once}
+use Rattle.session_model.specs.Sessions.{Beat, IsSession}
 
 abbrev pub names_of : List Source → List (List ℕ)
 names_of sources = map (λ (source : Source). source.name) sources
 
--- A session of one thread over sources of different names is a session in some order, in which nothing is acknowledged. `tells` says whether the
--- sources tell their bytes.
+-- A session of one thread over sources of different names is one in some order, which acknowledges the same. `tells` says whether the sources tell their
+-- bytes.
 abbrev pub Forgets : Type 0 → Type 0
 Forgets tells =
-    (given : Given) (kept : List Entry) (reading : ℕ) (readings : List ℕ) (entries : List Entry) → IsDistinct bytes_eq (names_of given.sources)
-    → IsSession tells given kept reading readings entries → IsSessionInAnyOrder tells given kept (quiet reading) (map quiet readings) entries
+    (given : Given) (kept : List Entry) (first : Beat) (beats : List Beat) (entries : List Entry) → IsDistinct bytes_eq (names_of given.sources)
+    → IsSession in_turn tells given kept first beats entries → IsSession at_once tells given kept first beats entries
 
 -- no session, tick or schedule begins with the entry
 abbrev pub is_within : Entry → Bool

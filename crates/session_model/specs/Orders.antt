@@ -1,8 +1,7 @@
 -- The two orders in which the ticks of a session are worked on.
-use Rattle.std.specs.Prelude.{ℕ, List, [], map}
+use Rattle.std.specs.Prelude.{ℕ, List}
 use Rattle.entry_model.specs.declared.entry.Entry.{Entry}
 use Rattle.session_model.specs.Given.{Given}
-use Rattle.session_model.specs.Sessions.{IsSession, IsSessionInAnyOrder, quiet}
 use Rattle.session_model.specs.Ticking.{Ticks}
 use Rattle.session_model.specs.Working.{Passes}
 
@@ -11,12 +10,7 @@ pub data Order : Type 0 where
   in_turn : Order
   at_once : Order
 
--- what a tick adds at this moment, where nothing is acknowledged
+-- what a tick adds at this moment
 abbrev pub TicksIn : Order → Type 0 → Given → List Entry → ℕ → List Entry → Type 0
 TicksIn in_turn tells given kept moment entries = Ticks tells given kept moment entries
-TicksIn at_once tells given kept moment entries = Passes tells given kept moment [] entries
-
--- what a session adds at these readings of the clock, of which the first is that of the opening
-abbrev pub IsSessionIn : Order → Type 0 → Given → List Entry → ℕ → List ℕ → List Entry → Type 0
-IsSessionIn in_turn tells given kept reading readings entries = IsSession tells given kept reading readings entries
-IsSessionIn at_once tells given kept reading readings entries = IsSessionInAnyOrder tells given kept (quiet reading) (map quiet readings) entries
+TicksIn at_once tells given kept moment entries = Passes tells given kept moment entries

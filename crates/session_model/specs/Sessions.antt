@@ -10,8 +10,8 @@ use Rattle.osq_value.specs.declared.source.SourceKind.TheVariants.{Tables}
 use Rattle.session_model.specs.Configuring.{Configures}
 use Rattle.session_model.specs.Given.{Given, Source}
 use Rattle.session_model.specs.Taking.{GivesSteps}
-use Rattle.session_model.specs.Ticking.{Ticks}
-use Rattle.session_model.specs.Working.{Passes}
+use Rattle.session_model.specs.Orders.{Order, TicksIn}
+use Rattle.session_model.specs.Working.{acks_of}
 
 abbrev pub is_tables : SourceKind → Bool
 is_tables Tables = true
@@ -26,46 +26,32 @@ pub record Opens (tells : Type 0) (given : Given) (kept : List Entry) (reading :
   pub configures : Configures given (kept ++ (Opened (sessions kept + 1) ∷ tables)) (max reading (moment_of kept)) configured
   pub are : entries ≡ Opened (sessions kept + 1) ∷ tables ++ configured ∷ []
 
--- a tick at each of these readings of the clock, or at the moment before where that is later
-abbrev pub TicksAt : Type 0 → Given → List Entry → List ℕ → List Entry → Type 0
-TicksAt tells given kept [] entries = entries ≡ []
-TicksAt tells given kept (reading ∷ readings) entries =
-    (own others : List Entry) × Ticks tells given kept (max reading (moment_of kept)) own × TicksAt tells given (kept ++ own) readings others × (entries ≡ own ++ others)
-
--- A session of one thread at these readings of the clock, of which the first is that of the opening and of the first tick: it opens, and then it ticks. What
--- the configuration gives is a matter of its documents alone, and the list with the session behind it is legal.
-pub record IsSession (tells : Type 0) (given : Given) (kept : List Entry) (reading : ℕ) (readings : List ℕ) (entries : List Entry) : Type 0 where
-  pub notes : List ℕ
-  pub configuration : IsConfigOf given.documents given.config notes
-  pub opening : List Entry
-  pub ticks : List Entry
-  pub opens : Opens tells given kept reading opening
-  pub ticks_at : TicksAt tells given (kept ++ opening) (reading ∷ readings) ticks
-  pub are : entries ≡ opening ++ ticks
-  pub legal : Legal (kept ++ entries)
-
--- what the world gives a tick: the clock's reading, and of each answer that was polled its mark, where the answer is one of this host
+-- What the world gives a tick: the clock's reading, and of each answer that is polled behind its seal the mark. Of an answer that is none of this host
+-- there is no mark.
 pub record Beat : Type 0 where
   pub reading : ℕ
   pub polled : List (Option ℕ)
 
--- a tick of a run without a link
+-- no answer is polled
 abbrev pub quiet : ℕ → Beat
 quiet reading = record { reading = reading; polled = [] }
 
--- the same in any order, with what was polled
-abbrev pub PassesAt : Type 0 → Given → List Entry → List Beat → List Entry → Type 0
-PassesAt tells given kept [] entries = entries ≡ []
-PassesAt tells given kept (beat ∷ beats) entries =
-    (own others : List Entry) × Passes tells given kept (max beat.reading (moment_of kept)) beat.polled own × PassesAt tells given (kept ++ own) beats others × (entries ≡ own ++ others)
+-- A tick at each of these readings of the clock, or at the moment before where that is later; all of it is sealed, and what the answers give that are
+-- polled then is acknowledged.
+abbrev pub TicksAt : Order → Type 0 → Given → List Entry → List Beat → List Entry → Type 0
+TicksAt order tells given kept [] entries = entries ≡ []
+TicksAt order tells given kept (beat ∷ beats) entries =
+    (own others : List Entry) × TicksIn order tells given kept (max beat.reading (moment_of kept)) own
+    × TicksAt order tells given (kept ++ (own ++ acks_of (kept ++ own) beat.polled)) beats others × (entries ≡ (own ++ acks_of (kept ++ own) beat.polled) ++ others)
 
--- A session in whatever order those who work on its ticks come to their turns, which may acknowledge batches.
-pub record IsSessionInAnyOrder (tells : Type 0) (given : Given) (kept : List Entry) (first : Beat) (beats : List Beat) (entries : List Entry) : Type 0 where
+-- A session whose ticks are worked on in this order, at these readings of the clock, of which the first is that of the opening and of the first tick: it
+-- opens, and then it ticks. What the configuration gives is a matter of its documents alone, and the list with the session behind it is legal.
+pub record IsSession (order : Order) (tells : Type 0) (given : Given) (kept : List Entry) (first : Beat) (beats : List Beat) (entries : List Entry) : Type 0 where
   pub notes : List ℕ
   pub configuration : IsConfigOf given.documents given.config notes
   pub opening : List Entry
   pub ticks : List Entry
   pub opens : Opens tells given kept first.reading opening
-  pub passes_at : PassesAt tells given (kept ++ opening) (first ∷ beats) ticks
+  pub ticks_at : TicksAt order tells given (kept ++ opening) (first ∷ beats) ticks
   pub are : entries ≡ opening ++ ticks
   pub legal : Legal (kept ++ entries)

@@ -36,14 +36,11 @@ marks_beyond mark sealed (Some upto ∷ rest) =
 abbrev pub acks_of : List Entry → List (Option ℕ) → List Entry
 acks_of kept polled = map Acked (marks_beyond (acked_upto kept) (length (commits kept)) polled)
 
--- At this moment the tick begins; the session is configured again where that is due; the sources and the due queries have their entries; what is
--- then owed expires; all of that is sealed; and what the answers give that are polled then is acknowledged. Of an answer that is none of this
--- host there is no mark.
-pub record Passes (tells : Type 0) (given : Given) (kept : List Entry) (moment : ℕ) (polled : List (Option ℕ)) (entries : List Entry) : Type 0 where
+-- At this moment the tick begins; the session is configured again where that is due; the sources and the due queries have their entries; and what
+-- is then owed expires.
+pub record Passes (tells : Type 0) (given : Given) (kept : List Entry) (moment : ℕ) (entries : List Entry) : Type 0 where
   pub configured : List Entry
   pub body : List Entry
-  pub sealed : List Entry
   pub configures : ConfiguresAgain given (kept ++ Ticked moment ∷ []) moment configured
   pub works : Works tells given (kept ++ (Ticked moment ∷ configured)) body
-  pub settles : sealed ≡ Ticked moment ∷ configured ++ body ++ expiries_of (kept ++ (Ticked moment ∷ configured ++ body))
-  pub are : entries ≡ sealed ++ acks_of (kept ++ sealed) polled
+  pub are : entries ≡ Ticked moment ∷ configured ++ body ++ expiries_of (kept ++ (Ticked moment ∷ configured ++ body))
