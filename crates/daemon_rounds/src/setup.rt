@@ -16,4 +16,6 @@ pub struct Setup {
     pub ticks: u64,
     /// How many records a step of a source takes at most.
     pub records: u64,
+    /// Whether what is sealed is forwarded through the session's link.
+    pub forward: bool,
 }
