@@ -1,9 +1,9 @@
 -- What sources give that take their steps at once, by the list.
-use Rattle.std.proofs.Common.{◌≡◌, ℕ, ◌||◌, Bool, true, false, cond, List, [], ◌∷◌, ◌++◌, map, Option, Some, None, refl, sym, ap, ◌∙◌, subst, true≢false}
-use Rattle.std.specs.Prelude.{All, bytes_eq, filter, unwrap_or}
+use Rattle.std.proofs.Common.{◌≡◌, ℕ, ◌||◌, Bool, true, false, cond, List, [], ◌∷◌, ◌++◌, map, Option, Some, None, refl, sym, ap, ◌∙◌, subst}
+use Rattle.std.specs.Prelude.{All, filter, unwrap_or}
 use Rattle.std.specs.List.{AllZip, list_any}
 use Rattle.std.proofs.lemmas.List.{append-nil}
-use Rattle.std.proofs.lemmas.List.Elements.{All-append, All-cons, All-head, All-nil, All-tail, All-weaker, filter-append}
+use Rattle.std.proofs.lemmas.List.Elements.{All-cons, All-head, All-nil, All-tail, filter-append}
 use Rattle.osq_value.specs.declared.reading.Category.{Category}
 use Rattle.osq_value.specs.declared.reading.Reading.{Reading}
 use Rattle.osq_value.specs.declared.reading.Reading.TheVariants.{Events, Table}
@@ -21,11 +21,10 @@ use Rattle.session_state.specs.Readings.{entry_of}
 use Rattle.daemon_rounds.specs.Answering.{committed_all}
 use Rattle.daemon_rounds.specs.Appending.{entries_of}
 use Rattle.daemon_rounds.specs.AtOnce.{IsReadingOf, is_work}
-use Rattle.daemon_rounds.specs.Rounding.{names_of}
 use Rattle.daemon_rounds.specs.Turns.{IsTurn, Turn, turn_entries}
 use Rattle.daemon_rounds.specs.declared.turning.Which.TheVariants as which
 use Rattle.replay_rounds.specs.FullTicks.{AreFullParts}
-use Rattle.replay_rounds.specs.Sources.{AreFed, IsFed, IsFullStep}
+use Rattle.replay_rounds.specs.Sources.{AreFed, IsFullStep}
 use Rattle.replay_rounds.proofs.Feeds.{one_fed_on}
 use Rattle.replay_rounds.proofs.Rounds.{IsPlain}
 use Rattle.replay_rounds.proofs.Stepped.{feeds_of, full_step, nexts_of, objects_of, rests_of, step_given, turn_fed}

@@ -1,6 +1,6 @@
 -- How often the entries of a session configure it.
-use Rattle.std.proofs.Common.{◌≡◌, ◌⊎◌, inl, inr, ◌<◌, ℕ, suc, ◌+◌, arith, Bool, true, false, List, [], ◌∷◌, ◌++◌, length, Option, Some, None, refl, sym, ap, ◌∙◌, subst}
-use Rattle.std.specs.Prelude.{◌&&◌, filter_map, nat_le, option_map}
+use Rattle.std.proofs.Common.{◌≡◌, ◌<◌, ℕ, ◌+◌, arith, Bool, true, false, List, [], ◌∷◌, ◌++◌, length, Option, Some, None, refl, sym, ap, ◌∙◌, subst}
+use Rattle.std.specs.Prelude.{◌&&◌, filter_map, option_map}
 use Rattle.std.specs.List.{cons_option}
 use Rattle.std.proofs.lemmas.Bool.{lt-leb}
 use Rattle.std.proofs.lemmas.List.{length-append}
@@ -9,23 +9,20 @@ use Rattle.osq_value.specs.declared.reading.Reading.{Reading}
 use Rattle.osq_value.specs.declared.reading.Reading.TheVariants.{Events, Table}
 use Rattle.osq_config.specs.declared.config.Config.{Config}
 use Rattle.pack_rules.specs.declared.host.Host.{Host}
-use Rattle.source_feeds.specs.Feeding.{Feeding}
 use Rattle.entry_model.specs.declared.entry.Batch.{Batch}
 use Rattle.entry_model.specs.declared.entry.Entry.{Entry}
-use Rattle.entry_model.specs.declared.entry.Entry.TheVariants.{Expired, Ticked}
+use Rattle.entry_model.specs.declared.entry.Entry.TheVariants.{Expired}
 use Rattle.session_model.specs.Configuring.{configured_in}
 use Rattle.session_state.specs.Kept.{Kept}
 use Rattle.session_state.specs.Ticks.{owed_at}
-use Rattle.daemon_rounds.specs.Adding.{AddsEntries}
 use Rattle.daemon_rounds.specs.Answering.{committed_all}
 use Rattle.daemon_rounds.specs.Appending.{entries_of}
 use Rattle.daemon_rounds.specs.Keeping.{Settles}
 use Rattle.daemon_rounds.specs.Rounding.{round_entries}
 use Rattle.daemon_rounds.specs.Ticking.{ConfiguresAgain, asks_again, has_discovery}
 use Rattle.daemon_rounds.specs.Turns.{Turn, turn_entries}
-use Rattle.daemon_rounds.specs.declared.setup.Setup.{Setup}
 use Rattle.replay_rounds.specs.Noting.{configurations}
-use Rattle.replay_rounds.proofs.Again.{again_brings, again_entries}
+use Rattle.replay_rounds.proofs.Again.{again_entries}
 
 pub configurations-append : (xs ys : List Entry) → configurations (xs ++ ys) ≡ configurations xs + configurations ys
 configurations-append xs ys =

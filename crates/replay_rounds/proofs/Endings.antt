@@ -10,7 +10,7 @@ use Rattle.entry_model.specs.Values.{taken_from}
 use Rattle.session_model.specs.Given.{Given, Source}
 use Rattle.session_model.specs.Taking.{IsReadWhole}
 use Rattle.replay_rounds.specs.Sources.{AreFed, AreFullOrOver, AreFullSteps, HadFullSteps, HasFullStep, IsFed, IsFull, IsFullStep, IsUnended, all_over}
-use Rattle.replay_rounds.proofs.Full.{HasSteps, HaveSteps, had_steps}
+use Rattle.replay_rounds.proofs.Full.{HaveSteps, had_steps}
 use Rattle.replay_rounds.specs.FullTicks.{AreFullParts, HasFullPart, HasFullTick, IsFullTick}
 use Rattle.session_model.specs.Orders.{Order, at_once, in_turn}
 use Rattle.entry_model.specs.declared.entry.Entry.TheVariants.{Ticked}

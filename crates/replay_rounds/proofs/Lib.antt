@@ -12,7 +12,9 @@ pub mod Feeds
 pub mod Filled
 pub mod Full
 pub mod Grown
+pub mod Linked
 pub mod Looping
+pub mod Nexts
 pub mod Noted
 pub mod Nothing
 pub mod OpenedSession

@@ -1,6 +1,6 @@
 -- A session that opened by the state opened by the list.
 use Rattle.std.proofs.Common.{◌≡◌, ℕ, ◌+◌, List, [], ◌∷◌, ◌++◌, Some, refl, sym, ap, ◌∙◌, subst, append_assoc, arith}
-use Rattle.std.specs.Prelude.{All, bytes_eq, filter, max, false}
+use Rattle.std.specs.Prelude.{All, bytes_eq, filter, max}
 use Rattle.std.proofs.lemmas.List.{append-nil}
 use Rattle.std.proofs.lemmas.List.Elements.{All-append, All-cons, All-nil}
 use Rattle.osq_config.specs.declared.config.Config.{Config}
@@ -24,7 +24,6 @@ use Rattle.session_model.specs.Sessions.{is_tables}
 use Rattle.session_model.specs.Taking.{GivesSteps}
 use Rattle.session_state.specs.Kept.{Counts, Kept}
 use Rattle.session_state.specs.StateOf.{IsStateOf}
-use Rattle.daemon_rounds.specs.Adding.{AreFree}
 use Rattle.daemon_rounds.specs.Moments.{IsRead}
 use Rattle.daemon_rounds.specs.Opening.{Opens}
 use Rattle.daemon_rounds.specs.Rounding.{AreGoing, names_of, round_entries}

@@ -1,5 +1,5 @@
 -- Where the entries of a session configure it, and what discovery sees there.
-use Rattle.std.proofs.Common.{◌≡◌, ℕ, suc, ◌+◌, ◌≤◌, Bool, true, false, List, [], ◌∷◌, ◌++◌, length, map, flat_map, Option, None, Some, refl, sym, ap, ◌∙◌, subst, append_assoc, arith}
+use Rattle.std.proofs.Common.{◌≡◌, ℕ, ◌+◌, ◌≤◌, Bool, true, false, List, [], ◌∷◌, ◌++◌, length, map, flat_map, Option, None, Some, refl, sym, ap, ◌∙◌, append_assoc, arith}
 use Rattle.std.specs.Prelude.{◌==◌, if◌then◌else◌, filter, filter_map, nat_lt, option_map, pos, unwrap_or}
 use Rattle.std.specs.List.{cons_option}
 use Rattle.std.proofs.lemmas.List.{append-nil}
@@ -17,7 +17,7 @@ use Rattle.query_answers.specs.Discovery.{is_found}
 use Rattle.sql_meaning.specs.Meaning.{View}
 use Rattle.entry_model.specs.declared.entry.Batch.{Batch}
 use Rattle.entry_model.specs.declared.entry.Entry.{Entry}
-use Rattle.entry_model.specs.declared.entry.Entry.TheVariants.{Configured, Ticked}
+use Rattle.entry_model.specs.declared.entry.Entry.TheVariants.{Acked, Configured, Ticked}
 use Rattle.entry_model.specs.declared.restored.Live.{Live}
 use Rattle.entry_model.specs.Values.{batch_in, commits, events_in, floor_in, floor_of, is_above, no_schedule, numbered, rows_in as rows_set, same_key, schedule_in, schedule_of, table_set, time_of}
 use Rattle.entry_model.specs.Views.{evented_ids, is_evented_table, is_recorded_table, table_name}
@@ -32,10 +32,11 @@ use Rattle.daemon_rounds.specs.Ticking.{ConfiguresAgain, asks_again}
 use Rattle.daemon_rounds.specs.declared.setup.Setup.{Setup}
 use Rattle.daemon_rounds.proofs.Configured.{tables_same}
 use Rattle.source_feeds.specs.Feeding.{Feeding}
+use Rattle.forward_rounds.proofs.Acks.{commits_behind, events_behind, last_behind, schedule_of_behind}
 use Rattle.replay_rounds.specs.Noting.{ArePlacesBut, Place, configurations, places_of}
 use Rattle.replay_rounds.specs.Ticked.{TickDone}
 use Rattle.replay_rounds.proofs.Again.{again_brings, again_entries}
-use Rattle.replay_rounds.proofs.Counted.{configurations-append, none-append, settled_none, CountNone, again_counted, count_of, tail_counted}
+use Rattle.replay_rounds.proofs.Counted.{configurations-append, none-append, settled_none, again_counted, count_of, tail_counted}
 use Rattle.session_model.specs.Orders.{Order}
 use Rattle.replay_rounds.proofs.Rounds.{Gives, gives, plain_none}
 
@@ -58,6 +59,19 @@ places-append list [] ys = ap (λ (l : List Entry). places_of l ys) (sym (append
 places-append list (x ∷ xs) ys =
     one_more (option_map (λ (moment : ℕ). record { list = list; moment = moment }) (configured_in x)) (places_of (list ++ x ∷ []) (xs ++ ys)) (places_of (list ++ x ∷ []) xs) (places_of (list ++ (x ∷ xs)) ys)
     (places-append (list ++ x ∷ []) xs ys ∙ ap (λ (l : List Entry). places_of (list ++ x ∷ []) xs ++ places_of l ys) (append_assoc list (x ∷ []) xs))
+
+-- acknowledgements configure nothing
+acks_none : (marks : List ℕ) → configurations (map Acked marks) ≡ 0
+acks_none [] = refl
+acks_none (mark ∷ marks) = acks_none marks
+
+pub places_acked : (list entries : List Entry) (marks : List ℕ) → places_of list (entries ++ map Acked marks) ≡ places_of list entries
+places_acked list entries marks =
+    places-append list entries (map Acked marks) ∙ ap (λ (places : List Place). places_of list entries ++ places) (places_none (list ++ entries) (map Acked marks) (acks_none marks)) ∙ append-nil (places_of list entries)
+
+places_behind_acks : (list : List Entry) (marks : List ℕ) (entries : List Entry) → places_of list (map Acked marks ++ entries) ≡ places_of (list ++ map Acked marks) entries
+places_behind_acks list marks entries =
+    places-append list (map Acked marks) entries ∙ ap (λ (places : List Place). places ++ places_of (list ++ map Acked marks) entries) (places_none list (map Acked marks) (acks_none marks))
 
 -- one where a session is configured again, else none
 abbrev pub again_places : Bool → Place → List Place
@@ -113,13 +127,15 @@ module _ {S : Type 0} (order : Order) (tells : Type 0) (left : S → List ℕ) (
       ∙ ap (λ (es : List Entry). es ++ anew) done.fills.ticks.tail ∙ append_assoc old.tail (Ticked moment ∷ []) anew))
       ∙ append_assoc (old.tail ++ (Ticked moment ∷ anew)) taken answered ∙ append_assoc old.tail (Ticked moment ∷ anew) (taken ++ answered)
 
-  pub tick_places : (list : List Entry) → old.tail ≡ [] → places_of list settled.tail ≡ again_places (asks_again config configured_at moment) (tick_place list moment)
-  tick_places list empty =
-      ap (places_of list) (tail_is ∙ ap (λ (es : List Entry). es ++ ((Ticked moment ∷ anew) ++ (taken ++ answered))) empty)
-      ∙ places-append list (Ticked moment ∷ anew) (taken ++ answered)
-      ∙ ap (λ (places : List Place). places_of list (Ticked moment ∷ anew) ++ places) (places_none (list ++ (Ticked moment ∷ anew)) (taken ++ answered) others_none)
-      ∙ append-nil (places_of list (Ticked moment ∷ anew))
-      ∙ anew_places list (asks_again config configured_at moment) config documents setup.host moment done.fills.ticked done.fills.configured done.fills.again
+  pub tick_places : (list : List Entry) (marks : List ℕ) → old.tail ≡ map Acked marks → places_of list settled.tail ≡ again_places (asks_again config configured_at moment) (tick_place (list ++ map Acked marks) moment)
+  tick_places list marks acked =
+      let behind = list ++ map Acked marks in
+      ap (places_of list) (tail_is ∙ ap (λ (es : List Entry). es ++ ((Ticked moment ∷ anew) ++ (taken ++ answered))) acked)
+      ∙ places_behind_acks list marks ((Ticked moment ∷ anew) ++ (taken ++ answered))
+      ∙ places-append behind (Ticked moment ∷ anew) (taken ++ answered)
+      ∙ ap (λ (places : List Place). places_of behind (Ticked moment ∷ anew) ++ places) (places_none (behind ++ (Ticked moment ∷ anew)) (taken ++ answered) others_none)
+      ∙ append-nil (places_of behind (Ticked moment ∷ anew))
+      ∙ anew_places behind (asks_again config configured_at moment) config documents setup.host moment done.fills.ticked done.fills.configured done.fills.again
 
 -- a tick that isn't sealed may have configured the session
 abbrev unsealed_tick : Bool → ℕ → List Entry
@@ -134,14 +150,22 @@ unsealed_places : (list : List Entry) (again : Bool) (moment : ℕ) → places_o
 unsealed_places list true moment = refl
 unsealed_places list false moment = refl
 
+unsealed_count : (marks : List ℕ) (again : Bool) (moment : ℕ) → configurations (map Acked marks ++ unsealed_tick again moment) ≤ 1
+unsealed_count marks again moment =
+    let all = configurations-append (map Acked marks) (unsealed_tick again moment) in
+    let none = acks_none marks in
+    let once = unsealed_once again moment in
+    omega (arith, all, none, once)
+
 -- the places of a list behind which a tick isn't sealed
-pub places_unsealed : (start kept next entries : List Entry) (again : Bool) (moment : ℕ) → kept ≡ start ++ entries → next ≡ kept → ArePlacesBut start next (places_of start entries ++ again_places again (tick_place (start ++ entries) moment))
-places_unsealed start kept next entries again moment is same = (
+pub places_unsealed : (start kept next entries : List Entry) (marks : List ℕ) (again : Bool) (moment : ℕ) → kept ≡ start ++ entries → next ≡ kept → ArePlacesBut start next (places_of start entries ++ again_places again (tick_place ((start ++ entries) ++ map Acked marks) moment))
+places_unsealed start kept next entries marks again moment is same = (
   entries,
-  unsealed_tick again moment,
+  map Acked marks ++ unsealed_tick again moment,
   same ∙ is,
-  unsealed_once again moment,
-  sym (places-append start entries (unsealed_tick again moment) ∙ ap (λ (places : List Place). places_of start entries ++ places) (unsealed_places (start ++ entries) again moment)),
+  unsealed_count marks again moment,
+  sym (places-append start entries (map Acked marks ++ unsealed_tick again moment)
+      ∙ ap (λ (places : List Place). places_of start entries ++ places) (places_behind_acks (start ++ entries) marks (unsealed_tick again moment) ∙ unsealed_places ((start ++ entries) ++ map Acked marks) again moment)),
 )
 
 -- and of one behind which it is
@@ -193,7 +217,17 @@ tables_ticked list begun moment = λ i. seen (events i) (floors i) (sets i) (bat
   schedules : schedule_of (list ++ tick) ≡ schedule_of list
   schedules = last_of-append schedule_in no_schedule list tick
 
--- what discovery finds over the tables of a state is what it finds in a tick that begins behind the list
-pub found_ticked : (given : Given) (list : List Entry) (state : Kept) (moment : ℕ) → IsState state → HasValues list state → found_now given.config state moment ≡ found_behind given (list ++ Ticked moment ∷ []) moment
-found_ticked given list state moment is has =
-    ap (λ (view : View). map (is_found view) given.config.packs) (tables_same list state moment is has ∙ sym (tables_ticked list moment moment))
+-- nor do acknowledgements
+tables_acked : (list : List Entry) (marks : List ℕ) (moment : ℕ) → tables_of (list ++ map Acked marks) moment ≡ tables_of list moment
+unfolding seen
+tables_acked list marks moment = λ i. seen (events_behind list marks i) (floors i) (sets i) (commits_behind list marks i) (schedule_of_behind list marks i) moment where
+  floors : floor_of (list ++ map Acked marks) ≡ floor_of list
+  floors = λ i table. last_behind (floor_in table) (λ upto. refl) 0 list marks i
+
+  sets : table_set (list ++ map Acked marks) ≡ table_set list
+  sets = λ i table. last_behind (rows_set table) (λ upto. refl) None list marks i
+
+-- what discovery finds over the tables of a state is what it finds in a tick that begins behind the list and acknowledgements
+pub found_ticked : (given : Given) (list : List Entry) (state : Kept) (marks : List ℕ) (moment : ℕ) → IsState state → HasValues list state → found_now given.config state moment ≡ found_behind given ((list ++ map Acked marks) ++ Ticked moment ∷ []) moment
+found_ticked given list state marks moment is has =
+    ap (λ (view : View). map (is_found view) given.config.packs) (tables_same list state moment is has ∙ sym (tables_acked list marks moment) ∙ sym (tables_ticked (list ++ map Acked marks) moment moment))

@@ -1,5 +1,5 @@
 -- What a round of the sources gives, in either order.
-use Rattle.std.proofs.Common.{◌≡◌, ℕ, Bool, true, false, List, [], ◌∷◌, Option, None, refl, sym, ap, ◌∙◌}
+use Rattle.std.proofs.Common.{◌≡◌, ℕ, true, false, List, [], ◌∷◌, Option, None, refl, sym, ap, ◌∙◌}
 use Rattle.std.specs.Prelude.{All, length, filter_map, unwrap_or}
 use Rattle.std.specs.List.{cons_option, list_any}
 use Rattle.std.proofs.lemmas.Bool.{true≢false}
@@ -23,8 +23,6 @@ use Rattle.daemon_rounds.specs.Turns.{IsTurn, Turn}
 use Rattle.daemon_rounds.specs.declared.turning.Which.TheVariants as which
 use Rattle.daemon_rounds.proofs.Adding.{gains_of}
 use Rattle.daemon_rounds.proofs.Opened.{round_tellable}
-use Rattle.replay_rounds.specs.Noting.{configurations}
-use Rattle.replay_rounds.specs.OneTick.{is_tick}
 use Rattle.replay_rounds.proofs.Counted.{CountNone}
 use Rattle.replay_rounds.proofs.Ticks.{NoTick, round_all}
 use Rattle.replay_rounds.proofs.Unconfigured.{ConfigureNothing}

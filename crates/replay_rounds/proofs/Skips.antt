@@ -1,6 +1,6 @@
 -- What the feeds of a session that ends early have counted.
-use Rattle.std.proofs.Common.{◌≡◌, ◌⊎◌, inl, inr, ℕ, ◌≤◌, List, [], ◌∷◌, ◌++◌, length, refl, sym, ap, ◌∙◌, subst, arith}
-use Rattle.std.specs.Prelude.{bytes_eq, drop}
+use Rattle.std.proofs.Common.{◌≡◌, ◌⊎◌, inl, inr, ℕ, List, [], ◌∷◌, ◌++◌, refl, sym, ap, ◌∙◌, subst, arith}
+use Rattle.std.specs.Prelude.{bytes_eq}
 use Rattle.std.proofs.lemmas.List.{append-nil}
 use Rattle.osq_config.specs.declared.config.Config.{Config}
 use Rattle.osq_outside.specs.Causes.{Rose}
@@ -20,7 +20,7 @@ use Rattle.daemon_rounds.specs.Starting.{source_names}
 use Rattle.daemon_rounds.specs.Turns.{StillCounts}
 use Rattle.daemon_rounds.specs.declared.setup.Setup.{Setup}
 use Rattle.daemon_rounds.proofs.Counting.{all_count}
-use Rattle.replay_rounds.specs.Fixed.{Fixed, fixed_with}
+use Rattle.replay_rounds.specs.Fixed.{Fixed, Linked, fixed_with}
 use Rattle.replay_rounds.specs.Noting.{CountsTo, HasCounted, HasToldSome, HaveCounted, skipped_lines}
 use Rattle.replay_rounds.specs.Sources.{AreFed, IsFed}
 use Rattle.replay_rounds.proofs.Feeds.{fed_lengths}
@@ -104,6 +104,14 @@ counts_on left x entries list feeds nexts objects rest fed still = record {
   counted = λ told. all_counted x.source_tells left x.given.config.categories x.start (x.start ++ entries) x.given.sources feeds nexts objects (fed told) still;
 }
 
+-- and the feeds are as they were
+pub counts_over : {S : Type 0} (left : S → List ℕ) (x : Fixed) (entries list : List Entry) (feeds : List Feeding) (objects : List S) → (x.keeper_tells → HasRest x list entries) → (x.keeper_tells → AreFed x.source_tells left x.given.config.categories x.start (x.start ++ entries) x.given.sources feeds objects) → CountsTo x list feeds
+counts_over left x entries list feeds objects rest fed = record {
+  front = entries;
+  kept_are = rest;
+  counted = λ told. same_counted x.source_tells left x.given.config.categories x.start (x.start ++ entries) x.given.sources feeds objects (fed told);
+}
+
 -- and no more of it was kept
 pub counts_now : {S : Type 0} (left : S → List ℕ) (x : Fixed) (entries list : List Entry) (feeds : List Feeding) (objects : List S) → (x.keeper_tells → list ≡ x.start ++ entries) → (x.keeper_tells → AreFed x.source_tells left x.given.config.categories x.start (x.start ++ entries) x.given.sources feeds objects) → CountsTo x list feeds
 counts_now left x entries list feeds objects is fed = record {
@@ -113,14 +121,14 @@ counts_now left x entries list feeds objects is fed = record {
 }
 
 -- what a session told that ends before its first tick
-pub told_opening : {S C : Type 0} (order : Order) (keeper_tells sink_tells tells : Type 0) (left : S → List ℕ) (faults : S → ℕ) (setup : Setup) (config : Config) (documents : List (List ℕ)) (sources : List S) (start : List Entry) (before : List ℕ) (reads : C → ℕ → C → Type 0) (clock now : C) (restored : Restored) (kept : List Entry) (rests : List S)
+pub told_opening : {S C : Type 0} (order : Order) (keeper_tells sink_tells tells : Type 0) (left : S → List ℕ) (faults : S → ℕ) (setup : Setup) (config : Config) (documents : List (List ℕ)) (sources : List S) (start : List Entry) (before : List ℕ) (link : Linked) (reads : C → ℕ → C → Type 0) (clock now : C) (restored : Restored) (kept : List Entry) (rests : List S)
     → (keeper_tells → restored ≡ summary start) → (keeper_tells → kept ≡ start) → IsDistinct bytes_eq (source_names setup.sources) → (left_out was is : List ℕ) (first second : ℕ)
     → ((is ≡ was) ⊎ ((moment : ℕ) × (feeds : List Feeding) × (state : Kept) × IsOpen tells left faults reads setup config documents restored clock now sources rests moment feeds state × (is ≡ was ++ skipped_lines feeds))) ⊎ Rose first second
-    → HasToldSome (fixed_with order keeper_tells sink_tells tells left setup config documents sources start before) kept left_out was is ⊎ Rose first second
-told_opening order keeper_tells sink_tells tells left faults setup config documents sources start before reads clock now restored kept rests same kept_is distinct left_out was is first second (inl (inl none)) =
-    told_none (fixed_with order keeper_tells sink_tells tells left setup config documents sources start before) kept left_out was was is first first second [] (λ told. places_still start kept (kept_is told)) (noted_none (fixed_with order keeper_tells sink_tells tells left setup config documents sources start before) left_out was) (inl none) (omega arith)
-told_opening order keeper_tells sink_tells tells left faults setup config documents sources start before reads clock now restored kept rests same kept_is distinct left_out was is first second (inl (inr (moment, feeds, state, opened, skipped))) =
-    let o = (opens_here order keeper_tells sink_tells tells left faults setup config documents sources start before reads clock now restored kept feeds feeds rests moment state same kept_is distinct opened refl).0 in
-    told_some (fixed_with order keeper_tells sink_tells tells left setup config documents sources start before) kept left_out was was is first first second [] feeds
-    (counts_opened left (fixed_with order keeper_tells sink_tells tells left setup config documents sources start before) _ kept feeds rests kept_is o.standing.fed) (λ told. places_still start kept (kept_is told)) (noted_none (fixed_with order keeper_tells sink_tells tells left setup config documents sources start before) left_out was) (inl (inr skipped)) (omega arith)
-told_opening order keeper_tells sink_tells tells left faults setup config documents sources start before reads clock now restored kept rests same kept_is distinct left_out was is first second (inr rose) = inr rose
+    → HasToldSome (fixed_with order keeper_tells sink_tells tells left setup config documents sources start before link) kept left_out was is ⊎ Rose first second
+told_opening order keeper_tells sink_tells tells left faults setup config documents sources start before link reads clock now restored kept rests same kept_is distinct left_out was is first second (inl (inl none)) =
+    told_none (fixed_with order keeper_tells sink_tells tells left setup config documents sources start before link) kept left_out was was is first first second [] (λ told. places_still start kept (kept_is told)) (noted_none (fixed_with order keeper_tells sink_tells tells left setup config documents sources start before link) left_out was) (inl none) (omega arith)
+told_opening order keeper_tells sink_tells tells left faults setup config documents sources start before link reads clock now restored kept rests same kept_is distinct left_out was is first second (inl (inr (moment, feeds, state, opened, skipped))) =
+    let o = (opens_here order keeper_tells sink_tells tells left faults setup config documents sources start before link reads clock now restored kept feeds feeds rests moment state same kept_is distinct opened refl).0 in
+    told_some (fixed_with order keeper_tells sink_tells tells left setup config documents sources start before link) kept left_out was was is first first second [] feeds
+    (counts_opened left (fixed_with order keeper_tells sink_tells tells left setup config documents sources start before link) _ kept feeds rests kept_is o.standing.fed) (λ told. places_still start kept (kept_is told)) (noted_none (fixed_with order keeper_tells sink_tells tells left setup config documents sources start before link) left_out was) (inl (inr skipped)) (omega arith)
+told_opening order keeper_tells sink_tells tells left faults setup config documents sources start before link reads clock now restored kept rests same kept_is distinct left_out was is first second (inr rose) = inr rose

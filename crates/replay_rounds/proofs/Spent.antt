@@ -1,11 +1,11 @@
 -- A session in which a number is spent.
 use Rattle.std.proofs.Common.{◌≡◌, ℕ, ◌+◌, ◌<◌, List, [], ◌∷◌, ◌++◌, length, inl, inr, refl, sym, ap, ◌∙◌, subst, append_assoc, zero, suc}
-use Rattle.std.specs.Prelude.{◌^◌, bytes_eq, max, ◌⊎◌, All, Contains, Some, true, slice_get}
+use Rattle.std.specs.Prelude.{◌^◌, bytes_eq, map, max, ◌⊎◌, All, Contains, Option, Some, true, slice_get}
 use Rattle.std.proofs.lemmas.List.{append-nil}
 use Rattle.osq_config.specs.declared.config.Config.{Config}
 use Rattle.source_feeds.specs.Feeding.{Feeding}
 use Rattle.entry_model.specs.declared.entry.Entry.{Entry}
-use Rattle.entry_model.specs.declared.entry.Entry.TheVariants.{Opened, Ticked}
+use Rattle.entry_model.specs.declared.entry.Entry.TheVariants.{Acked, Opened, Ticked}
 use Rattle.entry_model.specs.declared.restored.Restored.{Restored}
 use Rattle.entry_model.specs.Fits.{IsDistinct}
 use Rattle.entry_model.specs.Legal.{Legal}
@@ -14,7 +14,8 @@ use Rattle.entry_model.specs.Summary.{summary}
 use Rattle.entry_model.specs.Values.{commits, moment_in, moment_of, events_in}
 use Rattle.entry_model.proofs.Lasts.{last_of-append}
 use Rattle.entry_model.proofs.Summaries.{taken_is}
-use Rattle.session_model.specs.Given.{Source}
+use Rattle.session_model.specs.Given.{Given, Source}
+use Rattle.session_model.specs.Sessions.{Beat}
 use Rattle.session_state.specs.Kept.{Counts, Kept}
 use Rattle.session_state.specs.StateOf.{HasValues}
 use Rattle.daemon_rounds.specs.Adding.{AreFree}
@@ -27,8 +28,10 @@ use Rattle.daemon_rounds.specs.declared.setup.Setup.{Setup}
 use Rattle.daemon_rounds.specs.declared.turning.Which.TheVariants as which
 use Rattle.daemon_rounds.proofs.Adding.{gains_of, gains_then}
 use Rattle.daemon_rounds.proofs.Started.{all_going}
-use Rattle.replay_rounds.specs.Fixed.{Fixed, fixed_with}
-use Rattle.replay_rounds.specs.Running.{run_by}
+use Rattle.forward_rounds.specs.Forwarding.{View}
+use Rattle.replay_rounds.specs.Fixed.{Fixed, Linked, fixed_with}
+use Rattle.replay_rounds.specs.Linking.{IsAcked, readings_of}
+use Rattle.replay_rounds.specs.Running.{Grows, run_by}
 use Rattle.replay_rounds.specs.Sources.{AreFed, IsFed}
 use Rattle.replay_rounds.specs.Spent.{AnswersFront, RanOutOfNumbers, SpendsAt, StepsSpend, TickSpends, ReadingSpends}
 use Rattle.replay_rounds.specs.Standing.{Standing}
@@ -40,7 +43,9 @@ use Rattle.replay_rounds.proofs.Feeds.{fed_on, fed_names}
 use Rattle.replay_rounds.proofs.Nothing.{nothing_behind, opened_nothing}
 use Rattle.replay_rounds.proofs.OpenedSession.{OpensSession}
 use Rattle.replay_rounds.proofs.Overrun.{overflow_brings, overflow_entries, overflow_spends, tables_keep, count_is}
-use Rattle.replay_rounds.proofs.Ran.{IsAdded, all_kept, moment_is, reads_more}
+use Rattle.replay_rounds.proofs.Linked.{heard_none}
+use Rattle.replay_rounds.proofs.Ran.{HeardIn, IsAdded, acked_standing, all_kept, grows, heard_acks, moment_is, read_all, reads_more}
+use Rattle.replay_rounds.proofs.Sessions.{at_beat}
 use Rattle.replay_rounds.proofs.Stepped.{every_source, rounds_taken, step_taken}
 use Rattle.session_model.specs.Orders.{Order, at_once, in_turn}
 use Rattle.daemon_rounds.specs.AtOnce.{Gains, GivesTooMuch, SpendsAtOnce, WorksAtOnce, is_work}
@@ -48,7 +53,7 @@ use Rattle.daemon_rounds.specs.Orders.{RoundsIn, SpendsIn}
 use Rattle.osq_value.specs.declared.reading.Category.{Category}
 use Rattle.std.proofs.lemmas.List.Elements.{All-append, All-weaker}
 use Rattle.session_model.specs.Taking.{TakesStep}
-use Rattle.session_model.specs.Working.{is_part}
+use Rattle.session_model.specs.Working.{acks_of, is_part}
 use Rattle.session_state.specs.Readings.{entry_of}
 use Rattle.daemon_rounds.specs.Appending.{entries_of}
 use Rattle.replay_rounds.proofs.AtOnce.{batches_work, work_part}
@@ -62,6 +67,11 @@ pub record SpendsBehind (order : Order) (x : Fixed) (added : List Entry) (moment
   pub own : List Entry
   pub legal : x.keeper_tells → Legal x.start → Legal ((x.start ++ added) ++ own)
   pub spends : x.keeper_tells → x.source_tells → Legal x.start → TickSpends order x.given (x.start ++ added) moment own
+
+-- a tick that spends the numbers, behind others
+spends_behind : (order : Order) (tells : Type 0) (given : Given) (kept : List Entry) (beats : List Beat) (beat : Beat) (polled : List (Option ℕ)) (reading : ℕ) (entries : List Entry) → (own : List Entry) × TickSpends order given (kept ++ acks_of kept polled) (max reading (moment_of kept)) own × (entries ≡ acks_of kept polled ++ own) → SpendsAt order tells given kept (beats ++ beat ∷ []) polled reading entries
+spends_behind order tells given kept [] beat polled reading entries spends = spends
+spends_behind order tells given kept (first ∷ beats) beat polled reading entries spends = spends
 
 -- the source whose feed and object stand at this place
 fed_at : {S : Type 0} (tells : Type 0) (left : S → List ℕ) (paths : List Category) (start now : List Entry) (sources : List Source) (feeds : List Feeding) (objects : List S) → AreFed tells left paths start now sources feeds objects → (place : ℕ) (feed : Feeding) (object : S) → slice_get feeds place ≡ Some feed → slice_get objects place ≡ Some object → (source : Source) × Contains sources source × IsFed tells left paths start now source feed object
@@ -229,18 +239,20 @@ module _ {S : Type 0} (left : S → List ℕ) (faults : S → ℕ) (x : Fixed) (
   round_spends in_turn new o = by_events new o
   round_spends at_once new o = by_work o
 
-module _ {S C : Type 0} (order : Order) (keeper_tells sink_tells tells : Type 0) (left : S → List ℕ) (faults : S → ℕ) (setup : Setup) (config : Config) (documents : List (List ℕ)) (sources : List S) (start : List Entry) (before : List ℕ) (reads : C → ℕ → C → Type 0) (clock : C) where
+module _ {S C : Type 0} (order : Order) (keeper_tells sink_tells tells : Type 0) (left : S → List ℕ) (faults : S → ℕ) (setup : Setup) (config : Config) (documents : List (List ℕ)) (sources : List S) (start : List Entry) (before : List ℕ) (link : Linked) (reads : C → ℕ → C → Type 0) (clock : C) where
   abbrev x : Fixed
-  x = fixed_with order keeper_tells sink_tells tells left setup config documents sources start before
+  x = fixed_with order keeper_tells sink_tells tells left setup config documents sources start before link
 
   -- An opening spends no number, since a source of tables gives no event.
   pub spent_nowhere : (now : C) (reading : ℕ) (restored : Restored) (kept : List Entry) (rests : List S) → reads clock reading now → (keeper_tells → restored ≡ summary start) → (keeper_tells → kept ≡ start) → IsDistinct bytes_eq (source_names setup.sources) → IsOverfull tells left faults setup config restored sources rests → RanOutOfNumbers (run_by x reads clock now) kept
   spent_nowhere now reading restored kept rests read same kept_is distinct over = record {
-    readings = [];
+    beats = [];
+    polled = [];
     reading = reading;
     read = (now, read, refl);
     added = [];
-    grows = record { grown = λ told. kept_is told ∙ sym (append-nil start); adds = λ told legal. refl };
+    grows = record { grown = λ told. kept_is told ∙ sym (append-nil start); adds = λ told legal. refl; heard = λ told legal. heard_none x };
+    quiet = λ without. refl;
     entries = [];
     legal = λ told legal. subst Legal (sym (append-nil kept ∙ kept_is told)) legal;
     spends = λ told gives legal. absurd (never told gives legal);
@@ -292,15 +304,17 @@ module _ {S C : Type 0} (order : Order) (keeper_tells sink_tells tells : Type 0)
   pub spent_first : (now : C) (kept next : List Entry) (feeds nexts : List Feeding) (objects rests : List S) (opened_at : ℕ) (old new : Kept) → OpensSession left x reads clock now kept feeds objects opened_at old → IsDistinct bytes_eq (names_of feeds) → (keeper_tells → next ≡ start)
       → SpendsTick order tells left faults setup config documents opened_at opened_at feeds nexts objects rests old new → RanOutOfNumbers (run_by x reads clock now) next
   spent_first now kept next feeds nexts objects rests opened_at old new o distinct same spends = record {
-    readings = [];
+    beats = [];
+    polled = [];
     reading = o.reading;
     read = (now, o.read, refl);
     added = [];
-    grows = record { grown = λ told. same told ∙ sym (append-nil start); adds = λ told legal. refl };
+    grows = record { grown = λ told. same told ∙ sym (append-nil start); adds = λ told legal. refl; heard = λ told legal. heard_none x };
+    quiet = λ without. refl;
     entries = opening ++ s.own;
     legal = λ told legal. subst Legal (sym (ap (λ (list : List Entry). list ++ (opening ++ s.own)) (same told) ∙ sym (append_assoc start opening s.own))) (s.legal told legal);
     spends = λ told sources legal.
-        subst (λ (list : List Entry). SpendsAt x.order x.source_tells x.given list [] o.reading (opening ++ s.own)) (sym (same told))
+        subst (λ (list : List Entry). SpendsAt x.order x.source_tells x.given list [] [] o.reading (opening ++ s.own)) (sym (same told))
         (opening, s.own, o.opens told legal, subst (λ (m : ℕ). TickSpends x.order x.given (start ++ opening) m s.own) o.at (s.spends told sources legal), refl);
   }
     where
@@ -310,27 +324,38 @@ module _ {S C : Type 0} (order : Order) (keeper_tells sink_tells tells : Type 0)
       s : SpendsBehind order x (Opened o.number ∷ o.rest) opened_at
       s = tick_spends (Opened o.number ∷ o.rest) kept feeds nexts objects rests opened_at opened_at old new o.standing distinct spends
 
-  -- in a further tick
-  pub spent_on : (between now : C) (kept next : List Entry) (feeds nexts : List Feeding) (objects rests : List S) (configured_at moment : ℕ) (old new : Kept) → IsAdded left x reads clock between kept feeds objects configured_at old → IsDistinct bytes_eq (names_of feeds) → IsRead reads between now old.counts.moment moment → (keeper_tells → next ≡ kept)
-      → SpendsTick order tells left faults setup config documents configured_at moment feeds nexts objects rests old new → RanOutOfNumbers (run_by x reads clock now) next
-  spent_on between now kept next feeds nexts objects rests configured_at moment old new r distinct read same spends = record {
-    readings = r.reading ∷ r.readings;
+  -- in a further tick, behind what was heard
+  pub spent_on : (between now : C) (kept next : List Entry) (feeds nexts : List Feeding) (objects rests : List S) (configured_at moment : ℕ) (old new : Kept) (r : IsAdded left x reads clock between kept feeds objects configured_at old) → IsDistinct bytes_eq (names_of feeds) → IsRead reads between now old.counts.moment moment → (keeper_tells → next ≡ kept)
+      → (marks : List ℕ) (after : View) → HeardIn x kept marks r.linked after → (begun : Kept) × IsAcked old marks begun × SpendsTick order tells left faults setup config documents configured_at moment feeds nexts objects rests begun new → RanOutOfNumbers (run_by x reads clock now) next
+  spent_on between now kept next feeds nexts objects rests configured_at moment old new r distinct read same marks after heard (begun, acked, spends) = record {
+    beats = r.beats ++ at_beat r.reading [] ∷ [];
+    polled = heard.found;
     reading = read.reading;
-    read = reads_more reads clock between now (r.reading ∷ r.readings) read.reading r.read read.reads_it;
+    read = reads_more reads clock between now (readings_of (r.beats ++ at_beat r.reading [] ∷ [])) read.reading (read_all left x reads clock between kept feeds objects configured_at old r) read.reads_it;
     added = r.entries;
-    grows = record { grown = list_is; adds = r.session };
-    entries = s.own;
-    legal = λ told legal. subst (λ (list : List Entry). Legal (list ++ s.own)) (sym (list_is told)) (s.legal told legal);
+    grows = record { grown = list_is; adds = grown.adds; heard = grown.heard };
+    quiet = λ off. (heard.quiet off).0;
+    entries = map Acked marks ++ s.own;
+    legal = λ told legal. subst Legal (ap (λ (list : List Entry). list ++ s.own) (sym (append_assoc x.start r.entries (map Acked marks))) ∙ append_assoc (x.start ++ r.entries) (map Acked marks) s.own ∙ ap (λ (list : List Entry). list ++ (map Acked marks ++ s.own)) (sym (list_is told))) (s.legal told legal);
     spends = λ told sources legal.
-        subst (λ (list : List Entry). TickSpends x.order x.given list (max read.reading (moment_of list)) s.own) (sym (list_is told))
-        (subst (λ (m : ℕ). TickSpends x.order x.given (start ++ r.entries) m s.own) (at told legal) (s.spends told sources legal));
+        spends_behind x.order x.source_tells x.given next r.beats (at_beat r.reading []) heard.found read.reading (map Acked marks ++ s.own)
+        (s.own, subst (λ (list : List Entry). TickSpends x.order x.given list (max read.reading (moment_of next)) s.own) (behind told legal) (subst (λ (m : ℕ). TickSpends x.order x.given (x.start ++ (r.entries ++ map Acked marks)) m s.own) (at told legal) (s.spends told sources legal)), ap (λ (es : List Entry). es ++ s.own) (acks_are told legal));
   }
     where
-      s : SpendsBehind order x r.entries moment
-      s = tick_spends r.entries kept feeds nexts objects rests configured_at moment old new r.standing distinct spends
+      s : SpendsBehind order x (r.entries ++ map Acked marks) moment
+      s = tick_spends (r.entries ++ map Acked marks) kept feeds nexts objects rests configured_at moment begun new (acked_standing left x r.entries kept feeds objects configured_at old begun marks r.standing acked) distinct spends
 
-      list_is : keeper_tells → next ≡ start ++ r.entries
+      grown : Grows x kept (r.beats ++ at_beat r.reading [] ∷ []) r.entries
+      grown = grows left x reads clock between kept feeds objects configured_at old r
+
+      list_is : keeper_tells → next ≡ x.start ++ r.entries
       list_is told = same told ∙ all_kept left x r.entries kept feeds objects configured_at old r.standing r.empty told
 
-      at : keeper_tells → Legal start → moment ≡ max read.reading (moment_of (start ++ r.entries))
-      at told legal = read.is ∙ ap (max read.reading) (sym (moment_is left x r.entries kept feeds objects configured_at old r.standing told legal))
+      acks_are : keeper_tells → Legal start → map Acked marks ≡ acks_of next heard.found
+      acks_are told legal = heard_acks left x reads clock between kept feeds objects configured_at old r marks after heard told legal ∙ ap (λ (list : List Entry). acks_of list heard.found) (sym (list_is told))
+
+      behind : keeper_tells → Legal start → x.start ++ (r.entries ++ map Acked marks) ≡ next ++ acks_of next heard.found
+      behind told legal = sym (append_assoc x.start r.entries (map Acked marks)) ∙ ap (λ (list : List Entry). list ++ map Acked marks) (sym (list_is told)) ∙ ap (λ (es : List Entry). next ++ es) (acks_are told legal)
+
+      at : keeper_tells → Legal start → moment ≡ max read.reading (moment_of next)
+      at told legal = read.is ∙ ap (max read.reading) (sym (ap moment_of (list_is told) ∙ moment_is left x r.entries kept feeds objects configured_at old r.standing told legal))

@@ -1,10 +1,11 @@
 -- What a session that ended early knows of its kept list.
-use Rattle.std.proofs.Common.{◌≡◌, ◌≢◌, ℕ, List, [], ◌++◌, Option, Some, refl, sym, ap, ◌∙◌, subst}
+use Rattle.std.proofs.Common.{◌≡◌, ◌≢◌, ℕ, List, [], Option, Some, refl, sym, ap, subst}
 use Rattle.entry_model.specs.declared.entry.Entry.{Entry}
 use Rattle.entry_model.specs.declared.restored.Restored.{Restored}
 use Rattle.entry_model.specs.Summary.{summary}
 use Rattle.session_state.specs.Kept.{Kept}
 use Rattle.replay_rounds.specs.Fixed.{Fixed, Run}
+use Rattle.replay_rounds.specs.Linking.{IsUnforwarded}
 use Rattle.replay_rounds.specs.Noting.{IsBetween}
 use Rattle.replay_rounds.specs.Refusals.{numbers_in, numbers_of, tick_numbers, unloaded_by, unloaded_numbers}
 use Rattle.replay_rounds.specs.Stopping.{AreNumbersFor, AreNumbersOf, AreSealed, HasNumbers, Stops}
@@ -63,6 +64,21 @@ module _ (x : Fixed) (has_read : List ℕ → Type 0) (kept : List Entry) where
   numbers_for run.NumbersSpent numbers kept_well loaded are = are
   numbers_for run.SinkFault numbers kept_well loaded are = are
   numbers_for run.NoMemory numbers kept_well loaded are = are
+
+  -- behind a tick, where the session doesn't forward, or the last acknowledgements aren't sealed
+  numbers_linked : (failed : Type 0) (e : RunError) (numbers : Numbers) → IsUnforwarded failed e → AreSealed ran kept numbers → (e ≢ run.KeeperFault → AreNumbersOf x kept numbers) → AreNumbersFor e ran kept numbers
+  numbers_linked failed run.KeeperFault numbers is before none = before
+  numbers_linked failed run.KeeperRefused numbers is before none = absurd is
+  numbers_linked failed (run.MomentTooLarge moment) numbers is before none = absurd is
+  numbers_linked failed (run.SourceFault place) numbers is before none = absurd is
+  numbers_linked failed (run.SourceShrank place had found) numbers is before none = absurd is
+  numbers_linked failed run.NumbersSpent numbers is before none = absurd is
+  numbers_linked failed run.SinkFault numbers is before none = absurd is
+  numbers_linked failed run.NoMemory numbers is before none = none (λ h. cc)
+
+  pub linked_stops : (untold failed : Type 0) (refused answered : Refused) (numbers : Numbers) → answered ≡ refused → refused.numbers ≡ Some numbers → IsUnforwarded failed refused.error → AreSealed ran kept numbers → (refused.error ≢ run.KeeperFault → AreNumbersOf x kept numbers) → Stops ran kept untold answered.error answered.numbers
+  linked_stops untold failed refused answered numbers same has is before none =
+      subst (λ (r : Refused). Stops ran kept untold r.error r.numbers) (sym same) (stops_with untold refused.error refused.numbers numbers has (numbers_linked failed refused.error numbers is before none))
 
   -- between two ticks
   pub numbers_between : (late : ℕ → Type 0) (sink : Type 0) (e : RunError) (numbers : Numbers) → IsBetween late sink e → AreNumbersOf x kept numbers → AreNumbersFor e ran kept numbers

@@ -48,7 +48,6 @@ use Rattle.session_state.specs.StateOf.{HasValues}
 use Rattle.session_model.specs.Taking.{from_source}
 use Rattle.session_model.specs.Working.{Passes, Works, is_part}
 use Rattle.std.specs.List.{AllZip}
-use Rattle.std.proofs.lemmas.List.{append-nil}
 use Rattle.entry_model.proofs.Follows.{Follow-split}
 use Rattle.replay_rounds.proofs.Again.{again_brings}
 use Rattle.replay_rounds.proofs.AtOnce.{IsAt, all_at, batches_behind, batches_work, body_fed, body_full, body_given, work_part}
@@ -239,16 +238,14 @@ module _ {S : Type 0} (left : S → List ℕ) (faults : S → ℕ) (x : Fixed) (
       answered = sym (ap due_queries list_is) ∙ answered_none left faults x added kept feeds nexts objects rests configured_at moment old configured filled settled standing begins worked settles fed_works tells legal;
     }
 
-    passes_at_once : Passes x.source_tells x.given (x.start ++ added) moment [] ((Ticked moment ∷ begins.anew) ++ works.body ++ committed_all settles.batches ++ settles.expired)
+    passes_at_once : Passes x.source_tells x.given (x.start ++ added) moment ((Ticked moment ∷ begins.anew) ++ works.body ++ committed_all settles.batches ++ settles.expired)
     passes_at_once = record {
       configured = begins.anew;
       body = body;
-      sealed = (Ticked moment ∷ begins.anew) ++ works.body ++ committed_all settles.batches ++ settles.expired;
       configures = begins.configures tells legal;
       works = works_at_once;
-      settles = ap (λ (es : List Entry). (((Ticked moment ∷ begins.anew) ++ works.body) ++ committed_all settles.batches) ++ es) (expires left faults x added kept feeds nexts objects rests configured_at moment old configured filled settled standing begins worked settles fed_works tells legal)
+      are = ap (λ (es : List Entry). (((Ticked moment ∷ begins.anew) ++ works.body) ++ committed_all settles.batches) ++ es) (expires left faults x added kept feeds nexts objects rests configured_at moment old configured filled settled standing begins worked settles fed_works tells legal)
           ∙ ap (λ (es : List Entry). es ++ expiries_of ((x.start ++ added) ++ es)) parts_are;
-      are = sym (append-nil ((Ticked moment ∷ begins.anew) ++ works.body ++ committed_all settles.batches ++ settles.expired));
     }
 
     full_at_once : x.source_tells → IsFullTick at_once x.source_tells x.given (x.start ++ added) moment nexts ((Ticked moment ∷ begins.anew) ++ works.body ++ committed_all settles.batches ++ settles.expired)

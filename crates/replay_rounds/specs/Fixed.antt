@@ -1,18 +1,26 @@
 -- What stays the same in a session.
-use Rattle.std.specs.Prelude.{ℕ, List}
+use Rattle.std.specs.Prelude.{ℕ, Bool, List}
 use Rattle.osq_config.specs.declared.config.Config.{Config}
 use Rattle.osq_outside.specs.declared.sink.Sink as sink_trait
 use Rattle.osq_outside.specs.declared.source.Source as source_trait
 use Rattle.entry_model.specs.declared.entry.Entry.{Entry}
+use Rattle.batch_forwarder.specs.declared.link.Link as link_trait
 use Rattle.batch_keeper.specs.declared.keeper.Keeper as keeper_trait
+use Rattle.forward_rounds.specs.Forwarding.{View, view_of}
 use Rattle.session_model.specs.Orders.{Order}
 use Rattle.session_model.specs.Given.{Given}
 use Rattle.daemon_rounds.specs.declared.setup.Setup.{Setup}
 use Rattle.replay_rounds.specs.Sources.{sources_of}
 use Rattle.replay_rounds.specs.declared.basis.Basis.{Basis}
 
--- In which order its ticks are worked on; whether the keeper, the sink and the sources tell what they hold; what the session is given; and the kept list
--- and the results before it.
+-- Whether a session forwards what it seals; whether its link tells what it holds, and what that was before it.
+pub record Linked : Type 1 where
+  pub forwards : Bool
+  pub tells : Type 0
+  pub before : View
+
+-- In which order its ticks are worked on; whether the keeper, the sink and the sources tell what they hold; what the session is given; the kept list
+-- and the results before it; and its link.
 pub record Fixed : Type 1 where
   pub order : Order
   pub keeper_tells : Type 0
@@ -21,6 +29,7 @@ pub record Fixed : Type 1 where
   pub given : Given
   pub start : List Entry
   pub written : List ℕ
+  pub link : Linked
 
 -- A run of a session: what stays the same in it, and which readings its clock gave, one after another.
 pub record Run : Type 1 where
@@ -33,8 +42,8 @@ given_of setup config documents left objects =
     record { host = setup.host; documents = documents; config = config; sources = sources_of left setup.sources objects; records = setup.records }
 
 -- what stays the same in a session over objects of which it is known what they tell
-abbrev pub fixed_with : {S : Type 0} (order : Order) (keeper_tells sink_tells source_tells : Type 0) → (S → List ℕ) → Setup → Config → List (List ℕ) → List S → List Entry → List ℕ → Fixed
-fixed_with order keeper_tells sink_tells source_tells left setup config documents objects start written =
+abbrev pub fixed_with : {S : Type 0} (order : Order) (keeper_tells sink_tells source_tells : Type 0) → (S → List ℕ) → Setup → Config → List (List ℕ) → List S → List Entry → List ℕ → Linked → Fixed
+fixed_with order keeper_tells sink_tells source_tells left setup config documents objects start written link =
     record {
       order = order;
       keeper_tells = keeper_tells;
@@ -43,9 +52,14 @@ fixed_with order keeper_tells sink_tells source_tells left setup config document
       given = given_of setup config documents left objects;
       start = start;
       written = written;
+      link = link;
     }
 
+-- the link of a session of this setup
+abbrev pub linked_by : {L : Type 0} → link_trait.Ghosts L → Setup → L → Linked
+linked_by link setup before = record { forwards = setup.forward; tells = link.tells; before = view_of link before }
+
 -- what stays the same in a session over these objects
-abbrev pub fixed_of : {K O S : Type 0} → Order → keeper_trait.Ghosts K → sink_trait.Ghosts O → source_trait.Ghosts S → Basis → List S → K → O → Fixed
-fixed_of order keeper sink source basis objects before results =
-    fixed_with order keeper.tells sink.tells source.tells source.left basis.setup basis.configured.config basis.configured.documents objects (keeper.kept before) (sink.written results)
+abbrev pub fixed_of : {K O S L : Type 0} → Order → keeper_trait.Ghosts K → sink_trait.Ghosts O → source_trait.Ghosts S → link_trait.Ghosts L → Basis → List S → K → O → L → Fixed
+fixed_of order keeper sink source link basis objects before results answers =
+    fixed_with order keeper.tells sink.tells source.tells source.left basis.setup basis.configured.config basis.configured.documents objects (keeper.kept before) (sink.written results) (linked_by link basis.setup answers)

@@ -24,7 +24,7 @@ abbrev pub IsFullTick : Order → Type 0 → Given → List Entry → ℕ → Li
 IsFullTick in_turn tells given kept moment feeds entries =
     (tick : Ticks tells given kept moment entries) × AreFullSteps given (kept ++ (Ticked moment ∷ tick.configured)) given.sources feeds tick.taken
 IsFullTick at_once tells given kept moment feeds entries =
-    (tick : Passes tells given kept moment [] entries) × AreFullParts given (kept ++ (Ticked moment ∷ tick.configured)) tick.body given.sources feeds
+    (tick : Passes tells given kept moment entries) × AreFullParts given (kept ++ (Ticked moment ∷ tick.configured)) tick.body given.sources feeds
 
 -- of one of these sources, which is such a one, the entries among these are a full step behind this list
 abbrev pub HasFullPart : (Source → Type 0) → Given → List Entry → List Source → List Entry → Type 0
@@ -36,4 +36,4 @@ abbrev pub HasFullTick : Order → (Source → Type 0) → Type 0 → Given → 
 HasFullTick in_turn Is tells given kept moment entries =
     (tick : Ticks tells given kept moment entries) × HasFullStep Is given (kept ++ (Ticked moment ∷ tick.configured)) given.sources tick.taken
 HasFullTick at_once Is tells given kept moment entries =
-    (tick : Passes tells given kept moment [] entries) × HasFullPart Is given (kept ++ (Ticked moment ∷ tick.configured)) given.sources tick.body
+    (tick : Passes tells given kept moment entries) × HasFullPart Is given (kept ++ (Ticked moment ∷ tick.configured)) given.sources tick.body

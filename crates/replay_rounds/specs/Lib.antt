@@ -1,5 +1,6 @@
 pub mod Fixed
 pub mod FullTicks
+pub mod Linking
 pub mod Noting
 pub mod OneTick
 pub mod Refusals

@@ -1,6 +1,10 @@
 -- The same refusal, as a run answers it, and the numbers of a state.
 use Rattle.std.specs.Prelude.{Option, None, Some}
 use Rattle.entry_model.specs.declared.restored.Restored.{Restored}
+use Rattle.batch_keeper.specs.declared.keeper.KeeperError.{KeeperError}
+use Rattle.batch_keeper.specs.declared.keeper.KeeperError.TheVariants as keeping
+use Rattle.batch_forwarder.specs.declared.sending.ForwardError.{ForwardError}
+use Rattle.batch_forwarder.specs.declared.sending.ForwardError.TheVariants as forwarding
 use Rattle.session_state.specs.Kept.{Kept}
 use Rattle.daemon_rounds.specs.declared.error.FinishError.{FinishError}
 use Rattle.daemon_rounds.specs.declared.error.FinishError.TheVariants as finish
@@ -52,6 +56,16 @@ unfinished_by finish.NumbersSpent = run.NumbersSpent
 unfinished_by finish.KeeperFault = run.KeeperFault
 unfinished_by finish.SinkFault = run.SinkFault
 unfinished_by finish.NoMemory = run.NoMemory
+
+-- of a session that doesn't forward
+abbrev pub unforwarded_by : ForwardError → RunError
+unforwarded_by forwarding.KeeperFault = run.KeeperFault
+unforwarded_by forwarding.NoMemory = run.NoMemory
+
+-- of what isn't sealed behind the last tick
+abbrev pub unsealed_by : KeeperError → RunError
+unsealed_by keeping.Fault = run.KeeperFault
+unsealed_by keeping.NoMemory = run.NoMemory
 
 -- the numbers of the values of a list
 abbrev pub numbers_in : Restored → Numbers

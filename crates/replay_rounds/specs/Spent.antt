@@ -1,5 +1,5 @@
 -- A session that a spent number ends.
-use Rattle.std.specs.Prelude.{◌≡◌, ◌⊎◌, ℕ, ◌+◌, ◌<◌, ◌^◌, max, true, All, Contains, List, [], ◌∷◌, ◌++◌, length}
+use Rattle.std.specs.Prelude.{◌≡◌, ◌⊎◌, ℕ, ◌+◌, ◌<◌, ◌^◌, max, true, false, All, Option, Contains, List, [], ◌∷◌, ◌++◌, length}
 use Rattle.pack_rules.specs.declared.schedule.QueryKey.{QueryKey}
 use Rattle.entry_model.specs.declared.entry.Entry.{Entry}
 use Rattle.entry_model.specs.declared.entry.Entry.TheVariants.{Ticked}
@@ -9,11 +9,12 @@ use Rattle.entry_model.specs.Views.{due_queries}
 use Rattle.session_model.specs.Configuring.{ConfiguresAgain}
 use Rattle.session_model.specs.Given.{Given, Source}
 use Rattle.session_model.specs.Orders.{Order, in_turn, at_once}
-use Rattle.session_model.specs.Sessions.{Opens}
+use Rattle.session_model.specs.Sessions.{Beat, Opens}
 use Rattle.session_model.specs.Taking.{TakesStep, TakesSteps}
 use Rattle.session_model.specs.Ticking.{Answers}
-use Rattle.session_model.specs.Working.{is_part}
+use Rattle.session_model.specs.Working.{acks_of, is_part}
 use Rattle.replay_rounds.specs.Fixed.{Run}
+use Rattle.replay_rounds.specs.Linking.{readings_of}
 use Rattle.replay_rounds.specs.Running.{Grows}
 
 -- A step of the source behind this list gives these entries, and then one whose events would have numbers beyond 2^62.
@@ -75,21 +76,24 @@ pub record TickSpends (order : Order) (given : Given) (kept : List Entry) (momen
   pub spends : WorkSpends order given (kept ++ (Ticked moment ∷ configured)) rest
   pub are : entries ≡ (Ticked moment ∷ configured) ++ rest
 
--- that tick comes at this reading of the clock, behind ticks at those readings; before its first tick a session opens
-abbrev pub SpendsAt : Order → Type 0 → Given → List Entry → List ℕ → ℕ → List Entry → Type 0
-SpendsAt order tells given kept [] reading entries =
+-- That tick comes at this reading of the clock, behind ticks at those beats, and behind what the answers acknowledge that were polled behind them; before
+-- its first tick a session opens.
+abbrev pub SpendsAt : Order → Type 0 → Given → List Entry → List Beat → List (Option ℕ) → ℕ → List Entry → Type 0
+SpendsAt order tells given kept [] polled reading entries =
     (opening own : List Entry) × Opens tells given kept reading opening × TickSpends order given (kept ++ opening) (max reading (moment_of (kept ++ opening))) own × (entries ≡ opening ++ own)
-SpendsAt order tells given kept (before ∷ readings) reading entries =
-    TickSpends order given kept (max reading (moment_of kept)) entries
+SpendsAt order tells given kept (before ∷ beats) polled reading entries =
+    (own : List Entry) × TickSpends order given (kept ++ acks_of kept polled) (max reading (moment_of kept)) own × (entries ≡ acks_of kept polled ++ own)
 
--- The list has grown by the ticks at these readings of the clock, and at the next reading a number was spent: behind the list there would be
--- these entries, up to the place at which no number is left.
+-- The list has grown by the ticks at these beats, and at the next reading a number was spent: behind the list there would be these entries, up to the
+-- place at which no number is left.
 pub record RanOutOfNumbers (run : Run) (kept : List Entry) : Type 0 where
-  pub readings : List ℕ
+  pub beats : List Beat
+  pub polled : List (Option ℕ)
   pub reading : ℕ
-  pub read : run.has_read (readings ++ reading ∷ [])
+  pub read : run.has_read (readings_of beats ++ reading ∷ [])
   pub added : List Entry
-  pub grows : Grows run.fixed kept readings added
+  pub grows : Grows run.fixed kept beats added
+  pub quiet : run.fixed.link.forwards ≡ false → polled ≡ []
   pub entries : List Entry
   pub legal : run.fixed.keeper_tells → Legal run.fixed.start → Legal (kept ++ entries)
-  pub spends : run.fixed.keeper_tells → run.fixed.source_tells → Legal run.fixed.start → SpendsAt run.fixed.order run.fixed.source_tells run.fixed.given kept readings reading entries
+  pub spends : run.fixed.keeper_tells → run.fixed.source_tells → Legal run.fixed.start → SpendsAt run.fixed.order run.fixed.source_tells run.fixed.given kept beats polled reading entries

@@ -1,5 +1,5 @@
 -- What a session that ended early knows of its kept list.
-use Rattle.std.specs.Prelude.{◌≡◌, ℕ, List, [], ◌∷◌, ◌++◌, length, Option, None, Some}
+use Rattle.std.specs.Prelude.{◌≡◌, ◌⊎◌, ℕ, true, List, [], ◌∷◌, ◌++◌, length, Option, None, Some}
 use Rattle.osq_outside.specs.declared.source.Source as source_trait
 use Rattle.batch_keeper.specs.declared.keeper.Keeper as keeper_trait
 use Rattle.entry_model.specs.declared.entry.Entry.{Entry}
@@ -8,7 +8,9 @@ use Rattle.entry_model.specs.Legal.{Legal}
 use Rattle.entry_model.specs.Summary.{summary}
 use Rattle.entry_model.specs.Values.{acked_upto, commits, last_number}
 use Rattle.daemon_rounds.specs.Starting.{HasShrunk}
-use Rattle.replay_rounds.specs.Fixed.{Fixed, Run}
+use Rattle.session_model.specs.Sessions.{Beat}
+use Rattle.replay_rounds.specs.Fixed.{Fixed, Linked, Run}
+use Rattle.replay_rounds.specs.Linking.{readings_of}
 use Rattle.replay_rounds.specs.Running.{Grows}
 use Rattle.replay_rounds.specs.declared.basis.Basis.{Basis}
 use Rattle.replay_rounds.specs.declared.refused.Numbers.{Numbers}
@@ -29,14 +31,19 @@ AreNumbersOf x kept numbers = x.keeper_tells → Legal x.start → HasNumbers ke
 abbrev pub AreLoaded : Run → List Entry → Numbers → Type 0
 AreLoaded run kept numbers = run.has_read [] × (run.fixed.keeper_tells → HasNumbers kept numbers)
 
--- Those of the list as it was before its last seal, which failed: it had grown by the ticks at all readings of the clock but the last.
+-- These are all readings of the clock that no tick had in the list: one where the seal of a tick failed; none where one failed behind a tick, with a link.
+abbrev pub IsFailedAt : Linked → List ℕ → Type 0
+IsFailedAt link more = ((last : ℕ) × (more ≡ last ∷ [])) ⊎ ((link.forwards ≡ true) × (more ≡ []))
+
+-- Those of the list as it was before the keeper failed: it had grown by the ticks at all readings of the clock, but for the last where its tick's seal failed.
 pub record AreSealed (run : Run) (kept : List Entry) (numbers : Numbers) : Type 0 where
-  pub readings : List ℕ
-  pub last : ℕ
-  pub read : run.has_read (readings ++ last ∷ [])
+  pub beats : List Beat
+  pub more : List ℕ
+  pub read : run.has_read (readings_of beats ++ more)
+  pub failed : IsFailedAt run.fixed.link more
   pub sealed : List Entry
   pub entries : List Entry
-  pub grows : Grows run.fixed sealed readings entries
+  pub grows : Grows run.fixed sealed beats entries
   pub kept_is : run.fixed.keeper_tells → (more : List Entry) × (kept ≡ sealed ++ more)
   pub are : AreNumbersOf run.fixed sealed numbers
 

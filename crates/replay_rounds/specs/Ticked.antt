@@ -1,5 +1,5 @@
 -- A whole tick, by the state and by the list.
-use Rattle.std.specs.Prelude.{◌≡◌, ◌⊎◌, ℕ, List, [], ◌∷◌, ◌++◌, take}
+use Rattle.std.specs.Prelude.{◌≡◌, ◌⊎◌, ℕ, List, [], ◌++◌, take}
 use Rattle.osq_config.specs.declared.config.Config.{Config}
 use Rattle.osq_outside.specs.declared.sink.Sink as sink_trait
 use Rattle.osq_outside.specs.declared.source.Source as source_trait
@@ -16,6 +16,7 @@ use Rattle.daemon_rounds.specs.Ticking.{Fills, FillsTooMuch, asks_again, configu
 use Rattle.daemon_rounds.specs.declared.setup.Setup.{Setup}
 use Rattle.replay_rounds.specs.Fixed.{Fixed}
 use Rattle.replay_rounds.specs.FullTicks.{IsFullTick}
+use Rattle.replay_rounds.specs.Linking.{IsAcked}
 use Rattle.replay_rounds.specs.OneTick.{IsOneTick}
 use Rattle.replay_rounds.specs.Standing.{Standing}
 use Rattle.replay_rounds.specs.declared.basis.Basis.{Basis}
@@ -95,3 +96,24 @@ IsPartlyToldOf order keeper sink source basis tick k l o p feeds nexts objects r
 abbrev pub SpendsTickOf : {S : Type 0} → Order → source_trait.Ghosts S → Basis → Tick → List Feeding → List Feeding → List S → List S → Kept → Kept → Type 0
 SpendsTickOf order source basis tick feeds nexts objects rests old new =
     SpendsTick order source.tells source.left source.faults basis.setup basis.configured.config basis.configured.documents tick.configured_at tick.moment feeds nexts objects rests old new
+
+-- The same of a tick that begins with acknowledgements of these marks.
+abbrev pub IsNextTickOf : {K O S : Type 0} → Order → keeper_trait.Ghosts K → sink_trait.Ghosts O → source_trait.Ghosts S → Basis → Tick → List ℕ → ℕ → K → K → O → O → List Feeding → List Feeding → List S → List S → Kept → Kept → Type 0
+IsNextTickOf order keeper sink source basis tick marks last k l o p feeds nexts objects rests old new =
+    (begun : Kept) × IsAcked old marks begun × IsTickOf order keeper sink source basis tick last k l o p feeds nexts objects rests begun new
+
+abbrev pub IsWholeNextOf : {K S : Type 0} → Order → keeper_trait.Ghosts K → source_trait.Ghosts S → Basis → Tick → List ℕ → K → K → List Feeding → List Feeding → List S → List S → Kept → Type 0
+IsWholeNextOf order keeper source basis tick marks k l feeds nexts objects rests old =
+    (keeper.kept l ≡ keeper.kept k) ⊎ ((begun : Kept) × IsAcked old marks begun × IsWholeTickOf order keeper source basis tick k l feeds nexts objects rests begun)
+
+abbrev pub IsSealedNextOf : {K S : Type 0} → Order → keeper_trait.Ghosts K → source_trait.Ghosts S → Basis → Tick → List ℕ → K → K → List Feeding → List Feeding → List S → List S → Kept → Kept → Type 0
+IsSealedNextOf order keeper source basis tick marks k l feeds nexts objects rests old new =
+    (begun : Kept) × IsAcked old marks begun × IsSealedTickOf order keeper source basis tick k l feeds nexts objects rests begun new
+
+abbrev pub IsPartlyNextOf : {K O S : Type 0} → Order → keeper_trait.Ghosts K → sink_trait.Ghosts O → source_trait.Ghosts S → Basis → Tick → List ℕ → K → K → O → O → List Feeding → List Feeding → List S → List S → Kept → Type 0
+IsPartlyNextOf order keeper sink source basis tick marks k l o p feeds nexts objects rests old =
+    (begun : Kept) × IsAcked old marks begun × IsPartlyToldOf order keeper sink source basis tick k l o p feeds nexts objects rests begun
+
+abbrev pub SpendsNextOf : {S : Type 0} → Order → source_trait.Ghosts S → Basis → Tick → List ℕ → List Feeding → List Feeding → List S → List S → Kept → Kept → Type 0
+SpendsNextOf order source basis tick marks feeds nexts objects rests old new =
+    (begun : Kept) × IsAcked old marks begun × SpendsTickOf order source basis tick feeds nexts objects rests begun new

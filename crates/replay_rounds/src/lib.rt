@@ -2,6 +2,7 @@
 #![tactic(auto)]
 
 mod basis;
+mod linking;
 mod loading;
 mod noting;
 mod opening;

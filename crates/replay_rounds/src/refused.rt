@@ -1,10 +1,12 @@
 //! Why a session ends before its last tick is done.
 
 ghost use Rattle.std.specs.Prelude.{◌≡◌, Some};
-ghost use Rattle.replay_rounds.specs.Refusals.{numbers_in, numbers_of, unloaded_by, unloaded_numbers, unopened_by, unnoted_by, unfilled_by, unfinished_by, unfinished_numbers};
+ghost use Rattle.replay_rounds.specs.Refusals.{numbers_in, numbers_of, unloaded_by, unloaded_numbers, unopened_by, unnoted_by, unfilled_by, unfinished_by, unfinished_numbers, unforwarded_by, unsealed_by};
 
 use crate::loading::LoadError;
 use crate::noting::NoteError;
+use batch_forwarder::ForwardError;
+use batch_keeper::KeeperError;
 use daemon_rounds::{FinishError, OpenError, TakeError};
 use entry_model::restored::Restored;
 use session_state::State;
@@ -12,7 +14,7 @@ use session_state::State;
 /// Why a session ends before its last tick is done.
 #[derive(Clone, Copy)]
 pub enum RunError {
-    /// The keeper failed: at a seal it has all entries of the tick, or none.
+    /// The keeper failed: at a seal it has all entries that were sealed, or none.
     KeeperFault,
     /// The keeper gave values that no session may go on from.
     KeeperRefused,
@@ -151,5 +153,35 @@ pub(crate) fn unfinished(error: FinishError, state: &State, sealed: Numbers) -> 
     Refused {
         error,
         numbers: Some(numbers),
+    }
+}
+
+/// The answer to a session that doesn't forward, over a kept list of these numbers.
+pub(crate) fn unforwarded(error: ForwardError, sealed: Numbers) -> Refused
+    ensures error { result.error ≡ unforwarded_by error }
+    ensures numbers { result.numbers ≡ Some sealed }
+{
+    let error = match error {
+        ForwardError::KeeperFault => RunError::KeeperFault,
+        ForwardError::NoMemory => RunError::NoMemory,
+    };
+    Refused {
+        error,
+        numbers: Some(sealed),
+    }
+}
+
+/// The answer to acknowledgements that aren't sealed behind the last tick, over a kept list of these numbers.
+pub(crate) fn unsealed(error: KeeperError, sealed: Numbers) -> Refused
+    ensures error { result.error ≡ unsealed_by error }
+    ensures numbers { result.numbers ≡ Some sealed }
+{
+    let error = match error {
+        KeeperError::Fault => RunError::KeeperFault,
+        KeeperError::NoMemory => RunError::NoMemory,
+    };
+    Refused {
+        error,
+        numbers: Some(sealed),
     }
 }

@@ -1,6 +1,6 @@
 //! A whole session.
 
-ghost use Rattle.std.specs.Prelude.{◌≡◌, ◌<◌, ◌≤◌, ◌⊎◌, ℕ, length, bytes_eq, [], ◌∷◌, ◌++◌, List, Some, Err, IfOk, IfErr};
+ghost use Rattle.std.specs.Prelude.{◌≡◌, ◌<◌, ◌≤◌, ◌⊎◌, ℕ, true, false, length, bytes_eq, [], ◌∷◌, ◌++◌, List, Some, Err, IfOk, IfErr};
 ghost use Rattle.osq_value.specs.declared.moment.TheConstants.{LAST_MOMENT};
 ghost use Rattle.config_files.specs.Configurations.{IsConfigOf};
 ghost use Rattle.osq_config.specs.Bounds.{IsBounded};
@@ -9,6 +9,8 @@ ghost use Rattle.entry_model.specs.Fits.{Fits, IsDistinct};
 ghost use Rattle.entry_model.specs.Legal.{Legal};
 ghost use Rattle.entry_model.specs.Summary.{summary};
 ghost use Rattle.session_state.specs.Kept.{IsState};
+ghost use Rattle.batch_frames.specs.Valid.{is_host};
+ghost use Rattle.forward_rounds.specs.Forwarding.{view_of};
 ghost use Rattle.daemon_rounds.specs.Moments.{IsRead};
 ghost use Rattle.daemon_rounds.specs.Rounding.{FailsAt};
 ghost use Rattle.daemon_rounds.specs.Starting.{source_names};
@@ -23,11 +25,13 @@ ghost use Rattle.replay_rounds.specs.declared.refused.Refused.{Refused};
 ghost use Rattle.replay_rounds.specs.declared.refused.RunError.{RunError};
 
 use crate::basis::Basis;
+use crate::linking::{forward_last, forward_sealed};
 use crate::loading::load_values;
 use crate::noting::{note_again, told, write_skipped};
 use crate::opening::open_noted;
 use crate::refused::{Numbers, Refused, RunError, numbers_in, numbers_of, unloaded, unnoted};
-use crate::ticking::{Tick, take_tick};
+use crate::ticking::{Tick, take_next, take_tick};
+use batch_forwarder::Link;
 use batch_keeper::Keeper;
 use daemon_rounds::{MomentTooLarge, Session, TakesRound, asks_again, read_moment};
 use entry_model::laws;
@@ -119,9 +123,11 @@ fn end_session<O: Sink>(
 }
 
 /// Runs a whole session behind the keeper's list: it is loaded, the session opens, and all ticks are run in this order, each of which is sealed by itself
-/// and then told. No two sources have one name. On the status stream it tells of each configuration, and at the end of skipped lines.
+/// and then told. Behind each it forwards what is sealed through the link, where its setup says so; what the answers acknowledge goes into the next seal, and
+/// behind the last tick into one of its own. No two sources have one name. On the status stream it tells of each configuration, and at the end of
+/// skipped lines.
 /// The error of a refusal is one of the causes that `RunError` lists, with the numbers of the kept list where it was loaded.
-pub fn run_session<T: TakesRound<S>, S: Source, K: Keeper, O: Sink, C: Clock>(
+pub fn run_session<T: TakesRound<S>, S: Source, K: Keeper, O: Sink, C: Clock, L: Link>(
     order: &T,
     basis: &Basis,
     clock: &mut C,
@@ -129,6 +135,7 @@ pub fn run_session<T: TakesRound<S>, S: Source, K: Keeper, O: Sink, C: Clock>(
     keeper: &mut K,
     results: &mut O,
     status: &mut O,
+    link: &mut L,
 ) -> Result<Ended, Refused>
     requires takes { T.takes order.now }
     requires configuration { IsConfigOf basis.now.configured.documents basis.now.configured.config basis.now.configured.notes }
@@ -136,22 +143,25 @@ pub fn run_session<T: TakesRound<S>, S: Source, K: Keeper, O: Sink, C: Clock>(
     requires paired { length sources.old ≡ length basis.now.setup.sources }
     requires distinct { IsDistinct bytes_eq (source_names basis.now.setup.sources) }
     requires ticks { 1 ≤ basis.now.setup.ticks }
-    ensures done { IfOk result (λ ended. HasRun (run_of T.order K.Keeper O.Sink S.Source C.Clock basis.now sources.old keeper.old results.old clock.old clock.new) basis.now.setup.ticks (K.kept keeper.new) (O.written results.new) ended) }
+    requires host { basis.now.setup.forward ≡ true → is_host basis.now.setup.host.identifier ≡ true }
+    ensures done { IfOk result (λ ended. HasRun (run_of T.order K.Keeper O.Sink S.Source L.Link C.Clock basis.now sources.old keeper.old results.old link.old clock.old clock.new) basis.now.setup.ticks (K.kept keeper.new) (O.written results.new) (view_of L.Link link.new) ended) }
     ensures fit { K.tells → IfOk result (λ ended. Fits (summary (K.kept keeper.old))) }
-    ensures stops { IfErr result (λ refused. Stops (run_of T.order K.Keeper O.Sink S.Source C.Clock basis.now sources.old keeper.old results.old clock.old clock.new) (K.kept keeper.new) (status.new ≡ status.old) refused.error refused.numbers) }
-    ensures kept { K.tells → IsKept (run_of T.order K.Keeper O.Sink S.Source C.Clock basis.now sources.old keeper.old results.old clock.old clock.new) (K.kept keeper.new) }
-    ensures written { O.tells → IsWritten (fixed_of T.order K.Keeper O.Sink S.Source basis.now sources.old keeper.old results.old) (K.kept keeper.new) (O.written results.new) }
+    ensures stops { IfErr result (λ refused. Stops (run_of T.order K.Keeper O.Sink S.Source L.Link C.Clock basis.now sources.old keeper.old results.old link.old clock.old clock.new) (K.kept keeper.new) (status.new ≡ status.old) refused.error refused.numbers) }
+    ensures kept { K.tells → IsKept (run_of T.order K.Keeper O.Sink S.Source L.Link C.Clock basis.now sources.old keeper.old results.old link.old clock.old clock.new) (K.kept keeper.new) }
+    ensures written { O.tells → IsWritten (fixed_of T.order K.Keeper O.Sink S.Source L.Link basis.now sources.old keeper.old results.old link.old) (K.kept keeper.new) (O.written results.new) }
     ensures keeper_cause { (refused : Refused) → result ≡ Err refused → refused.error ≡ RunError.KeeperFault → Rose (K.faults keeper.old) (K.faults keeper.new) }
     ensures refused { K.tells → (refused : Refused) → result ≡ Err refused → refused.error ≡ RunError.KeeperRefused → ¬ Fits (summary (K.kept keeper.old)) }
     ensures illegal { K.tells → (refused : Refused) → result ≡ Err refused → refused.error ≡ RunError.KeeperRefused → ¬ Legal (K.kept keeper.old) }
     ensures moment { (refused : Refused) (moment : ℕ) → result ≡ Err refused → refused.error ≡ RunError.MomentTooLarge moment → (LAST_MOMENT < moment) × ((readings : List ℕ) × ReadsAll C.reads clock.old (readings ++ moment ∷ []) clock.new) }
     ensures fault { (refused : Refused) (place : ℕ) → result ≡ Err refused → refused.error ≡ RunError.SourceFault place → FailsAt S.faults place sources.old sources.new }
     ensures shrank { (refused : Refused) (place kept found : ℕ) → result ≡ Err refused → refused.error ≡ RunError.SourceShrank place kept found → HasShrunkFor K.Keeper S.Source basis.now keeper.old place kept found sources.old }
-    ensures spent { (refused : Refused) → result ≡ Err refused → refused.error ≡ RunError.NumbersSpent → RanOutOfNumbers (run_of T.order K.Keeper O.Sink S.Source C.Clock basis.now sources.old keeper.old results.old clock.old clock.new) (K.kept keeper.new) }
+    ensures spent { (refused : Refused) → result ≡ Err refused → refused.error ≡ RunError.NumbersSpent → RanOutOfNumbers (run_of T.order K.Keeper O.Sink S.Source L.Link C.Clock basis.now sources.old keeper.old results.old link.old clock.old clock.new) (K.kept keeper.new) }
     ensures sink_cause { (refused : Refused) → result ≡ Err refused → refused.error ≡ RunError.SinkFault → Rose (O.faults results.old) (O.faults results.new) ⊎ Rose (O.faults status.old) (O.faults status.new) }
-    ensures told { O.tells → IfOk result (λ ended. HasTold (fixed_of T.order K.Keeper O.Sink S.Source basis.now sources.old keeper.old results.old) (K.kept keeper.new) basis.now.configured.notes (O.written status.old) (O.written status.new)) }
-    ensures stops_telling { O.tells → IfErr result (λ refused. HasToldSome (fixed_of T.order K.Keeper O.Sink S.Source basis.now sources.old keeper.old results.old) (K.kept keeper.new) basis.now.configured.notes (O.written status.old) (O.written status.new) ⊎ Rose (O.faults status.old) (O.faults status.new)) }
+    ensures told { O.tells → IfOk result (λ ended. HasTold (fixed_of T.order K.Keeper O.Sink S.Source L.Link basis.now sources.old keeper.old results.old link.old) (K.kept keeper.new) basis.now.configured.notes (O.written status.old) (O.written status.new)) }
+    ensures stops_telling { O.tells → IfErr result (λ refused. HasToldSome (fixed_of T.order K.Keeper O.Sink S.Source L.Link basis.now sources.old keeper.old results.old link.old) (K.kept keeper.new) basis.now.configured.notes (O.written status.old) (O.written status.new) ⊎ Rose (O.faults status.old) (O.faults status.new)) }
     ensures notes { O.tells → IsGrown (O.written status.old) (O.written status.new) }
+    ensures unlinked { basis.now.setup.forward ≡ false → link.new ≡ link.old }
+    ensures link_later { L.faults link.old ≤ L.faults link.new }
     ensures later { (K.faults keeper.old ≤ K.faults keeper.new) × (O.faults results.old ≤ O.faults results.new) × (O.faults status.old ≤ O.faults status.new) }
 {
     laws::coverage();
@@ -182,6 +192,10 @@ pub fn run_session<T: TakesRound<S>, S: Source, K: Keeper, O: Sink, C: Clock>(
         Err(refused) => return Err(told(basis.alloc, feeds, status, refused)),
     };
     for _ in 1..basis.setup.ticks {
+        let marks = match forward_sealed(basis, &state, keeper, link) {
+            Ok(marks) => marks,
+            Err(refused) => return Err(told(basis.alloc, feeds, status, refused)),
+        };
         let moment = match next_moment(basis, clock, &state, status, last) {
             Ok(moment) => moment,
             Err(refused) => return Err(told(basis.alloc, feeds, status, refused)),
@@ -192,12 +206,16 @@ pub fn run_session<T: TakesRound<S>, S: Source, K: Keeper, O: Sink, C: Clock>(
             configured_at: last,
             sealed,
         };
-        last = match take_tick(
-            order, basis, &mut state, feeds, sources, keeper, results, tick,
+        last = match take_next(
+            order, basis, &mut state, feeds, sources, keeper, results, &marks, tick,
         ) {
             Ok(last) => last,
             Err(refused) => return Err(told(basis.alloc, feeds, status, refused)),
         };
+    }
+    match forward_last(basis, &mut state, keeper, link) {
+        Ok(()) => {}
+        Err(refused) => return Err(told(basis.alloc, feeds, status, refused)),
     }
     state.is_state();
     end_session(basis.alloc, &state, feeds, status)

@@ -1,5 +1,5 @@
 -- A session whose ticks are over, and a source of which had more.
-use Rattle.std.proofs.Common.{◌≡◌, ◌⊎◌, inl, inr, ℕ, suc, ◌+◌, ◌*◌, ◌≤◌, ◌<◌, Bool, true, false, List, [], ◌∷◌, ◌++◌, length, drop, refl, sym, ap, subst, ◌∙◌, arith, length-append}
+use Rattle.std.proofs.Common.{◌≡◌, inl, inr, ℕ, suc, ◌*◌, ◌≤◌, ◌<◌, Bool, true, false, List, [], ◌∷◌, ◌++◌, length, refl, ap, ◌∙◌, arith, length-append}
 use Rattle.std.specs.Prelude.{All, Contains}
 use Rattle.std.proofs.Math.Nat.{le-div_iff_mul-le}
 use Rattle.std.proofs.lemmas.List.Elements.{All-contains}
@@ -15,6 +15,7 @@ use Rattle.entry_model.specs.Legal.{Legal}
 use Rattle.entry_model.specs.Values.{taken_from}
 use Rattle.session_model.specs.Given.{Given, Source}
 use Rattle.session_model.specs.Orders.{Order, in_turn, at_once}
+use Rattle.forward_rounds.specs.Forwarding.{View}
 use Rattle.replay_rounds.specs.Fixed.{Fixed, Run}
 use Rattle.replay_rounds.specs.FullTicks.{HasFullTick}
 use Rattle.replay_rounds.specs.Running.{HasMore, HasRun, run_by}
@@ -66,13 +67,13 @@ had_few x ticks kept some more =
     let (source, among, is) = one_full_in x.order (IsUnended x.source_tells x.given.config.categories x.given.records ticks x.start kept) x.source_tells x.given more.before more.moment more.last more.full in
     record { source = source; among = among; few = full_few x.given.config.categories x.given.records ticks x.start source some (is.full some) }
 
-pub few_ticks : (tells : Type 0) → FewTicks tells
-few_ticks tells order given start kept ticks written some more =
-    had_few (fixed_by order (Unit {0}) (Unit {0}) tells given start written) ticks kept some more
+pub few_ticks : (tells link_tells : Type 0) → FewTicks tells link_tells
+few_ticks tells link_tells order given start kept ticks written forwards before some more =
+    had_few (fixed_by order (Unit {0}) (Unit {0}) tells link_tells given start written forwards before) ticks kept some more
 
 -- a run that isn't at the ends of its sources had too few ticks for one of them
-pub is_end : (ran : Run) (ticks : ℕ) (kept : List Entry) (written : List ℕ) (ended : Ended) → HasRun ran ticks kept written ended → ran.fixed.keeper_tells → ran.fixed.source_tells → Legal ran.fixed.start → 1 ≤ ran.fixed.given.records → All (AreEnough ran.fixed.given.records ran.fixed.start ticks) ran.fixed.given.sources → ended.is_end ≡ true
-is_end ran ticks kept written ended run kept_told told legal some enough = by_end ended.is_end refl where
+pub is_end : (ran : Run) (ticks : ℕ) (kept : List Entry) (written : List ℕ) (linked : View) (ended : Ended) → HasRun ran ticks kept written linked ended → ran.fixed.keeper_tells → ran.fixed.source_tells → Legal ran.fixed.start → 1 ≤ ran.fixed.given.records → All (AreEnough ran.fixed.given.records ran.fixed.start ticks) ran.fixed.given.sources → ended.is_end ≡ true
+is_end ran ticks kept written linked ended run kept_told told legal some enough = by_end ended.is_end refl where
   by_end : (end : Bool) → ended.is_end ≡ end → end ≡ true
   by_end true is = refl
   by_end false is =
@@ -81,6 +82,6 @@ is_end ran ticks kept written ended run kept_told told legal some enough = by_en
       let many = All-contains (AreEnough ran.fixed.given.records ran.fixed.start ticks) ran.fixed.given.sources had.source enough had.among in
       absurd (omega (arith, few, many))
 
-pub reads_whole : {C : Type 0} (keeper_tells sink_tells source_tells : Type 0) (reads : C → ℕ → C → Type 0) → ReadsWhole keeper_tells sink_tells source_tells reads
-reads_whole keeper_tells sink_tells source_tells reads order given start kept before after clock now ticks ended kept_told told legal some run enough =
-    is_end (run_by (fixed_by order keeper_tells sink_tells source_tells given start before) reads clock now) ticks kept after ended run kept_told told legal some enough
+pub reads_whole : {C : Type 0} (keeper_tells sink_tells source_tells link_tells : Type 0) (reads : C → ℕ → C → Type 0) → ReadsWhole keeper_tells sink_tells source_tells link_tells reads
+reads_whole keeper_tells sink_tells source_tells link_tells reads order given start kept results_before results_after forwards link_before link_after clock now ticks ended kept_told told legal some run enough =
+    is_end (run_by (fixed_by order keeper_tells sink_tells source_tells link_tells given start results_before forwards link_before) reads clock now) ticks kept results_after link_after ended run kept_told told legal some enough

@@ -1,4 +1,4 @@
-use Rattle.std.proofs.Common.{◌≡◌, List, length, ap, ◌∙◌, subst}
+use Rattle.std.proofs.Common.{List, length, ap, ◌∙◌, subst}
 use Rattle.std.specs.Prelude.{Bool, OnOk}
 use Rattle.std.proofs.lemmas.List.{length-map}
 use Rattle.replay_rounds.specs.Noting.{IsNoted}
