@@ -5,7 +5,7 @@ use crate::left::{Shown, push_left};
 use crate::many::push_many;
 use crate::run::{Given, Text, run_alone, run_by_threads};
 use case_text::{bytes_of, items_of, kind_of_row, member_text};
-use osq_value::{Bytes, NoMemory};
+use osq_value::{Bytes, NoMemory, Sequence};
 use serde_json::Value as Json;
 use std::alloc::Global;
 use std::sync::Wait;
@@ -16,6 +16,7 @@ const KINDS: [&[&str]; 2] = [
         "words",
         "config",
         "sources",
+        "answers",
         "one_thread",
         "ends",
         "slices",
@@ -59,13 +60,22 @@ fn given_of(alloc: Global, row: &Json) -> Result<Given, NoMemory> {
     for source in items_of(row.get("sources")) {
         sources.push(text_of(alloc, source)?)?;
     }
-    Ok(Given { config, sources })
+    let mut answers = Sequence::new(alloc);
+    for answer in items_of(row.get("answers")) {
+        answers.push(bytes_of(alloc, answer)?)?;
+    }
+    Ok(Given {
+        config,
+        sources,
+        answers,
+    })
 }
 
 fn shown_of(row: &Json) -> Shown {
     Shown {
         ends: is_set(row, "ends"),
         slices: is_set(row, "slices"),
+        sent: row.get("answers").is_some(),
     }
 }
 

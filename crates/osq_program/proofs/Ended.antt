@@ -21,3 +21,8 @@ later_then first between now before behind = omega (arith, before, behind)
 pub failed_before : (A : Type 0) (first to now : ℕ) → to ≤ now → A ⊎ Rose first to → A ⊎ Rose first now
 failed_before A first to now behind (inl failed) = inl failed
 failed_before A first to now behind (inr rose) = inr (omega (arith, behind, rose))
+
+-- what was told, told otherwise
+pub told_or_failed : {A B F : Type 0} → (A → B) → A ⊎ F → B ⊎ F
+told_or_failed more (inl told) = inl (more told)
+told_or_failed more (inr failed) = inr failed

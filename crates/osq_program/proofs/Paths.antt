@@ -1,13 +1,15 @@
 -- What words ask for, and what is done of it.
 use Rattle.std.proofs.lemmas.List.{append-nil}
 use Rattle.std.proofs.Common.{◌∙◌, ◌≡◌, Bool, true, false, List, [], Option, Some, inl, refl, sym, ap, subst}
-use Rattle.std.specs.Prelude.{unwrap_or}
+use Rattle.std.specs.Prelude.{ℕ, unwrap_or}
+use Rattle.program_words.specs.Commands.{words_of}
 use Rattle.program_words.specs.declared.command.CommandWords.{CommandWords}
 use Rattle.program_words.specs.declared.command.CommandWords.TheVariants.{Replay as AsksReplay, Daemon as AsksDaemon, Query as AsksQuery, Check as AsksCheck, Collect as AsksCollect, Generate as AsksGenerate, SelfTest as AsksSelfTest, Report as AsksReport}
 use Rattle.program_words.specs.declared.command.QueryWords.{QueryWords}
 use Rattle.session_model.specs.Orders.{in_turn, at_once}
 use Rattle.osq_program.specs.declared.status.Status.{Status}
 use Rattle.osq_program.specs.declared.status.Status.TheVariants.{OutOfMemory}
+use Rattle.osq_program.specs.Commands.{IsForwarding, is_forwarding}
 use Rattle.osq_program.specs.Doing.{MeetsCommand, DoesQuery, QueriesBy, TellsCommand, TellsOfQuery, TellsQueryBy}
 use Rattle.osq_program.specs.Explaining.{IsExplain}
 use Rattle.osq_program.specs.Querying.{IsQuery}
@@ -76,3 +78,10 @@ tells_wanting command seen status is unread told = subst (λ (s : Status). Tells
 
 pub told_for_read : (read command : CommandWords) (seen : Observed) (status : Status) → Some read ≡ Some command → TellsCommand read seen status → TellsCommand command seen status
 told_for_read read command seen status is tells = subst (λ (c : CommandWords). TellsCommand c seen status) (ap (λ (o : Option CommandWords). unwrap_or o read) is) tells
+
+-- a command that was read is one that forwards only where its words are
+pub not_forwarding : (words : List (List ℕ)) (command : CommandWords) → words_of words ≡ Some command → ¬ IsForwarding words → is_forwarding command ≡ false
+not_forwarding words command is quiet = by_test (is_forwarding command) refl where
+  by_test : (t : Bool) → is_forwarding command ≡ t → is_forwarding command ≡ false
+  by_test true forwards = absurd (quiet (command, is, forwards))
+  by_test false still = still

@@ -1,6 +1,6 @@
 -- From what the parts of a run ensure to what `replay` does.
 use Rattle.std.proofs.Common.{◌≡◌, ◌⊎◌, inl, inr, ◌<◌, ℕ, Bool, true, false, List, [], ◌∷◌, ◌++◌, map, length, take, refl, sym, ap, ◌∙◌, subst, slice_get, arith, Some, suc, zero}
-use Rattle.std.specs.Prelude.{option_map}
+use Rattle.std.specs.Prelude.{Option, option_map}
 use Rattle.std.proofs.lemmas.Option.{same_Some, slice_get-map, slice_get_within}
 use Rattle.config_files.specs.Configurations.{IsConfigured}
 use Rattle.osq_config.specs.declared.config.Config.{Config}
@@ -10,6 +10,7 @@ use Rattle.entry_model.specs.Next.{offset_at}
 use Rattle.entry_model.specs.Summary.{summary}
 use Rattle.entry_model.specs.Values.{taken_from}
 use Rattle.entry_model.proofs.Summaries.{taken_is}
+use Rattle.program_words.specs.Commands.{forwards}
 use Rattle.program_words.specs.declared.command.ReplayWords.{ReplayWords}
 use Rattle.osq_value.specs.declared.source.SourceName.{SourceName}
 use Rattle.session_model.specs.Given.{Given}
@@ -20,10 +21,13 @@ use Rattle.daemon_rounds.specs.Starting as starting
 use Rattle.replay_rounds.specs.declared.running.Ended.{Ended}
 use Rattle.replay_rounds.specs.declared.refused.RunError.{RunError}
 use Rattle.replay_rounds.specs.declared.refused.RunError.TheVariants as running
-use Rattle.replay_rounds.specs.Fixed.{given_of}
-use Rattle.replay_rounds.specs.Noting.{HasTold}
+use Rattle.replay_rounds.specs.Fixed.{Fixed, Run, given_of}
+use Rattle.replay_rounds.specs.Noting.{HasTold, HasToldSome}
 use Rattle.replay_rounds.specs.Running.{HasRun, IsKept, IsWritten}
 use Rattle.replay_rounds.specs.Sources.{sources_of}
+use Rattle.replay_rounds.specs.Spent.{RanOutOfNumbers}
+use Rattle.replay_rounds.specs.Stopping.{Stops}
+use Rattle.replay_rounds.specs.declared.refused.Numbers.{Numbers}
 use Rattle.osq_program.specs.declared.status.Status.{Status}
 use Rattle.osq_program.specs.declared.status.Status.TheVariants.{Ok as Done, Usage, FilesFault, ConfigRefused, KeeperFault, KeeperRefused, MomentTooLarge, SourceFault, SourceShrank, NumbersSpent, SinkFault, TicksSpent, QueryRefused, OutOfMemory}
 use Rattle.osq_program.specs.Answers.{Causes, IsCaused, IsDoneStatus, IsSpentStatus, IsUsageStatus, IsRefusal, no_causes}
@@ -33,7 +37,7 @@ use Rattle.osq_program.specs.Reasons.{HasShrunk}
 use Rattle.osq_program.specs.Replaying.{IsAccepted, IsReplayGiven, IsReplay, IsToldBy, Ran, causes_of, fixed, run_in}
 use Rattle.osq_program.specs.Report.{final_line, refusal_line}
 use Rattle.osq_program.specs.Setups.{setup_in, sources_named}
-use Rattle.osq_program.specs.Observed.{Observed}
+use Rattle.osq_program.specs.Observed.{Observed, link_faults}
 use Rattle.osq_program.proofs.Setups.{sources_are}
 
 -- a refusal with a cause is no other answer
@@ -121,8 +125,8 @@ line_cause order words seen accepted OutOfMemory caused = tt
 
 -- a run that ended before its session was done
 pub stopped : (order : Order) (words : ReplayWords) (seen : Observed) (s : Status) → IsCaused (causes_of order words seen) s
-    → (seen.keeper_tells → ((seen.kept_after ≡ seen.kept_before) × seen.has_read []) ⊎ ((given : Given) × IsReplayGiven words seen given × IsKept (run_in order seen given) seen.kept_after))
-    → (seen.sink_tells → ((seen.results_after ≡ seen.results_before) × seen.has_read []) ⊎ ((given : Given) × IsReplayGiven words seen given × IsWritten (fixed order seen given) seen.kept_after seen.results_after))
+    → (seen.keeper_tells → ((seen.kept_after ≡ seen.kept_before) × seen.has_read []) ⊎ ((given : Given) × IsReplayGiven words seen given × IsKept (run_in order words seen given) seen.kept_after))
+    → (seen.sink_tells → ((seen.results_after ≡ seen.results_before) × seen.has_read []) ⊎ ((given : Given) × IsReplayGiven words seen given × IsWritten (fixed order words seen given) seen.kept_after seen.results_after))
     → IsReplay order words seen s
 stopped order words seen s caused kept written = record {
   done = λ done. absurd (not_done (causes_of order words seen) s caused done);
@@ -156,28 +160,76 @@ given_is left words seen setup config documents notes objects is bytes configure
   records = ap (λ (s : Setup). s.records) is;
 }
 
+-- a run of which it is told apart from the words whether it forwards
+abbrev pub fixed_if : Bool → Order → Observed → Given → Fixed
+fixed_if forward order seen given =
+    record {
+      order = order;
+      keeper_tells = seen.keeper_tells;
+      sink_tells = seen.sink_tells;
+      source_tells = seen.source_tells;
+      given = given;
+      start = seen.kept_before;
+      written = seen.results_before;
+      link = record { forwards = forward; tells = seen.link_tells; before = seen.link_before };
+    }
+
+abbrev pub run_if : Bool → Order → Observed → Given → Run
+run_if forward order seen given = record { fixed = fixed_if forward order seen given; has_read = seen.has_read }
+
+-- where it forwards as the words say it is that of the words
+module _ (order : Order) (words : ReplayWords) (seen : Observed) (given : Given) (forward : Bool) (same : forward ≡ forwards words) where
+  pub run_as : (ended : Ended) → HasRun (run_if forward order seen given) words.ticks seen.kept_after seen.results_after seen.link_after ended → HasRun (run_in order words seen given) words.ticks seen.kept_after seen.results_after seen.link_after ended
+  run_as ended = subst (λ (b : Bool). HasRun (run_if b order seen given) words.ticks seen.kept_after seen.results_after seen.link_after ended) same
+
+  pub kept_as : IsKept (run_if forward order seen given) seen.kept_after → IsKept (run_in order words seen given) seen.kept_after
+  kept_as = subst (λ (b : Bool). IsKept (run_if b order seen given) seen.kept_after) same
+
+  pub written_as : IsWritten (fixed_if forward order seen given) seen.kept_after seen.results_after → IsWritten (fixed order words seen given) seen.kept_after seen.results_after
+  written_as = subst (λ (b : Bool). IsWritten (fixed_if b order seen given) seen.kept_after seen.results_after) same
+
+  pub spent_as : RanOutOfNumbers (run_if forward order seen given) seen.kept_after → RanOutOfNumbers (run_in order words seen given) seen.kept_after
+  spent_as = subst (λ (b : Bool). RanOutOfNumbers (run_if b order seen given) seen.kept_after) same
+
+  pub told_as : (notes between : List ℕ) → HasTold (fixed_if forward order seen given) seen.kept_after notes seen.status_before between → HasTold (fixed order words seen given) seen.kept_after notes seen.status_before between
+  told_as notes between = subst (λ (b : Bool). HasTold (fixed_if b order seen given) seen.kept_after notes seen.status_before between) same
+
+  pub some_as : (notes between : List ℕ) → HasToldSome (fixed_if forward order seen given) seen.kept_after notes seen.status_before between → HasToldSome (fixed order words seen given) seen.kept_after notes seen.status_before between
+  some_as notes between = subst (λ (b : Bool). HasToldSome (fixed_if b order seen given) seen.kept_after notes seen.status_before between) same
+
+  pub stops_as : (untold : Type 0) (e : RunError) (known : Option Numbers) → Stops (run_if forward order seen given) seen.kept_after untold e known → Stops (run_in order words seen given) seen.kept_after untold e known
+  stops_as untold e known = subst (λ (b : Bool). Stops (run_if b order seen given) seen.kept_after untold e known) same
+
 -- a session that did all its ticks, and what was then told of it
 module _ (order : Order) (words : ReplayWords) (seen : Observed) (status : Status) (given : Given) (is : IsReplayGiven words seen given) (ended : Ended)
-    (run : HasRun (run_in order seen given) words.ticks seen.kept_after seen.results_after ended) (between : List ℕ) (session : seen.sink_tells → HasTold (fixed order seen given) seen.kept_after is.notes seen.status_before between) (fit : seen.keeper_tells → Fits (summary seen.kept_before)) where
+    (run : HasRun (run_in order words seen given) words.ticks seen.kept_after seen.results_after seen.link_after ended) (between : List ℕ) (session : seen.sink_tells → HasTold (fixed order words seen given) seen.kept_after is.notes seen.status_before between) (fit : seen.keeper_tells → Fits (summary seen.kept_before))
+    (faults : ℕ) (count : faults ≡ link_faults seen) where
   abbrev ran_with : (is_end : Bool) → ended.is_end ≡ is_end → Ran order words seen is_end
   ran_with is_end end_is = record { given = given; is = is; ended = ended; end_is = end_is; run = run; fit = fit }
 
-  told_by : (text : List ℕ) → seen.sink_tells → seen.status_after ≡ between ++ text → IsToldBy order seen given is.notes text
-  told_by text tells written = (between, session tells, written)
+  told_by : (text : ℕ → List ℕ) → seen.sink_tells → seen.status_after ≡ between ++ text faults → IsToldBy order words seen given is.notes (text (link_faults seen))
+  told_by text tells written = (between, session tells, written ∙ ap (λ (n : ℕ). between ++ text n) count)
 
-  told_spent : (failed : Type 0) → (failed → seen.status_failed) → seen.sink_tells → (seen.status_after ≡ between ++ (refusal_line TicksSpent ++ final_line 11 ended.numbers 0)) ⊎ failed
-      → IsToldBy order seen given is.notes (refusal_line TicksSpent ++ final_line 11 ended.numbers 0) ⊎ seen.status_failed
-  told_spent failed more tells (inl written) = inl (told_by (refusal_line TicksSpent ++ final_line 11 ended.numbers 0) tells written)
+  -- the last lines of each end, where the link failed so often
+  abbrev whole_text : ℕ → List ℕ
+  whole_text n = final_line 0 ended.numbers n
+
+  abbrev spent_text : ℕ → List ℕ
+  spent_text n = refusal_line TicksSpent ++ final_line 11 ended.numbers n
+
+  told_spent : (failed : Type 0) → (failed → seen.status_failed) → seen.sink_tells → (seen.status_after ≡ between ++ spent_text faults) ⊎ failed
+      → IsToldBy order words seen given is.notes (spent_text (link_faults seen)) ⊎ seen.status_failed
+  told_spent failed more tells (inl written) = inl (told_by spent_text tells written)
   told_spent failed more tells (inr rose) = inr (more rose)
 
-  pub ran : (failed : Type 0) → (failed → seen.status_failed) → (IsDoneStatus status → (ended.is_end ≡ true) × (seen.sink_tells → seen.status_after ≡ between ++ final_line 0 ended.numbers 0))
-      → (IsSpentStatus status → (ended.is_end ≡ false) × (seen.sink_tells → (seen.status_after ≡ between ++ (refusal_line TicksSpent ++ final_line 11 ended.numbers 0)) ⊎ failed))
+  pub ran : (failed : Type 0) → (failed → seen.status_failed) → (IsDoneStatus status → (ended.is_end ≡ true) × (seen.sink_tells → seen.status_after ≡ between ++ whole_text faults))
+      → (IsSpentStatus status → (ended.is_end ≡ false) × (seen.sink_tells → (seen.status_after ≡ between ++ spent_text faults) ⊎ failed))
       → (IsRefusal status → IsCaused (record no_causes { sink = failed }) status)
-      → (seen.keeper_tells → IsKept (run_in order seen given) seen.kept_after) → (seen.sink_tells → IsWritten (fixed order seen given) seen.kept_after seen.results_after) → IsReplay order words seen status
+      → (seen.keeper_tells → IsKept (run_in order words seen given) seen.kept_after) → (seen.sink_tells → IsWritten (fixed order words seen given) seen.kept_after seen.results_after) → IsReplay order words seen status
   ran failed more done spent cause kept written = record {
     done = λ finished.
         let end = done finished in
-        (ran_with true end.0, λ tells. told_by (final_line 0 ended.numbers 0) tells (end.1 tells));
+        (ran_with true end.0, λ tells. told_by whole_text tells (end.1 tells));
     spent = λ finished.
         let end = spent finished in
         (ran_with false end.0, λ tells. told_spent failed more tells (end.1 tells));
@@ -200,6 +252,23 @@ module _ (order : Order) (words : ReplayWords) (seen : Observed) (status : Statu
     failed_more TicksSpent caused = caused
     failed_more (QueryRefused place kind) caused = caused
     failed_more OutOfMemory caused = tt
+
+-- the same of a run of which it is told apart from the words whether it forwards
+module _ (order : Order) (words : ReplayWords) (seen : Observed) (status : Status) (given : Given) (is : IsReplayGiven words seen given) (forward : Bool) (same : forward ≡ forwards words) where
+  pub ran_if : (ended : Ended) → HasRun (run_if forward order seen given) words.ticks seen.kept_after seen.results_after seen.link_after ended → (between : List ℕ) → (seen.sink_tells → HasTold (fixed_if forward order seen given) seen.kept_after is.notes seen.status_before between) → (seen.keeper_tells → Fits (summary seen.kept_before))
+      → (faults : ℕ) → faults ≡ link_faults seen → (failed : Type 0) → (failed → seen.status_failed) → (IsDoneStatus status → (ended.is_end ≡ true) × (seen.sink_tells → seen.status_after ≡ between ++ final_line 0 ended.numbers faults))
+      → (IsSpentStatus status → (ended.is_end ≡ false) × (seen.sink_tells → (seen.status_after ≡ between ++ (refusal_line TicksSpent ++ final_line 11 ended.numbers faults)) ⊎ failed))
+      → (IsRefusal status → IsCaused (record no_causes { sink = failed }) status)
+      → (seen.keeper_tells → IsKept (run_if forward order seen given) seen.kept_after) → (seen.sink_tells → IsWritten (fixed_if forward order seen given) seen.kept_after seen.results_after) → IsReplay order words seen status
+  ran_if ended run between session fit faults count failed more done spent cause kept written =
+      ran order words seen status given is ended (run_as order words seen given forward same ended run) between (λ tells. told_as order words seen given forward same is.notes between (session tells)) fit faults count failed more done spent cause
+      (λ tells. kept_as order words seen given forward same (kept tells)) (λ tells. written_as order words seen given forward same (written tells))
+
+  pub stopped_if : ((RanOutOfNumbers (run_if forward order seen given) seen.kept_after → (given : Given) × IsReplayGiven words seen given × RanOutOfNumbers (run_in order words seen given) seen.kept_after) → IsCaused (causes_of order words seen) status)
+      → (seen.keeper_tells → IsKept (run_if forward order seen given) seen.kept_after) → (seen.sink_tells → IsWritten (fixed_if forward order seen given) seen.kept_after seen.results_after) → IsReplay order words seen status
+  stopped_if caused kept written =
+      stopped order words seen status (caused (λ spends. (given, is, spent_as order words seen given forward same spends)))
+      (λ tells. inr (given, is, kept_as order words seen given forward same (kept tells))) (λ tells. inr (given, is, written_as order words seen given forward same (written tells)))
 
 -- the answer to the end of a session is caused by it
 pub answered : (c : Causes) (sources : List SourceName) (e : RunError) (s : Status) → IsAnswerTo sources e s → (e ≡ running.KeeperFault → c.keeper) → (e ≡ running.KeeperRefused → c.unfit)

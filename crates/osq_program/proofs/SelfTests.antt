@@ -1,5 +1,5 @@
 -- From what the parts of `selftest` ensure to what it does.
-use Rattle.std.proofs.Common.{◌≡◌, ◌≤◌, ◌<◌, ◌+◌, ◌-◌, ◌/◌, ◌^◌, ◌++◌, ℕ, arith, List, [], ◌∷◌, length, codes, min, take, true, Some, refl, sym, ap, ◌∙◌, subst}
+use Rattle.std.proofs.Common.{◌≡◌, ◌≤◌, ◌<◌, ◌+◌, ◌-◌, ◌/◌, ◌^◌, ◌++◌, ℕ, arith, List, [], ◌∷◌, length, codes, min, take, Bool, true, false, Some, refl, sym, ap, ◌∙◌, subst}
 use Rattle.std.specs.Prelude.{IfOk, Result, Ok, Err}
 use Rattle.std.proofs.lemmas.Option.{same_Some}
 use Rattle.osq_value.specs.declared.source.SourceKind.TheVariants.{Changes}
@@ -10,10 +10,13 @@ use Rattle.generated_changes.specs.Generated.{lines_of}
 use Rattle.kept_report.specs.Counting.{numbers_in, numbers_line}
 use Rattle.program_words.specs.declared.command.GenerateWords.{GenerateWords}
 use Rattle.program_words.specs.declared.command.ReplayWords.{ReplayWords}
-use Rattle.program_words.specs.Bounds.{RunBounds}
+use Rattle.program_words.specs.Bounds.{SessionBounds}
+use Rattle.program_words.specs.Commands.{forwards}
 use Rattle.session_model.specs.Given.{Given}
 use Rattle.replay_rounds.specs.declared.running.Ended.{Ended}
-use Rattle.replay_rounds.specs.Fixed.{Run}
+use Rattle.forward_rounds.specs.Forwarding.{View}
+use Rattle.replay_rounds.specs.Fixed.{Linked, Run}
+use Rattle.replay_rounds.specs.Linking.{readings_of}
 use Rattle.replay_rounds.specs.Running.{HasRun, ReadsAll, run_by}
 use Rattle.entry_model.specs.declared.entry.Entry.{Entry}
 use Rattle.osq_program.specs.declared.status.Status.{Status}
@@ -22,19 +25,20 @@ use Rattle.osq_program.specs.Answers.{IsDoneStatus}
 use Rattle.osq_program.specs.Observed.{Observed}
 use Rattle.osq_program.specs.Replaying.{IsReplayGiven}
 use Rattle.osq_program.specs.Report.{IsRefusedAs}
-use Rattle.osq_program.specs.SelfTesting.{HasRunOver, HasTested, IsSelfGiven, IsSelfTest, config_path, document, readings_from, self_fixed, self_key, self_run, self_words}
+use Rattle.osq_program.specs.SelfTesting.{HasRunOver, HasTested, IsSelfGiven, IsSelfTest, config_path, document, no_view, readings_from, self_fixed, self_key, self_link, self_run, self_words}
 use Rattle.osq_program.specs.Setups.{host_in, sources_named}
 use Rattle.osq_program.proofs.Toldings.{as_plain}
 
 -- the same run, told by another property of the readings
-pub read_as : (ran : Run) (q : List ℕ → Type 0) (ticks : ℕ) (kept : List Entry) (written : List ℕ) (ended : Ended) → ((readings : List ℕ) → ran.has_read readings → q readings) → HasRun ran ticks kept written ended → HasRun (record ran { has_read = q }) ticks kept written ended
-read_as ran q ticks kept written ended more run =
+pub read_as : (ran : Run) (q : List ℕ → Type 0) (ticks : ℕ) (kept : List Entry) (written : List ℕ) (linked : View) (ended : Ended) → ((readings : List ℕ) → ran.has_read readings → q readings) → HasRun ran ticks kept written linked ended → HasRun (record ran { has_read = q }) ticks kept written linked ended
+read_as ran q ticks kept written linked ended more run =
     record {
-      readings = run.readings;
+      beats = run.beats;
       entries = run.entries;
-      read = more run.readings run.read;
+      read = more (readings_of run.beats) run.read;
       count = run.count;
       grows = run.grows;
+      forwarded = run.forwarded;
       told = run.told;
       covered = run.covered;
       answered = run.answered;
@@ -68,16 +72,19 @@ self_given lines count start words seen given is tells file bytes found =
 pub self_count : (count start : ℕ) (words : ReplayWords) → words ≡ self_words count start → length words.sources ≡ 1
 self_count count start words is = ap (λ (w : ReplayWords). length w.sources) is
 
-pub self_bounded : (count start : ℕ) (words : ReplayWords) → count ≤ 1000000 → start < 2 ^ 63 → words ≡ self_words count start → RunBounds words.start words.step words.ticks words.records words.sources
+pub self_bounded : (count start : ℕ) (words : ReplayWords) → count ≤ 1000000 → start < 2 ^ 63 → words ≡ self_words count start → SessionBounds words
 self_bounded count start words few early is =
-    subst (λ (w : ReplayWords). RunBounds w.start w.step w.ticks w.records w.sources) (sym is) (record {
-      clock = record { start_in = early; step_in = omega arith };
-      some_ticks = omega arith;
-      ticks_in = omega arith;
-      some_records = omega arith;
-      records_in = omega arith;
-      sources_in = record { few = omega arith; own_paths = λ i j d before within. absurd (omega arith) };
-    })
+    subst SessionBounds (sym is) (
+      record {
+        clock = record { start_in = early; step_in = omega arith };
+        some_ticks = omega arith;
+        ticks_in = omega arith;
+        some_records = omega arith;
+        records_in = omega arith;
+        sources_in = record { few = omega arith; own_paths = λ i j d before within. absurd (omega arith) };
+      },
+      record { some_bytes = omega arith; bytes_in = omega arith },
+    )
 
 abbrev pub steps : StepClock → ℕ → StepClock → Type 0
 steps before moment after = (moment ≡ before.next) × (after ≡ record before { next = min (before.next + before.step) (2 ^ 64 - 1) })
@@ -90,21 +97,45 @@ readings_are clock (reading ∷ rest) after step (between, (first, next), others
     let moved : between.next ≡ min (clock.next + 60) (2 ^ 64 - 1) = ap (λ (c : StepClock). c.next) next ∙ ap (λ (s : ℕ). min (clock.next + s) (2 ^ 64 - 1)) step in
     ap (λ (r : ℕ). r ∷ rest) first ∙ ap (λ (rs : List ℕ). clock.next ∷ rs) (readings_are between rest after still others ∙ ap (λ (n : ℕ). readings_from n (length rest)) moved)
 
+abbrev pub view_with : List (List ℕ) → List (List ℕ) → ℕ → View
+view_with sent waiting faults = record { sent = sent; waiting = waiting; faults = faults }
+
+-- the run of it, whatever its link
+abbrev pub linked_run : Given → List Entry → (clock read : StepClock) → Linked → Run
+linked_run given kept clock read link = run_by (record (self_fixed given kept) { link = link }) steps clock read
+
 -- from one list to another a session ran over these lines
-pub ran_over : (lines : List ℕ) (count start : ℕ) (before kept after : List Entry) (words : ReplayWords) (clock read : StepClock) (given : Given) (ended : Ended) → IsSelfGiven lines count start given → ended.is_end ≡ true → words ≡ self_words count start → kept ≡ before → clock ≡ record { next = start; step = 60 }
-    → HasRun (run_by (self_fixed given kept) steps clock read) words.ticks after [] ended → HasRunOver lines count start before after
-ran_over lines count start before kept after words clock read given ended is whole words_is kept_is clock_is run =
-    let told : HasRun (self_run given start kept) words.ticks after [] ended =
-    read_as (run_by (self_fixed given kept) steps clock read) (self_run given start kept).has_read words.ticks after [] ended (λ readings reads. readings_are clock readings read (ap (λ (c : StepClock). c.step) clock_is) reads ∙ ap (λ (c : StepClock). readings_from c.next (length readings)) clock_is) run
+pub ran_over : (lines : List ℕ) (count start : ℕ) (before kept after : List Entry) (words : ReplayWords) (clock read : StepClock) (link : Linked) (linked : View) (given : Given) (ended : Ended) → IsSelfGiven lines count start given → ended.is_end ≡ true → words ≡ self_words count start
+    → kept ≡ before → clock ≡ record { next = start; step = 60 } → link ≡ self_link → HasRun (linked_run given kept clock read link) words.ticks after [] linked ended → HasRunOver lines count start before after
+ran_over lines count start before kept after words clock read link linked given ended is whole words_is kept_is clock_is link_is run =
+    let quiet : HasRun (linked_run given kept clock read self_link) words.ticks after [] linked ended =
+    subst (λ (l : Linked). HasRun (linked_run given kept clock read l) words.ticks after [] linked ended) link_is run
     in
-    let ticked : HasRun (self_run given start kept) (count / 100 + 2) after [] ended = subst (λ (t : ℕ). HasRun (self_run given start kept) t after [] ended) (ap (λ (w : ReplayWords). w.ticks) words_is) told in
+    let told : HasRun (self_run given start kept) words.ticks after [] linked ended =
+    read_as (run_by (self_fixed given kept) steps clock read) (self_run given start kept).has_read words.ticks after [] linked ended (λ readings reads. readings_are clock readings read (ap (λ (c : StepClock). c.step) clock_is) reads ∙ ap (λ (c : StepClock). readings_from c.next (length readings)) clock_is) quiet
+    in
+    let ticked : HasRun (self_run given start kept) (count / 100 + 2) after [] linked ended = subst (λ (t : ℕ). HasRun (self_run given start kept) t after [] linked ended) (ap (λ (w : ReplayWords). w.ticks) words_is) told in
     record {
       given = given;
       is = is;
       ended = ended;
+      linked = linked;
       whole = whole;
-      run = subst (λ (k : List Entry). HasRun (self_run given start k) (count / 100 + 2) after [] ended) kept_is ticked;
+      run = subst (λ (k : List Entry). HasRun (self_run given start k) (count / 100 + 2) after [] linked ended) kept_is ticked;
     }
+
+-- a link of which nothing is told yet
+pub view_none : (sent waiting : List (List ℕ)) (faults : ℕ) → sent ≡ [] → waiting ≡ [] → faults ≡ 0 → view_with sent waiting faults ≡ no_view
+view_none sent waiting faults unsent quiet whole =
+    ap (λ (xs : List (List ℕ)). view_with xs waiting faults) unsent ∙ (ap (λ (xs : List (List ℕ)). view_with [] xs faults) quiet ∙ ap (λ (n : ℕ). view_with [] [] n) whole)
+
+abbrev pub link_with : Bool → View → Linked
+link_with forward view = record { forwards = forward; tells = Unit {0}; before = view }
+
+-- the words of a self test name no link
+pub self_linked : (count start : ℕ) (words : ReplayWords) (view : View) → words ≡ self_words count start → view ≡ no_view → link_with (forwards words) view ≡ self_link
+self_linked count start words view is same =
+    ap (λ (b : Bool). link_with b view) (ap forwards is) ∙ ap (λ (v : View). link_with false v) same
 
 -- the line of the list that the session left
 pub line_tested : {E : Type 0} (w : GenerateWords) (kept : List Entry) (result : Result (List ℕ) E) → HasRunOver (lines_of w.from w.count) w.count 1000 [] kept → IfOk result (λ line. line ≡ numbers_line (numbers_in self_key kept)) → IfOk result (HasTested w)

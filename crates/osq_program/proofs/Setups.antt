@@ -1,13 +1,17 @@
 -- What a session is given by words.
 use Rattle.std.proofs.Common.{◌≡◌, ◌≢◌, ℕ, Bool, true, false, List, [], ◌∷◌, map, length, refl, sym, ap, ◌∙◌, subst, arith, suc, zero}
-use Rattle.std.specs.Prelude.{◌≤◌, All, AllPairs, bytes_eq}
+use Rattle.std.specs.Prelude.{◌≤◌, ◌&&◌, All, AllPairs, bytes_eq, nat_le}
 use Rattle.std.specs.List.{list_any}
 use Rattle.std.proofs.lemmas.List.Elements.{All-head, All-tail}
+use Rattle.std.proofs.lemmas.Bool.Decides.{nat_tests}
 use Rattle.std.proofs.lemmas.Slice.Eq.{bytes_eq-Decides}
 use Rattle.entry_model.specs.declared.entry.Entry.{Entry}
 use Rattle.entry_model.specs.Fits.{IsDistinct}
+use Rattle.forward_rounds.specs.Forwarding.{View}
+use Rattle.program_words.specs.Bounds.{HostBounds}
 use Rattle.program_words.specs.declared.command.ReplayWords.{ReplayWords}
 use Rattle.osq_value.specs.declared.source.SourceName.{SourceName}
+use Rattle.batch_frames.specs.Valid.{is_host}
 use Rattle.session_model.specs.Given.{Source}
 use Rattle.daemon_rounds.specs.declared.setup.Setup.{Setup}
 use Rattle.daemon_rounds.specs.Starting.{source_names}
@@ -15,6 +19,7 @@ use Rattle.replay_rounds.specs.declared.running.Ended.{Ended}
 use Rattle.replay_rounds.specs.Fixed.{Run}
 use Rattle.replay_rounds.specs.Running.{HasRun}
 use Rattle.replay_rounds.specs.Sources.{sources_of}
+use Rattle.program_words.specs.Commands.{forwards}
 use Rattle.osq_program.specs.Setups.{setup_in, sources_named}
 
 -- the sources of a setup are those that the words name
@@ -55,9 +60,25 @@ setup_distinct setup words is own = subst (λ (s : Setup). IsDistinct bytes_eq (
 pub setup_ticks : (setup : Setup) (words : ReplayWords) → setup ≡ setup_in words → 1 ≤ words.ticks → 1 ≤ setup.ticks
 setup_ticks setup words is some = subst (λ (s : Setup). 1 ≤ s.ticks) (sym is) some
 
-pub for_ticks : (setup : Setup) (words : ReplayWords) (ran : Run) (kept : List Entry) (written : List ℕ) (ended : Ended) → setup ≡ setup_in words
-    → HasRun ran setup.ticks kept written ended → HasRun ran words.ticks kept written ended
-for_ticks setup words ran kept written ended is run = subst (λ (s : Setup). HasRun ran s.ticks kept written ended) is run
+-- and its host is one of frames
+host_is : (host : List ℕ) → HostBounds host → is_host host ≡ true
+host_is host bounds =
+    let some = bounds.some_bytes in
+    let few = bounds.bytes_in in
+    let least : nat_le 1 (length host) ≡ true = grind (arith, nat_tests, some) in
+    let most : nat_le (length host) 255 ≡ true = grind (arith, nat_tests, few) in
+    λ i. least i && most i
+
+pub setup_host : (setup : Setup) (words : ReplayWords) → setup ≡ setup_in words → HostBounds words.host → is_host setup.host.identifier ≡ true
+setup_host setup words is bounds = subst (λ (s : Setup). is_host s.host.identifier ≡ true) (sym is) (host_is words.host bounds)
+
+-- it forwards where they name a link
+pub setup_forwards : (setup : Setup) (words : ReplayWords) → setup ≡ setup_in words → setup.forward ≡ forwards words
+setup_forwards setup words is = ap (λ (s : Setup). s.forward) is
+
+pub for_ticks : (setup : Setup) (words : ReplayWords) (ran : Run) (kept : List Entry) (written : List ℕ) (linked : View) (ended : Ended) → setup ≡ setup_in words
+    → HasRun ran setup.ticks kept written linked ended → HasRun ran words.ticks kept written linked ended
+for_ticks setup words ran kept written linked ended is run = subst (λ (s : Setup). HasRun ran s.ticks kept written linked ended) is run
 
 -- the same of the names of these sources
 pub names_distinct : (names sources : List SourceName) → names ≡ sources → AllPairs (λ (a b : SourceName). a.name ≢ b.name) sources → IsDistinct bytes_eq (source_names names)

@@ -160,23 +160,23 @@ pub starved : (failed : Type 0) (before after : List ℕ) (status : Status) → 
 starved failed before after status is (inl told) = inl (is, told ∙ ap (λ (s : Status). before ++ refusal_line s) (sym is))
 starved failed before after status is (inr (fault, part)) = inr fault
 
-pub starved_end : (failed : Type 0) (before after : List ℕ) (refused status : Status) (kept : Numbers) → status ≡ OutOfMemory → Tells failed before after (refusal_line OutOfMemory) → EndsAs before after refused status kept ⊎ failed
-starved_end failed before after refused status kept is (inl told) = inl (inr (is, told ∙ ap (λ (s : Status). before ++ refusal_line s) (sym is)))
-starved_end failed before after refused status kept is (inr (fault, part)) = inr fault
+pub starved_end : (failed : Type 0) (before after : List ℕ) (refused status : Status) (kept : Numbers) (faults : ℕ) → status ≡ OutOfMemory → Tells failed before after (refusal_line OutOfMemory) → EndsAs before after refused status kept faults ⊎ failed
+starved_end failed before after refused status kept faults is (inl told) = inl (inr (is, told ∙ ap (λ (s : Status). before ++ refusal_line s) (sym is)))
+starved_end failed before after refused status kept faults is (inr (fault, part)) = inr fault
 
 -- both lines were written
-pub whole_end : (failed : Type 0) (before after text : List ℕ) (status : Status) (kept : Numbers) → text ≡ refusal_line status ++ final_line (status_number status) kept 0 → Tells failed before after text → EndsAs before after status status kept ⊎ failed
-whole_end failed before after text status kept is (inl told) = inl (inl (refl, told ∙ ap (λ (t : List ℕ). before ++ t) is))
-whole_end failed before after text status kept is (inr (fault, part)) = inr fault
+pub whole_end : (failed : Type 0) (before after text : List ℕ) (status : Status) (kept : Numbers) (faults : ℕ) → text ≡ refusal_line status ++ final_line (status_number status) kept faults → Tells failed before after text → EndsAs before after status status kept faults ⊎ failed
+whole_end failed before after text status kept faults is (inl told) = inl (inl (refl, told ∙ ap (λ (t : List ℕ). before ++ t) is))
+whole_end failed before after text status kept faults is (inr (fault, part)) = inr fault
 
 -- the end of a session whose ticks are spent
-module _ (failed : Type 0) (before after : List ℕ) (status : Status) (kept : Numbers) where
-  pub spent_end : EndsAs before after TicksSpent status kept ⊎ failed → IsSpentStatus status → (after ≡ before ++ (refusal_line TicksSpent ++ final_line 11 kept 0)) ⊎ failed
+module _ (failed : Type 0) (before after : List ℕ) (status : Status) (kept : Numbers) (faults : ℕ) where
+  pub spent_end : EndsAs before after TicksSpent status kept faults ⊎ failed → IsSpentStatus status → (after ≡ before ++ (refusal_line TicksSpent ++ final_line 11 kept faults)) ⊎ failed
   spent_end (inl (inl (same, told))) spent = inl told
   spent_end (inl (inr (wanting, told))) spent = absurd (subst IsSpentStatus wanting spent)
   spent_end (inr fault) spent = inr fault
 
-  pub wanting_end : EndsAs before after TicksSpent status kept ⊎ failed → IsRefusal status → ((status ≡ OutOfMemory) × (after ≡ before ++ refusal_line status)) ⊎ failed
+  pub wanting_end : EndsAs before after TicksSpent status kept faults ⊎ failed → IsRefusal status → ((status ≡ OutOfMemory) × (after ≡ before ++ refusal_line status)) ⊎ failed
   wanting_end (inl (inl (same, told))) refusal = absurd (subst IsRefusal same refusal)
   wanting_end (inl (inr (wanting, told))) refusal = inl (wanting, told)
   wanting_end (inr fault) refusal = inr fault

@@ -1,6 +1,7 @@
 -- What the objects of the outside tell of one run.
-use Rattle.std.specs.Prelude.{ℕ, List, Option}
+use Rattle.std.specs.Prelude.{ℕ, ◌-◌, List, Option}
 use Rattle.entry_model.specs.declared.entry.Entry.{Entry}
+use Rattle.forward_rounds.specs.Forwarding.{View}
 
 -- Of each object whether it tells what it holds, what that was before the run and is behind it, and whether it failed in between.
 pub record Observed : Type 1 where
@@ -27,3 +28,10 @@ pub record Observed : Type 1 where
   pub ledger_before : List ℕ
   pub ledger_after : List ℕ
   pub ledger_failed : Type 0
+  pub link_tells : Type 0
+  pub link_before : View  -- the frames that were sent, the answers that wait, and how often it failed
+  pub link_after : View
+
+-- how often the link failed in the run
+abbrev pub link_faults : Observed → ℕ
+link_faults seen = seen.link_after.faults - seen.link_before.faults

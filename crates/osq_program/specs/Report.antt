@@ -91,15 +91,15 @@ abbrev pub Tells : (failed : Type 0) → (before after text : List ℕ) → Type
 Tells failed before after text = (after ≡ before ++ text) ⊎ (failed × ((count : ℕ) × (after ≡ before ++ take count text)))
 
 -- The end of a session over a loaded list: the line of its refusal and the final line; or, where memory was wanting for these, that of this want.
-abbrev pub EndsAs : (before after : List ℕ) (refused : Status) → Status → Numbers → Type 0
-EndsAs before after refused status kept =
-    ((status ≡ refused) × (after ≡ before ++ (refusal_line refused ++ final_line (status_number refused) kept 0)))
+abbrev pub EndsAs : (before after : List ℕ) (refused : Status) → Status → Numbers → (faults : ℕ) → Type 0
+EndsAs before after refused status kept faults =
+    ((status ≡ refused) × (after ≡ before ++ (refusal_line refused ++ final_line (status_number refused) kept faults)))
     ⊎ ((status ≡ OutOfMemory) × (after ≡ before ++ refusal_line status))
 
 -- where it has no numbers, the line of its refusal alone
-abbrev pub TellsStop : (failed : Type 0) → (before after : List ℕ) (refused : Status) → Status → Option Numbers → Type 0
-TellsStop failed before after refused status None = IsRefusedAs refused status × Tells failed before after (refusal_line status)
-TellsStop failed before after refused status (Some kept) = EndsAs before after refused status kept ⊎ failed
+abbrev pub TellsStop : (failed : Type 0) → (before after : List ℕ) (refused : Status) → Status → Option Numbers → (faults : ℕ) → Type 0
+TellsStop failed before after refused status None faults = IsRefusedAs refused status × Tells failed before after (refusal_line status)
+TellsStop failed before after refused status (Some kept) faults = EndsAs before after refused status kept faults ⊎ failed
 
 -- the answer to words that give no command, and what is told of it
 abbrev pub status_of : WordsError → Status

@@ -1,5 +1,5 @@
 -- What `selftest` does.
-use Rattle.std.specs.Prelude.{◌≡◌, ℕ, zero, suc, ◌+◌, ◌-◌, ◌/◌, ◌^◌, min, true, List, [], ◌∷◌, ◌++◌, length, take, codes, None, Some}
+use Rattle.std.specs.Prelude.{◌≡◌, ℕ, zero, suc, ◌+◌, ◌-◌, ◌/◌, ◌^◌, min, true, false, List, [], ◌∷◌, ◌++◌, length, take, codes, None, Some}
 use Rattle.osq_value.specs.declared.source.SourceKind.TheVariants.{Changes}
 use Rattle.osq_value.specs.declared.source.SourceName.{SourceName}
 use Rattle.config_files.specs.Configurations.{IsConfigOf}
@@ -13,7 +13,8 @@ use Rattle.program_words.specs.declared.command.ReplayWords.{ReplayWords}
 use Rattle.session_model.specs.Given.{Given}
 use Rattle.session_model.specs.Orders.{in_turn}
 use Rattle.replay_rounds.specs.declared.running.Ended.{Ended}
-use Rattle.replay_rounds.specs.Fixed.{Fixed, Run}
+use Rattle.forward_rounds.specs.Forwarding.{View}
+use Rattle.replay_rounds.specs.Fixed.{Fixed, Linked, Run}
 use Rattle.replay_rounds.specs.Running.{HasRun}
 use Rattle.osq_program.specs.declared.status.Status.{Status}
 use Rattle.osq_program.specs.declared.status.Status.TheVariants.{Ok as Done, SinkFault}
@@ -47,6 +48,7 @@ self_words count start = record {
   step = 60;
   ticks = count / 100 + 2;
   records = 100;
+  link = None;
 }
 
 -- so many readings of a clock that begins at this moment, and goes on by a minute at each
@@ -63,6 +65,13 @@ pub record IsSelfGiven (lines : List ℕ) (count start : ℕ) (given : Given) : 
   pub sources : given.sources ≡ (record { name = codes "generated"; kind = Changes; bytes = lines }) ∷ []
   pub records : given.records ≡ 100
 
+-- through its link nothing is sent, and no answer waits
+abbrev pub no_view : View
+no_view = record { sent = []; waiting = []; faults = 0 }
+
+abbrev pub self_link : Linked
+self_link = record { forwards = false; tells = Unit {0}; before = no_view }
+
 abbrev pub self_fixed : Given → List Entry → Fixed
 self_fixed given before =
     record {
@@ -73,6 +82,7 @@ self_fixed given before =
       given = given;
       start = before;
       written = [];
+      link = self_link;
     }
 
 -- the run of it over a clock that begins at this moment
@@ -84,8 +94,9 @@ pub record HasRunOver (lines : List ℕ) (count start : ℕ) (before after : Lis
   pub given : Given
   pub is : IsSelfGiven lines count start given
   pub ended : Ended
+  pub linked : View
   pub whole : ended.is_end ≡ true
-  pub run : HasRun (self_run given start before) (count / 100 + 2) after [] ended
+  pub run : HasRun (self_run given start before) (count / 100 + 2) after [] linked ended
 
 -- the line tells the numbers of a list that such a session left, over the generated lines and behind an empty list
 pub record HasTested (w : GenerateWords) (line : List ℕ) : Type 0 where

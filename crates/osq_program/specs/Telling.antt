@@ -10,10 +10,10 @@ use Rattle.replay_rounds.specs.Noting.{HasToldSome}
 use Rattle.replay_rounds.specs.Stopping.{AreLoaded, AreNumbersOf, AreSealed}
 use Rattle.replay_rounds.specs.declared.refused.Numbers.{Numbers}
 use Rattle.osq_program.specs.declared.status.Status.{Status}
-use Rattle.osq_program.specs.declared.status.Status.TheVariants.{Ok as Done, Usage, FilesFault, ConfigRefused, KeeperFault, KeeperRefused, MomentTooLarge, SourceFault, SourceShrank, NumbersSpent, SinkFault, TicksSpent, QueryRefused, OutOfMemory}
+use Rattle.osq_program.specs.declared.status.Status.TheVariants.{Ok as Done, Usage, FilesFault, ConfigRefused, KeeperFault, KeeperRefused, SinkFault, TicksSpent, QueryRefused, OutOfMemory}
 use Rattle.osq_program.specs.Answers.{IsRefusal, status_number}
 use Rattle.osq_program.specs.Checking.{HasLines}
-use Rattle.osq_program.specs.Observed.{Observed}
+use Rattle.osq_program.specs.Observed.{Observed, link_faults}
 use Rattle.osq_program.specs.Querying.{HasAnswer, IsPosed}
 use Rattle.osq_program.specs.Replaying.{IsAccepted, IsReplayGiven, fixed, run_in}
 use Rattle.osq_program.specs.Report.{Tells, final_line, refusal_line, unread_line}
@@ -99,15 +99,15 @@ pub record IsUnbegun (words : ReplayWords) (seen : Observed) (status : Status) :
   pub told : TellsBehind seen front status
 
 -- the numbers in the final line of each status: of the list as it was loaded, as it was before a seal that failed, or as it is
-abbrev pub AreNumbersAt : Order → Status → Observed → Given → Numbers → Type 0
-AreNumbersAt order KeeperRefused seen given numbers = AreLoaded (run_in order seen given) seen.kept_after numbers
-AreNumbersAt order KeeperFault seen given numbers = AreSealed (run_in order seen given) seen.kept_after numbers
-AreNumbersAt order status seen given numbers = AreNumbersOf (fixed order seen given) seen.kept_after numbers
+abbrev pub AreNumbersAt : Order → ReplayWords → Status → Observed → Given → Numbers → Type 0
+AreNumbersAt order words KeeperRefused seen given numbers = AreLoaded (run_in order words seen given) seen.kept_after numbers
+AreNumbersAt order words KeeperFault seen given numbers = AreSealed (run_in order words seen given) seen.kept_after numbers
+AreNumbersAt order words status seen given numbers = AreNumbersOf (fixed order words seen given) seen.kept_after numbers
 
 -- behind these lines there stand that of the status and the final line
-abbrev pub EndsWhole : Order → Observed → Given → Status → List ℕ → Type 0
-EndsWhole order seen given status between =
-    (numbers : Numbers) × AreNumbersAt order status seen given numbers × (seen.status_after ≡ between ++ (refusal_line status ++ final_line (status_number status) numbers 0))
+abbrev pub EndsWhole : Order → ReplayWords → Observed → Given → Status → List ℕ → Type 0
+EndsWhole order words seen given status between =
+    (numbers : Numbers) × AreNumbersAt order words status seen given numbers × (seen.status_after ≡ between ++ (refusal_line status ++ final_line (status_number status) numbers (link_faults seen)))
 
 -- or memory was wanting for them
 abbrev pub EndsStarved : Observed → Status → List ℕ → Type 0
@@ -118,7 +118,7 @@ EndsStarved seen status between = (status ≡ OutOfMemory) × (seen.status_after
 pub record IsEnded (order : Order) (words : ReplayWords) (seen : Observed) (status : Status) : Type 0 where
   pub given : Given
   pub is : IsReplayGiven words seen given
-  pub told : seen.sink_tells → ((between : List ℕ) × HasToldSome (fixed order seen given) seen.kept_after is.notes seen.status_before between × (EndsWhole order seen given status between ⊎ EndsStarved seen status between)) ⊎ seen.status_failed
+  pub told : seen.sink_tells → ((between : List ℕ) × HasToldSome (fixed order words seen given) seen.kept_after is.notes seen.status_before between × (EndsWhole order words seen given status between ⊎ EndsStarved seen status between)) ⊎ seen.status_failed
 
 abbrev pub TellsReplay : Order → ReplayWords → Observed → Status → Type 0
 TellsReplay order words seen status = IsRefusal status → IsUnbegun words seen status ⊎ IsEnded order words seen status

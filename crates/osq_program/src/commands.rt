@@ -10,6 +10,7 @@ ghost use Rattle.program_words.specs.declared.command.ReportWords.{ReportWords};
 ghost use Rattle.program_words.specs.declared.command.CommandWords.TheVariants.{Check as AsksCheck, Collect as AsksCollect, Generate as AsksGenerate, Query as AsksQuery, Report as AsksReport, SelfTest as AsksSelfTest};
 ghost use Rattle.program_words.specs.Commands.{by_threads, sources_in};
 ghost use Rattle.osq_program.specs.Answers.{IsUsageStatus};
+ghost use Rattle.osq_program.specs.Commands.{is_forwarding};
 ghost use Rattle.osq_program.specs.Doing.{MeetsCommand, DoesQuery, TellsCommand, TellsOfQuery};
 
 use crate::check::run_check;
@@ -61,7 +62,7 @@ pub(crate) fn run_command<S: Source, O: Sink, F: Files, C: Clock, K: Keeper, L: 
     requires bounded { IsBounded words.now }
     requires one_thread { by_threads words.now ≡ false }
     ensures usage { ¬ IsUsageStatus result }
-    ensures link { outside.new.link ≡ outside.old.link }
+    ensures link { is_forwarding words.now ≡ false → outside.new.link ≡ outside.old.link }
     ensures ledger { ((collect : CollectWords) → words.now ≢ AsksCollect collect) → outside.new.ledger ≡ outside.old.ledger }
     ensures sources { vec_len outside.new.sources ≡ vec_len outside.old.sources }
     ensures query_files { (query : QueryWords) → words.now ≡ AsksQuery query → query.config ≡ None → outside.new.files ≡ outside.old.files }

@@ -69,14 +69,14 @@ pub(crate) fn ended(error: AskError) -> RunError
 }
 
 /// Writes the final line of a session that read its sources to their ends.
-fn finish_whole<O: Sink>(alloc: Global, sink: &mut O, kept: Numbers) -> Status
-    ensures done { IsDoneStatus result → O.tells → O.written sink.new ≡ O.written sink.old ++ final_line 0 kept 0 }
+fn finish_whole<O: Sink>(alloc: Global, sink: &mut O, kept: Numbers, faults: u64) -> Status
+    ensures done { IsDoneStatus result → O.tells → O.written sink.new ≡ O.written sink.old ++ final_line 0 kept faults }
     ensures spent { ¬ IsSpentStatus result }
     ensures usage { ¬ IsUsageStatus result }
     ensures cause { IsRefusal result → IsCaused (record no_causes { sink = Rose (O.faults sink.old) (O.faults sink.new) }) result }
     ensures told { IsRefusal result → O.tells → ((result ≡ Status.OutOfMemory) × (O.written sink.new ≡ O.written sink.old ++ refusal_line result)) ⊎ Rose (O.faults sink.old) (O.faults sink.new) }
 {
-    let Ok(line) = final_line(alloc, Status::Ok.number(), kept) else {
+    let Ok(line) = final_line(alloc, Status::Ok.number(), kept, faults) else {
         return starve(sink);
     };
     match write_all(sink, line.as_slice()) {
@@ -86,29 +86,29 @@ fn finish_whole<O: Sink>(alloc: Global, sink: &mut O, kept: Numbers) -> Status
 }
 
 /// Writes the lines of a session that came not to the ends of its sources. A fault of the sink there changes nothing in the answer.
-fn finish_spent<O: Sink>(alloc: Global, sink: &mut O, kept: Numbers) -> Status
-    ensures spent { IsSpentStatus result → O.tells → (O.written sink.new ≡ O.written sink.old ++ (refusal_line Status.TicksSpent ++ final_line 11 kept 0))
+fn finish_spent<O: Sink>(alloc: Global, sink: &mut O, kept: Numbers, faults: u64) -> Status
+    ensures spent { IsSpentStatus result → O.tells → (O.written sink.new ≡ O.written sink.old ++ (refusal_line Status.TicksSpent ++ final_line 11 kept faults))
         ⊎ Rose (O.faults sink.old) (O.faults sink.new) }
     ensures done { ¬ IsDoneStatus result }
     ensures usage { ¬ IsUsageStatus result }
     ensures cause { IsRefusal result → IsCaused no_causes result }
     ensures told { IsRefusal result → O.tells → ((result ≡ Status.OutOfMemory) × (O.written sink.new ≡ O.written sink.old ++ refusal_line result)) ⊎ Rose (O.faults sink.old) (O.faults sink.new) }
 {
-    stop(alloc, sink, Status::TicksSpent, Some(kept))
+    stop(alloc, sink, Status::TicksSpent, Some(kept), faults)
 }
 
-/// Writes the last lines of a session that did all its ticks.
-pub(crate) fn finish<O: Sink>(alloc: Global, sink: &mut O, ended: Ended) -> Status
-    ensures done { IsDoneStatus result → (ended.is_end ≡ true) × (O.tells → O.written sink.new ≡ O.written sink.old ++ final_line 0 ended.numbers 0) }
-    ensures spent { IsSpentStatus result → (ended.is_end ≡ false) × (O.tells → (O.written sink.new ≡ O.written sink.old ++ (refusal_line Status.TicksSpent ++ final_line 11 ended.numbers 0))
+/// Writes the last lines of a session that did all its ticks, and whose link failed so often.
+pub(crate) fn finish<O: Sink>(alloc: Global, sink: &mut O, ended: Ended, faults: u64) -> Status
+    ensures done { IsDoneStatus result → (ended.is_end ≡ true) × (O.tells → O.written sink.new ≡ O.written sink.old ++ final_line 0 ended.numbers faults) }
+    ensures spent { IsSpentStatus result → (ended.is_end ≡ false) × (O.tells → (O.written sink.new ≡ O.written sink.old ++ (refusal_line Status.TicksSpent ++ final_line 11 ended.numbers faults))
         ⊎ Rose (O.faults sink.old) (O.faults sink.new)) }
     ensures usage { ¬ IsUsageStatus result }
     ensures cause { IsRefusal result → IsCaused (record no_causes { sink = Rose (O.faults sink.old) (O.faults sink.new) }) result }
     ensures told { IsRefusal result → O.tells → ((result ≡ Status.OutOfMemory) × (O.written sink.new ≡ O.written sink.old ++ refusal_line result)) ⊎ Rose (O.faults sink.old) (O.faults sink.new) }
 {
     if ended.is_end {
-        finish_whole(alloc, sink, ended.numbers)
+        finish_whole(alloc, sink, ended.numbers, faults)
     } else {
-        finish_spent(alloc, sink, ended.numbers)
+        finish_spent(alloc, sink, ended.numbers, faults)
     }
 }

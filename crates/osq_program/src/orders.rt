@@ -1,7 +1,8 @@
 //! Sessions whose ticks are worked on in turn, for `replay`, and by threads, for `daemon`.
 
-ghost use Rattle.std.specs.Prelude.{◌≡◌, ◌≤◌, length, vec_len};
-ghost use Rattle.program_words.specs.Bounds.{DaemonBounds, RunBounds};
+ghost use Rattle.std.specs.Prelude.{◌≡◌, ◌≤◌, false, length, vec_len};
+ghost use Rattle.program_words.specs.Bounds.{DaemonBounds, SessionBounds};
+ghost use Rattle.program_words.specs.Commands.{forwards};
 ghost use Rattle.session_model.specs.Orders.{at_once, in_turn};
 ghost use Rattle.daemon_rounds.specs.Orders.{EndsRound};
 ghost use Rattle.daemon_rounds.specs.Rounding.{AreGoing};
@@ -34,9 +35,9 @@ pub(crate) fn run_in_turn<S: Source, O: Sink, F: Files, C: Clock, K: Keeper, L: 
     outside: &mut Outside<S, O, F, C, K, L>,
 ) -> Status
     requires sources { vec_len outside.old.sources ≡ length words.now.sources }
-    requires bounded { RunBounds words.now.start words.now.step words.now.ticks words.now.records words.now.sources }
+    requires bounded { SessionBounds words.now }
     ensures usage { ¬ IsUsageStatus result }
-    ensures link { outside.new.link ≡ outside.old.link }
+    ensures link { forwards words.now ≡ false → outside.new.link ≡ outside.old.link }
     ensures ledger { outside.new.ledger ≡ outside.old.ledger }
     ensures sources { vec_len outside.new.sources ≡ vec_len outside.old.sources }
     ensures does { IsReplay in_turn words.now (⟦<Outside<S, O, F, C, K, L> as Observes>⟧.observed outside.old outside.new) result }
@@ -101,7 +102,7 @@ pub(crate) fn run_by_threads<
     requires sources { vec_len outside.old.sources ≡ length words.now.run.sources }
     requires bounded { DaemonBounds words.now }
     ensures usage { ¬ IsUsageStatus result }
-    ensures link { outside.new.link ≡ outside.old.link }
+    ensures link { forwards words.now.run ≡ false → outside.new.link ≡ outside.old.link }
     ensures ledger { outside.new.ledger ≡ outside.old.ledger }
     ensures sources { vec_len outside.new.sources ≡ vec_len outside.old.sources }
     ensures does { IsReplay at_once words.now.run (⟦<Outside<S, O, F, C, K, L> as Observes>⟧.observed outside.old outside.new) result }

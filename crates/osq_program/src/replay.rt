@@ -1,7 +1,8 @@
 //! The command `replay`: a whole session, in whichever order its ticks are worked on.
 
-ghost use Rattle.std.specs.Prelude.{◌≡◌, ℕ, List, [], ◌∷◌, vec_len, length};
-ghost use Rattle.program_words.specs.Bounds.{RunBounds};
+ghost use Rattle.std.specs.Prelude.{◌≡◌, ◌-◌, ℕ, false, List, [], ◌∷◌, vec_len, length};
+ghost use Rattle.program_words.specs.Bounds.{SessionBounds};
+ghost use Rattle.program_words.specs.Commands.{forwards};
 ghost use Rattle.osq_program.specs.Answers.{IsUsageStatus};
 ghost use Rattle.osq_program.specs.Replaying.{IsReplay};
 ghost use Rattle.osq_program.specs.Telling.{TellsReplay};
@@ -20,7 +21,15 @@ use program_words::ReplayWords;
 use replay_rounds::{Basis, run_session};
 use std::alloc::Global;
 
-/// Runs the session that the words ask for, whose ticks are worked on in this order, and tells on the status stream what the session tells, and how it ended.
+/// How often the link failed since its count stood here.
+fn faults_since<L: Link>(link: &L, count: u64) -> u64
+    ensures { result ≡ L.faults link.now - count }
+{
+    link.fault_count().saturating_sub(count)
+}
+
+/// Runs the session that the words ask for, whose ticks are worked on in this order, and tells on the status stream what the session tells, and how it
+/// ended. Where the words name a link, what is sealed is forwarded through it.
 pub(crate) fn run_replay<
     T: TakesRound<S>,
     S: Source,
@@ -32,9 +41,9 @@ pub(crate) fn run_replay<
 >(order: &T, alloc: Global, words: &ReplayWords, outside: &mut Outside<S, O, F, C, K, L>) -> Status
     requires sources { vec_len outside.old.sources ≡ length words.now.sources }
     requires takes { T.takes order.now }
-    requires bounded { RunBounds words.now.start words.now.step words.now.ticks words.now.records words.now.sources }
+    requires bounded { SessionBounds words.now }
     ensures usage { ¬ IsUsageStatus result }
-    ensures link { outside.new.link ≡ outside.old.link }
+    ensures link { forwards words.now ≡ false → outside.new.link ≡ outside.old.link }
     ensures ledger { outside.new.ledger ≡ outside.old.ledger }
     ensures sources { vec_len outside.new.sources ≡ vec_len outside.old.sources }
     ensures does { IsReplay T.order words.now (⟦<Outside<S, O, F, C, K, L> as Observes>⟧.observed outside.old outside.new) result }
@@ -52,6 +61,7 @@ pub(crate) fn run_replay<
         setup,
         configured,
     };
+    let before = outside.link.fault_count();
     match run_session(
         order,
         &basis,
@@ -60,11 +70,16 @@ pub(crate) fn run_replay<
         &mut outside.keeper,
         &mut outside.results,
         &mut outside.status,
+        &mut outside.link,
     ) {
-        Ok(ended) => finish(alloc, &mut outside.status, ended),
+        Ok(ended) => {
+            let faults = faults_since(&outside.link, before);
+            finish(alloc, &mut outside.status, ended, faults)
+        }
         Err(refused) => {
             let status = answer_to(alloc, words.sources.as_slice(), refused.error);
-            stop(alloc, &mut outside.status, status, refused.numbers)
+            let faults = faults_since(&outside.link, before);
+            stop(alloc, &mut outside.status, status, refused.numbers, faults)
         }
     }
 }

@@ -40,9 +40,9 @@ fn next_batch(acknowledged: u64, batches: u64) -> u64
     }
 }
 
-/// The final line of a run with this status's number, over a kept list of these numbers, without a fault of the link.
-pub fn final_line(alloc: Global, number: u8, kept: Numbers) -> Result<Bytes, NoMemory>
-    ensures { IfOk result (λ line. line ≡ final_line number kept 0) }
+/// The final line of a run with this status's number, over a kept list of these numbers, whose link failed so often.
+pub fn final_line(alloc: Global, number: u8, kept: Numbers, faults: u64) -> Result<Bytes, NoMemory>
+    ensures { IfOk result (λ line. line ≡ final_line number kept faults) }
 {
     let next = next_batch(kept.acknowledged, kept.batches);
     let mut line = Bytes::new(alloc);
@@ -51,7 +51,7 @@ pub fn final_line(alloc: Global, number: u8, kept: Numbers) -> Result<Bytes, NoM
     push_field(alloc, &mut line, " batches=", kept.batches)?;
     push_field(alloc, &mut line, " acknowledged=", kept.acknowledged)?;
     push_field(alloc, &mut line, " next=", next)?;
-    push_field(alloc, &mut line, " linkfaults=", 0)?;
+    push_field(alloc, &mut line, " linkfaults=", faults)?;
     line.extend(b"\n")?;
     Ok(line)
 }
@@ -195,12 +195,17 @@ pub(crate) fn refusal_line(alloc: Global, status: &Status) -> Result<Bytes, NoMe
     Ok(line)
 }
 
-/// The line of a status, and behind it the final line over a kept list of these numbers.
-pub(crate) fn stop_text(alloc: Global, status: &Status, kept: Numbers) -> Result<Bytes, NoMemory>
-    ensures { IfOk result (λ text. text ≡ refusal_line status.now ++ final_line (status_number status.now) kept 0) }
+/// The line of a status, and behind it the final line over a kept list of these numbers, after so many faults of the link.
+pub(crate) fn stop_text(
+    alloc: Global,
+    status: &Status,
+    kept: Numbers,
+    faults: u64,
+) -> Result<Bytes, NoMemory>
+    ensures { IfOk result (λ text. text ≡ refusal_line status.now ++ final_line (status_number status.now) kept faults) }
 {
     let mut text = refusal_line(alloc, status)?;
-    let last = final_line(alloc, status.number(), kept)?;
+    let last = final_line(alloc, status.number(), kept, faults)?;
     text.append(last)?;
     Ok(text)
 }

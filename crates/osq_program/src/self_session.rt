@@ -1,13 +1,14 @@
 //! The session of a self test: over generated change lines, in memory.
 
 ghost use Rattle.std.specs.Prelude.{◌≡◌, ◌≤◌, ◌<◌, ◌^◌, ℕ, ◌∷◌, [], map, vec_len, Some, IfOk};
+ghost use Rattle.forward_rounds.specs.Forwarding.{view_of};
 ghost use Rattle.osq_program.specs.Answers.{IsDoneStatus};
-ghost use Rattle.osq_program.specs.SelfTesting.{HasRunOver, config_path, document, self_sources, self_words};
+ghost use Rattle.osq_program.specs.SelfTesting.{HasRunOver, config_path, document, no_view, self_sources, self_words};
 
 use crate::orders::run_in_turn;
 use crate::outside::Outside;
 use crate::status::Status;
-use batch_forwarder::MemoryLink;
+use batch_forwarder::{Link, MemoryLink};
 use batch_keeper::{Keeper, MemoryKeeper};
 use osq_outside::{
     FailList, FileSink, Files, MemoryFiles, MemorySource, NamedFile, NamedFileList, Source,
@@ -69,6 +70,7 @@ fn words_for(alloc: Global, count: u64, start: u64) -> Result<ReplayWords, NoMem
         step: 60,
         ticks: count / RECORDS + 2,
         records: RECORDS,
+        link: None,
     })
 }
 
@@ -84,6 +86,13 @@ fn files_of(alloc: Global) -> Result<MemoryFiles, NoMemory>
     Ok(MemoryFiles::new(files, FailList::new(alloc)))
 }
 
+/// A link through which nothing was sent, and on which no answer waits.
+fn link_of(alloc: Global) -> MemoryLink
+    ensures { view_of ⟦<MemoryLink as Link>⟧ result ≡ no_view }
+{
+    MemoryLink::new(alloc, Sequence::new(alloc), FailList::new(alloc))
+}
+
 /// What a session that begins at this moment reaches.
 fn inside_of(
     alloc: Global,
@@ -95,6 +104,7 @@ fn inside_of(
     ensures bytes { IfOk result (λ inside. map ⟦<MemorySource as Source>⟧.left inside.sources.items ≡ lines ∷ []) }
     ensures one { IfOk result (λ inside. vec_len inside.sources ≡ 1) }
     ensures clock { IfOk result (λ inside. inside.clock ≡ record { next = start; step = 60 }) }
+    ensures link { IfOk result (λ inside. view_of ⟦<MemoryLink as Link>⟧ inside.link ≡ no_view) }
     ensures keeper { IfOk result (λ inside. inside.keeper ≡ keeper) }
     ensures kept { IfOk result (λ inside. ⟦<MemoryKeeper as Keeper>⟧.kept inside.keeper ≡ ⟦<MemoryKeeper as Keeper>⟧.kept keeper) }
 {
@@ -111,7 +121,7 @@ fn inside_of(
             step: 60,
         },
         keeper,
-        link: MemoryLink::new(alloc, Sequence::new(alloc), FailList::new(alloc)),
+        link: link_of(alloc),
     })
 }
 

@@ -35,5 +35,6 @@ pub(crate) fn setup_of(alloc: Global, words: &ReplayWords) -> Result<Setup, NoMe
         sources: words.sources.copy(alloc)?,
         ticks: words.ticks,
         records: words.records,
+        forward: words.link.is_some(),
     })
 }

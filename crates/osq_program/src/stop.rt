@@ -58,31 +58,39 @@ pub(crate) fn refuse<O: Sink>(alloc: Global, sink: &mut O, status: Status) -> St
 }
 
 /// Tells why a session isn't done, and of its kept list, which has these numbers.
-fn stop_loaded<O: Sink>(alloc: Global, sink: &mut O, status: Status, kept: Numbers) -> Status
+fn stop_loaded<O: Sink>(
+    alloc: Global,
+    sink: &mut O,
+    status: Status,
+    kept: Numbers,
+    faults: u64,
+) -> Status
     ensures same { (result ≡ status) ⊎ (result ≡ Status.OutOfMemory) }
-    ensures told { O.tells → EndsAs (O.written sink.old) (O.written sink.new) status result kept ⊎ Rose (O.faults sink.old) (O.faults sink.new) }
+    ensures told { O.tells → EndsAs (O.written sink.old) (O.written sink.new) status result kept faults ⊎ Rose (O.faults sink.old) (O.faults sink.new) }
     ensures later { O.faults sink.old ≤ O.faults sink.new }
 {
-    let Ok(text) = stop_text(alloc, &status, kept) else {
+    let Ok(text) = stop_text(alloc, &status, kept, faults) else {
         return starve(sink);
     };
     write(sink, text.as_slice());
     status
 }
 
-/// Tells on the status stream why a session isn't done, and behind that the final line, where it has the numbers of its kept list.
+/// Tells on the status stream why a session isn't done, and behind that the final line, where it has the numbers of its kept list. The link failed so
+/// often.
 pub(crate) fn stop<O: Sink>(
     alloc: Global,
     sink: &mut O,
     status: Status,
     kept: Option<Numbers>,
+    faults: u64,
 ) -> Status
     ensures same { (result ≡ status) ⊎ (result ≡ Status.OutOfMemory) }
-    ensures told { O.tells → TellsStop (Rose (O.faults sink.old) (O.faults sink.new)) (O.written sink.old) (O.written sink.new) status result kept }
+    ensures told { O.tells → TellsStop (Rose (O.faults sink.old) (O.faults sink.new)) (O.written sink.old) (O.written sink.new) status result kept faults }
     ensures later { O.faults sink.old ≤ O.faults sink.new }
 {
     match kept {
-        Some(kept) => stop_loaded(alloc, sink, status, kept),
+        Some(kept) => stop_loaded(alloc, sink, status, kept, faults),
         None => refuse(alloc, sink, status),
     }
 }

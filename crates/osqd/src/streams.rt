@@ -31,15 +31,55 @@ impl Read for Input {
     }
 }
 
-/// Where results, status lines and the lines of a ledger go.
+/// A file with as many bytes as it had when it was opened.
+#[derive(Drop)]
+pub struct Measured {
+    /// The file.
+    pub(crate) input: Input,
+    /// Its bytes; more than any file has where it couldn't be opened, so that it is read, and the read fails.
+    pub(crate) size: u64,
+}
+
+impl Measured {
+    /// The file of this path.
+    pub(crate) fn open<R: std::rt::Files<File = File>>(rt: &R, path: &str) -> Measured {
+        match file_and_size(rt, path) {
+            Ok((file, size)) => Measured {
+                input: Input::Opened(file),
+                size,
+            },
+            Err(_) => Measured {
+                input: Input::Missing,
+                size: u64::MAX,
+            },
+        }
+    }
+
+    /// No file, of which nothing is read.
+    pub(crate) fn nothing() -> Measured {
+        Measured {
+            input: Input::Missing,
+            size: 0,
+        }
+    }
+}
+
+/// The file of this path, and its bytes.
+fn file_and_size<R: std::rt::Files<File = File>>(rt: &R, path: &str) -> io::Result<(File, u64)> {
+    let file = File::open(rt, path)?;
+    let size = file.metadata()?.len();
+    Ok((file, size))
+}
+
+/// Where results, status lines, the lines of a ledger and frames go.
 #[derive(Drop)]
 pub enum Output {
     /// Standard output, for results.
     Results(Stdout),
     /// Standard error, for status lines.
     Status(Stderr),
-    /// The ledger's file, open at its end.
-    Ledger(File),
+    /// A file that is open at its end: a ledger's, or that of a link's frames.
+    Appended(File),
     /// A file that couldn't be opened: each write fails.
     Unopened,
     /// Nothing keeps what is written here.
@@ -47,10 +87,10 @@ pub enum Output {
 }
 
 impl Output {
-    /// The end of the ledger's file of this path, which is made where there is none.
-    pub(crate) fn ledger<R: std::rt::Files<File = File>>(rt: &R, path: &str) -> Output {
+    /// The end of the file of this path, which is made where there is none.
+    pub(crate) fn appended<R: std::rt::Files<File = File>>(rt: &R, path: &str) -> Output {
         match OpenOptions::new().append(true).create(true).open(rt, path) {
-            Ok(file) => Output::Ledger(file),
+            Ok(file) => Output::Appended(file),
             Err(_) => Output::Unopened,
         }
     }
@@ -61,7 +101,7 @@ impl Write for Output {
         match self {
             Output::Results(stdout) => stdout.write(buf),
             Output::Status(stderr) => stderr.write(buf),
-            Output::Ledger(file) => file.write(buf),
+            Output::Appended(file) => file.write(buf),
             Output::Unopened => Err(io::Error::from(ErrorKind::NotFound)),
             Output::Nowhere => Ok(buf.len()),
         }
@@ -71,7 +111,7 @@ impl Write for Output {
         match self {
             Output::Results(stdout) => stdout.flush(),
             Output::Status(stderr) => stderr.flush(),
-            Output::Ledger(file) => file.flush(),
+            Output::Appended(file) => file.flush(),
             Output::Unopened => Err(io::Error::from(ErrorKind::NotFound)),
             Output::Nowhere => Ok(()),
         }

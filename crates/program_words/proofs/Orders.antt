@@ -5,7 +5,7 @@ use Rattle.std.specs.List.{list_any}
 use Rattle.std.proofs.lemmas.Bool.Decides.{nat_tests, same_from_decides}
 use Rattle.std.proofs.lemmas.Slice.Eq.{bytes_eq-Decides}
 use Rattle.program_words.specs.declared.name.Name.{Name}
-use Rattle.program_words.specs.declared.name.Name.TheVariants.{Config, Host, Platform, Agent, Text, Audit, Changes, Tables, Start, Step, Ticks, Records, Explain, Frames, Ledger, Store, From, Count, Workers}
+use Rattle.program_words.specs.declared.name.Name.TheVariants.{Config, Host, Platform, Agent, Text, Audit, Changes, Tables, Start, Step, Ticks, Records, Explain, Frames, Ledger, Store, From, Count, Workers, FramesOut, AnswersIn}
 use Rattle.program_words.specs.declared.command.CommandName.{CommandName}
 use Rattle.program_words.specs.declared.command.CommandName.TheVariants.{Replay, Daemon, Query, Check, Collect, Generate, SelfTest, Report}
 use Rattle.program_words.specs.declared.command.CommandWords.TheVariants.{Replay as AsReplay, Daemon as AsDaemon, Query as AsQuery, Check as AsCheck, Collect as AsCollect, Generate as AsGenerate, SelfTest as AsSelfTest, Report as AsReport}
@@ -13,7 +13,7 @@ use Rattle.osq_value.specs.declared.source.SourceKind.{SourceKind}
 use Rattle.osq_value.specs.declared.source.SourceKind.TheVariants.{Audit as AuditLog, Changes as ChangeList, Tables as TableLines}
 use Rattle.program_words.specs.Names.{is_source, place, same_name, takes}
 use Rattle.program_words.specs.Given.{Given, is_named, none_repeats, number_of, number_or, number_taken, repeats, same_value, stands, value_of, value_or}
-use Rattle.program_words.specs.Commands.{are_options, asked_by, check_of, collect_of, daemon_of, command_with, default_agent, default_platform, generate_of, has_few_sources, has_required, is_right, query_of, replay_of, report_of, required, sources_named, sources_of}
+use Rattle.program_words.specs.Commands.{are_options, asked_by, check_of, collect_of, daemon_of, command_with, default_agent, default_platform, generate_of, has_few_sources, has_required, has_whole_link, is_right, link_by, link_of, query_of, replay_of, report_of, required, sources_named, sources_of}
 use Rattle.program_words.specs.Laws.{AnyOrder}
 use Rattle.program_words.proofs.Swaps.{count_by-swap, filter-swap, find-swap, list_all-same, list_all-swap, list_any-swap}
 
@@ -101,10 +101,16 @@ module _ (front : List Given) (g h : Given) (behind : List Given) (different : s
       let tables = sources_named-swap Tables TableLines in
       cc
 
+  link_of-swap : link_of (front ++ g ∷ h ∷ behind) ≡ link_of (front ++ h ∷ g ∷ behind)
+  unfolding link_of
+  link_of-swap =
+      ap (λ frames. link_by frames (value_of AnswersIn (front ++ g ∷ h ∷ behind))) (value_of-swap FramesOut)
+      ∙ ap (link_by (value_of FramesOut (front ++ h ∷ g ∷ behind))) (value_of-swap AnswersIn)
+
   replay_of-swap : replay_of (front ++ g ∷ h ∷ behind) ≡ replay_of (front ++ h ∷ g ∷ behind)
   unfolding replay_of
   replay_of-swap =
-      cc (value_or-swap [] Config, value_or-swap [] Host, value_or-swap default_platform Platform, value_or-swap default_agent Agent, sources_of-swap, value_of-swap Store, number_of-swap Start, number_or-swap 60 Step, number_or-swap 60 Ticks, number_or-swap 10000 Records)
+      cc (value_or-swap [] Config, value_or-swap [] Host, value_or-swap default_platform Platform, value_or-swap default_agent Agent, sources_of-swap, value_of-swap Store, number_of-swap Start, number_or-swap 60 Step, number_or-swap 60 Ticks, number_or-swap 10000 Records, link_of-swap)
 
   daemon_of-swap : daemon_of (front ++ g ∷ h ∷ behind) ≡ daemon_of (front ++ h ∷ g ∷ behind)
   unfolding daemon_of
@@ -151,10 +157,14 @@ module _ (front : List Given) (g h : Given) (behind : List Given) (different : s
   unfolding has_few_sources
   has_few_sources-swap = ap (λ count. nat_le count 1000) (count_by-swap (λ o. is_source o.name) front g h behind)
 
+  has_whole_link-swap : has_whole_link (front ++ g ∷ h ∷ behind) ≡ has_whole_link (front ++ h ∷ g ∷ behind)
+  unfolding has_whole_link
+  has_whole_link-swap = cc (stands-swap FramesOut, stands-swap AnswersIn)
+
   are_options-swap : (command : CommandName) → are_options command (front ++ g ∷ h ∷ behind) ≡ are_options command (front ++ h ∷ g ∷ behind)
   unfolding are_options
   are_options-swap command =
-      cc (list_all-swap (is_right command) front g h behind, has_required-swap command, has_few_sources-swap, none_repeats-swap front g h behind different, stands-swap Start, stands-swap Step)
+      cc (list_all-swap (is_right command) front g h behind, has_required-swap command, has_few_sources-swap, none_repeats-swap front g h behind different, stands-swap Start, stands-swap Step, has_whole_link-swap)
 
   command_with-swap : (command : CommandName) → command_with (front ++ g ∷ h ∷ behind) command ≡ command_with (front ++ h ∷ g ∷ behind) command
   command_with-swap command = cc (are_options-swap command, asked_by-swap command)

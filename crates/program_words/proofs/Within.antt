@@ -1,5 +1,5 @@
 -- What options ask for lies within the bounds of their names.
-use Rattle.std.proofs.Common.{◌≡◌, ℕ, ◌+◌, ◌-◌, ◌≤◌, ◌<◌, ◌^◌, ◌&&◌, ◌||◌, Bool, true, false, cond, nat_le, length, List, [], ◌∷◌, ◌++◌, Option, Some, None, refl, sym, ◌∙◌, arith, unwrap_or, subst}
+use Rattle.std.proofs.Common.{◌≡◌, ℕ, ◌+◌, ◌-◌, ◌≤◌, ◌<◌, ◌^◌, ◌&&◌, ◌||◌, not, Bool, true, false, cond, nat_le, length, List, [], ◌∷◌, ◌++◌, Option, Some, None, refl, sym, ◌∙◌, arith, unwrap_or, subst}
 use Rattle.std.specs.Prelude.{IfSome, count_by, filter, option_and_then}
 use Rattle.std.specs.List.{find, list_all, list_any}
 use Rattle.std.proofs.lemmas.Bool.Decides.{nat_tests}
@@ -7,7 +7,7 @@ use Rattle.std.proofs.lemmas.Option.{cond_some}
 use Rattle.std.proofs.lemmas.List.{length-append, length-map}
 use Rattle.std.proofs.lemmas.List.Sums.{length-filter, sum_by-cons}
 use Rattle.program_words.specs.declared.name.Name.{Name}
-use Rattle.program_words.specs.declared.name.Name.TheVariants.{Config, Host, Platform, Agent, Text, Audit, Changes, Tables, Start, Step, Ticks, Records, Explain, Frames, Ledger, Store, From, Count, Workers, Other}
+use Rattle.program_words.specs.declared.name.Name.TheVariants.{Config, Host, Platform, Agent, Text, Audit, Changes, Tables, Start, Step, Ticks, Records, Explain, Frames, Ledger, Store, From, Count, Workers, FramesOut, AnswersIn, Other}
 use Rattle.program_words.specs.declared.name.Takes.{Takes}
 use Rattle.program_words.specs.declared.name.Takes.TheVariants.{Number}
 use Rattle.program_words.specs.declared.command.CommandName.{CommandName}
@@ -90,6 +90,8 @@ kind_once Store = refl
 kind_once From = refl
 kind_once Count = refl
 kind_once Workers = refl
+kind_once FramesOut = refl
+kind_once AnswersIn = refl
 kind_once Other = refl
 
 abbrev of_name : Name → Given → ℕ
@@ -167,7 +169,8 @@ parts_of command gs are =
     let all = list_all (is_right command) gs in
     let have = has_required command gs in
     let few = has_few_sources gs in
-    let four = first (all && have && few && none_repeats gs) _ are in
+    let five = first (all && have && few && none_repeats gs && (stands Start gs || not (stands Step gs))) _ are in
+    let four = first (all && have && few && none_repeats gs) _ five in
     let three = first (all && have && few) _ four in
     let two = first (all && have) _ three in
     (first all _ two, second all _ two, second (all && have) _ three, second (all && have && few) _ four)

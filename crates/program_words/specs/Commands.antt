@@ -1,13 +1,15 @@
 -- The commands: the options of each, and what it is asked by them.
-use Rattle.std.specs.Prelude.{ℕ, ◌++◌, ◌&&◌, ◌||◌, not, Bool, true, false, bytes_eq, codes, count_by, filter, if◌then◌else◌, map, nat_le, List, [], ◌∷◌, length, Option, None, Some, option_and_then, unwrap_or}
+use Rattle.std.specs.Prelude.{ℕ, ◌++◌, ◌&&◌, ◌||◌, not, Bool, true, false, bytes_eq, codes, count_by, filter, if◌then◌else◌, map, nat_le, List, [], ◌∷◌, length, Option, None, Some, is_some, option_and_then, unwrap_or}
+use Rattle.std.specs.Bool.{beq}
 use Rattle.std.specs.List.{list_all, list_any}
 use Rattle.std.specs.Option.{option_map, option_map_or}
 use Rattle.program_words.specs.declared.name.Name.{Name}
-use Rattle.program_words.specs.declared.name.Name.TheVariants.{Config, Host, Platform, Agent, Text, Audit, Changes, Tables, Start, Step, Ticks, Records, Explain, Frames, Ledger, Store, From, Count, Workers}
+use Rattle.program_words.specs.declared.name.Name.TheVariants.{Config, Host, Platform, Agent, Text, Audit, Changes, Tables, Start, Step, Ticks, Records, Explain, Frames, Ledger, Store, From, Count, Workers, FramesOut, AnswersIn}
 use Rattle.program_words.specs.declared.command.CommandName.{CommandName}
 use Rattle.program_words.specs.declared.command.CommandName.TheVariants.{Replay as ReplayName, Daemon as DaemonName, Query as QueryName, Check as CheckName, Collect as CollectName, Generate as GenerateName, SelfTest as SelfTestName, Report as ReportName}
 use Rattle.program_words.specs.declared.command.CommandWords.{CommandWords}
 use Rattle.program_words.specs.declared.command.CommandWords.TheVariants.{Replay, Daemon, Query, Check, Collect, Generate, SelfTest, Report}
+use Rattle.program_words.specs.declared.command.LinkPaths.{LinkPaths}
 use Rattle.program_words.specs.declared.command.ReplayWords.{ReplayWords}
 use Rattle.program_words.specs.declared.command.DaemonWords.{DaemonWords}
 use Rattle.program_words.specs.declared.command.QueryWords.{QueryWords}
@@ -48,9 +50,11 @@ required ReportName = Store ∷ []
 
 -- those that it may have
 unfoldable pub optional : CommandName → List Name
-optional ReplayName = Platform ∷ Agent ∷ Audit ∷ Changes ∷ Tables ∷ Store ∷ Start ∷ Step ∷ Ticks ∷ Records ∷ []
+optional ReplayName =
+    Platform ∷ Agent ∷ Audit ∷ Changes ∷ Tables ∷ Store ∷ Start ∷ Step ∷ Ticks ∷ Records ∷ FramesOut ∷ AnswersIn ∷ []
 optional DaemonName =
-    Platform ∷ Agent ∷ Audit ∷ Changes ∷ Tables ∷ Store ∷ Start ∷ Step ∷ Ticks ∷ Records ∷ Workers ∷ []
+    Platform ∷ Agent ∷ Audit ∷ Changes ∷ Tables ∷ Store ∷ Start ∷ Step ∷ Ticks ∷ Records ∷ FramesOut ∷ AnswersIn ∷ Workers
+    ∷ []
 optional QueryName = Config ∷ Audit ∷ Changes ∷ Tables ∷ Store ∷ Start ∷ Step ∷ Ticks ∷ Records ∷ Explain ∷ []
 optional CheckName = Platform ∷ Agent ∷ []
 optional CollectName = Ticks ∷ []
@@ -77,11 +81,15 @@ has_required command gs = list_all (λ name. stands name gs) (required command)
 unfoldable pub has_few_sources : List Given → Bool
 has_few_sources gs = nat_le (count_by (λ g. is_source g.name) gs) 1000
 
+-- a link has both of its paths, or there is none
+unfoldable pub has_whole_link : List Given → Bool
+has_whole_link gs = beq (stands FramesOut gs) (stands AnswersIn gs)
+
 -- the options are those of a run of the command
 unfoldable pub are_options : CommandName → List Given → Bool
 are_options command gs =
     list_all (is_right command) gs && has_required command gs && has_few_sources gs && none_repeats gs
-    && (stands Start gs || not (stands Step gs))
+    && (stands Start gs || not (stands Step gs)) && has_whole_link gs
 
 -- the sources of one kind, in the order of the words
 unfoldable pub sources_named : Name → SourceKind → List Given → List SourceName
@@ -97,6 +105,15 @@ default_platform = codes "linux"
 abbrev pub default_agent : List ℕ
 default_agent = codes "5.10.0"
 
+-- the files that stand for a link, where both are named
+abbrev pub link_by : Option (List ℕ) → Option (List ℕ) → Option LinkPaths
+link_by None answers = None
+link_by (Some frames) None = None
+link_by (Some frames) (Some answers) = Some (record { frames = frames; answers = answers })
+
+unfoldable pub link_of : List Given → Option LinkPaths
+link_of gs = link_by (value_of FramesOut gs) (value_of AnswersIn gs)
+
 -- what the options of each command ask for; one that the command must have is there, so the empty text in its place never counts
 unfoldable pub replay_of : List Given → ReplayWords
 replay_of gs = record {
@@ -110,6 +127,7 @@ replay_of gs = record {
   step = number_or 60 Step gs;
   ticks = number_or 60 Ticks gs;
   records = number_or 10000 Records gs;
+  link = link_of gs;
 }
 
 unfoldable pub daemon_of : List Given → DaemonWords
@@ -188,21 +206,39 @@ by_threads _ = false
 abbrev pub are_by_threads : List (List ℕ) → Bool
 are_by_threads words = option_map_or by_threads (words_of words) false
 
+-- a session that forwards what it seals
+abbrev pub forwards : ReplayWords → Bool
+forwards words = is_some words.link
+
 -- a command that reads no source
 abbrev pub unsourced : Option (List ℕ) → Paths
-unsourced store = record { sources = []; store = store; start = None; step = 60; ledger = None }
+unsourced store = record { sources = []; store = store; start = None; step = 60; ledger = None; link = None }
 
 -- a session, in whatever order its ticks are taken
 abbrev pub session_paths : ReplayWords → Paths
-session_paths words = record { sources = words.sources; store = words.store; start = words.start; step = words.step; ledger = None }
+session_paths words = record {
+  sources = words.sources;
+  store = words.store;
+  start = words.start;
+  step = words.step;
+  ledger = None;
+  link = words.link;
+}
 
--- the sources that a command names, with the moments of its clock, the store that it keeps in, and the file that it adds to
+-- the sources that a command names, with the moments of its clock, the store that it keeps in, the file that it adds to, and its link
 abbrev pub paths_in : CommandWords → Paths
 paths_in (Replay words) = session_paths words
 paths_in (Daemon words) = session_paths words.run
-paths_in (Query words) = record { sources = words.sources; store = words.store; start = words.start; step = words.step; ledger = None }
+paths_in (Query words) = record {
+  sources = words.sources;
+  store = words.store;
+  start = words.start;
+  step = words.step;
+  ledger = None;
+  link = None;
+}
 paths_in (Check words) = unsourced None
-paths_in (Collect words) = record { sources = words.sources; store = None; start = None; step = 60; ledger = Some words.ledger }
+paths_in (Collect words) = record { sources = words.sources; store = None; start = None; step = 60; ledger = Some words.ledger; link = None }
 paths_in (Generate words) = unsourced None
 paths_in (SelfTest words) = unsourced None
 paths_in (Report words) = unsourced (Some words.store)

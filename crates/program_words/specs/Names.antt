@@ -3,7 +3,7 @@ use Rattle.std.specs.Prelude.{ℕ, ◌-◌, ◌^◌, Bool, true, false, bytes_eq
 use Rattle.std.specs.Option.{option_map_or}
 use Rattle.std.specs.List.{find}
 use Rattle.program_words.specs.declared.name.Name.{Name}
-use Rattle.program_words.specs.declared.name.Name.TheVariants.{Config, Host, Platform, Agent, Text, Audit, Changes, Tables, Start, Step, Ticks, Records, Explain, Frames, Ledger, Store, From, Count, Workers, Other}
+use Rattle.program_words.specs.declared.name.Name.TheVariants.{Config, Host, Platform, Agent, Text, Audit, Changes, Tables, Start, Step, Ticks, Records, Explain, Frames, Ledger, Store, From, Count, Workers, FramesOut, AnswersIn, Other}
 use Rattle.program_words.specs.declared.name.Takes.{Takes}
 use Rattle.program_words.specs.declared.name.Takes.TheVariants.{Nothing, AnyText, ShortText, Number, Unknown}
 
@@ -14,7 +14,7 @@ names =
     ∷ (codes "audit", Audit) ∷ (codes "changes", Changes) ∷ (codes "tables", Tables) ∷ (codes "start", Start) ∷ (codes "step", Step)
     ∷ (codes "ticks", Ticks) ∷ (codes "records", Records) ∷ (codes "explain", Explain)
     ∷ (codes "frames", Frames) ∷ (codes "ledger", Ledger) ∷ (codes "store", Store) ∷ (codes "from", From) ∷ (codes "count", Count)
-    ∷ (codes "workers", Workers) ∷ []
+    ∷ (codes "workers", Workers) ∷ (codes "frames-out", FramesOut) ∷ (codes "answers-in", AnswersIn) ∷ []
 
 -- the name that is spelled so, or Other: no name is shortened
 unfoldable pub name_of : List ℕ → Name
@@ -41,6 +41,8 @@ takes Store = AnyText
 takes From = Number 0 (2 ^ 63 - 1)
 takes Count = Number 1 1000000
 takes Workers = Number 1 16
+takes FramesOut = AnyText
+takes AnswersIn = AnyText
 takes Other = Unknown
 
 -- an option that names a source
@@ -71,7 +73,9 @@ place Store = 15
 place From = 16
 place Count = 17
 place Workers = 18
-place Other = 19
+place FramesOut = 19
+place AnswersIn = 20
+place Other = 21
 
 abbrev pub same_name : Name → Name → Bool
 same_name a b = nat_eq (place a) (place b)

@@ -77,6 +77,8 @@ impl CommandName {
                 Name::Step,
                 Name::Ticks,
                 Name::Records,
+                Name::FramesOut,
+                Name::AnswersIn,
             ],
             CommandName::Daemon => &[
                 Name::Platform,
@@ -89,6 +91,8 @@ impl CommandName {
                 Name::Step,
                 Name::Ticks,
                 Name::Records,
+                Name::FramesOut,
+                Name::AnswersIn,
                 Name::Workers,
             ],
             CommandName::Query => &[
@@ -172,7 +176,17 @@ impl CommandName {
             && options.has_few_sources()
             && options.none_repeats()
             && (options.stands(Name::Start) || !options.stands(Name::Step))
+            && options.has_whole_link()
     }
+}
+
+/// The files that stand for a session's link to a collector.
+#[derive(Drop)]
+pub struct LinkPaths {
+    /// The path of the file to which frames are appended.
+    pub frames: Str,
+    /// The path of the file of which answers are polled.
+    pub answers: Str,
 }
 
 /// The words of a session.
@@ -198,6 +212,8 @@ pub struct ReplayWords {
     pub ticks: u64,
     /// The most records of one step of a source.
     pub records: u64,
+    /// The files of the link, where the session forwards its sealed batches.
+    pub link: Option<LinkPaths>,
 }
 
 /// The words of a session whose ticks are taken by threads.
@@ -293,7 +309,7 @@ pub enum CommandWords {
     Report(ReportWords),
 }
 
-/// What the program opens for a command: its sources, its store, its clock, and the file that a ledger is added to.
+/// What the program opens for a command: its sources, its store, its clock, the file that a ledger is added to, and its link.
 #[derive(Drop)]
 pub struct Paths {
     /// The sources, in the order audit, changes, tables, each in the order of the words; for a collector its one stream of frames.
@@ -306,6 +322,8 @@ pub struct Paths {
     pub step: u64,
     /// The path of the ledger's file, where the command adds to one.
     pub ledger: Option<Str>,
+    /// The files of the link, where the command forwards what it seals.
+    pub link: Option<LinkPaths>,
 }
 
 /// What is opened for a command that reads no source.
@@ -318,6 +336,7 @@ fn unsourced(alloc: Global, store: Option<Str>) -> Paths
         start: None,
         step: 60,
         ledger: None,
+        link: None,
     }
 }
 
@@ -332,6 +351,7 @@ impl ReplayWords {
             start: self.start,
             step: self.step,
             ledger: None,
+            link: self.link,
         }
     }
 }
@@ -350,6 +370,7 @@ impl CommandWords {
                 start: words.start,
                 step: words.step,
                 ledger: None,
+                link: None,
             },
             CommandWords::Check(_) | CommandWords::Generate(_) | CommandWords::SelfTest(_) => {
                 unsourced(alloc, None)
@@ -361,6 +382,7 @@ impl CommandWords {
                 start: None,
                 step: 60,
                 ledger: Some(words.ledger),
+                link: None,
             },
         }
     }

@@ -11,8 +11,8 @@ mod options;
 mod read;
 
 pub use command::{
-    CheckWords, CollectWords, CommandWords, DaemonWords, GenerateWords, Paths, QueryWords,
-    ReplayWords, ReportWords,
+    CheckWords, CollectWords, CommandWords, DaemonWords, GenerateWords, LinkPaths, Paths,
+    QueryWords, ReplayWords, ReportWords,
 };
 pub use error::WordsError;
 pub use read::{are_by_threads, count_sources, paths_of, read_words};

@@ -26,6 +26,8 @@ pub(crate) enum Name {
     From,
     Count,
     Workers,
+    FramesOut,
+    AnswersIn,
     /// The name of no option.
     Other,
 }
@@ -71,6 +73,8 @@ impl Name {
             "from" => Name::From,
             "count" => Name::Count,
             "workers" => Name::Workers,
+            "frames-out" => Name::FramesOut,
+            "answers-in" => Name::AnswersIn,
             _ => Name::Other,
         }
     }
@@ -89,7 +93,9 @@ impl Name {
             | Name::Tables
             | Name::Frames
             | Name::Ledger
-            | Name::Store => Takes::AnyText,
+            | Name::Store
+            | Name::FramesOut
+            | Name::AnswersIn => Takes::AnyText,
             Name::Host => Takes::ShortText,
             Name::Start | Name::From => Takes::Number(0, i64::MAX as u64),
             Name::Step => Takes::Number(0, 604800),

@@ -3,10 +3,11 @@
 ghost use Rattle.std.specs.Prelude.{◌≡◌, ◌++◌, IfOk, IfSome, OnOk, is_some, length};
 ghost use Rattle.std.specs.Option.{option_copied};
 ghost use Rattle.std.specs.List.{list_any};
-ghost use Rattle.program_words.specs.Commands.{has_few_sources, sources_named, sources_of};
+ghost use Rattle.program_words.specs.Commands.{has_few_sources, has_whole_link, link_of, sources_named, sources_of};
 ghost use Rattle.program_words.specs.Given.{none_repeats, number_of, number_or, repeats, stands, value_of, value_or};
 ghost use Rattle.program_words.specs.Left.{given, left, options_in};
 
+use crate::command::LinkPaths;
 use crate::given::{GivenOption, option_of};
 use crate::name::Name;
 use osq_value::{NoMemory, SourceKind, SourceName, SourceNameList, Str};
@@ -154,6 +155,27 @@ impl<'w, 'a> OptionWords<'w, 'a> {
         ensures { result ≡ has_few_sources (options_in self.entry) }
     {
         self.count_sources().is_some()
+    }
+
+    /// Both paths of a link stand among the options, or neither.
+    #[tactic(auto, unfolding(crate::specs::Commands::has_whole_link))]
+    pub(crate) fn has_whole_link(self) -> bool
+        ensures { result ≡ has_whole_link (options_in self.entry) }
+    {
+        self.stands(Name::FramesOut) == self.stands(Name::AnswersIn)
+    }
+
+    /// The paths of the link, where the options name both.
+    #[tactic(auto, unfolding(crate::specs::Commands::link_of))]
+    pub(crate) fn link_of(self, alloc: Global) -> Result<Option<LinkPaths>, NoMemory>
+        ensures { IfOk result (λ link. link ≡ link_of (options_in self.entry)) }
+    {
+        let frames = self.text_of(alloc, Name::FramesOut)?;
+        let answers = self.text_of(alloc, Name::AnswersIn)?;
+        match (frames, answers) {
+            (Some(frames), Some(answers)) => Ok(Some(LinkPaths { frames, answers })),
+            _ => Ok(None),
+        }
     }
 
     /// One of the options repeats that one.

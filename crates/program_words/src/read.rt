@@ -94,6 +94,7 @@ fn replay_of(alloc: Global, options: OptionWords<'_, '_>) -> Result<ReplayWords,
         step: options.number_or(STEP, Name::Step),
         ticks: options.number_or(60, Name::Ticks),
         records: options.number_or(RECORDS, Name::Records),
+        link: options.link_of(alloc)?,
     })
 }
 

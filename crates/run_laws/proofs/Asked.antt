@@ -1,5 +1,5 @@
 -- A question that is ready is complete.
-use Rattle.std.proofs.Common.{◌≡◌, ℕ, ◌≤◌, false, List, [], refl, subst, arith}
+use Rattle.std.proofs.Common.{ℕ, ◌≤◌, false, List, [], refl, subst, arith}
 use Rattle.std.specs.Prelude.{All}
 use Rattle.std.proofs.lemmas.List.Elements.{All-contains}
 use Rattle.osq_value.specs.declared.reading.Category.{Category}

@@ -6,7 +6,6 @@ use Rattle.std.proofs.lemmas.List.Elements.{All-head, All-tail}
 use Rattle.osq_value.specs.declared.moment.TheConstants.{LAST_MOMENT}
 use Rattle.program_words.specs.declared.command.ReplayWords.{ReplayWords}
 use Rattle.program_words.specs.Bounds.{RunBounds}
-use Rattle.session_model.specs.Given.{Source}
 use Rattle.session_model.specs.Orders.{Order}
 use Rattle.session_laws.specs.Enough.{AreEnough}
 use Rattle.session_laws.proofs.Ended.{is_end}
@@ -54,7 +53,7 @@ module _ (order : Order) (words : ReplayWords) (seen : Observed) (bounds : RunBo
       let some : 1 ≤ ran.given.records = subst (λ (n : ℕ). 1 ≤ n) (sym ran.is.records) bounds.some_records in
       let enough = subst (λ (n : ℕ). All (AreEnough n seen.kept_before words.ticks) ran.given.sources) (sym ran.is.records)
       (subst (All (AreEnough words.records seen.kept_before words.ticks)) (sym sources) ready.ready.enough) in
-      let end = is_end (run_in order seen ran.given) words.ticks seen.kept_after seen.results_after ran.ended ran.run ready.ready.keeper_tells ready.ready.source_tells ready.ready.legal some enough in
+      let end = is_end (run_in order words seen ran.given) words.ticks seen.kept_after seen.results_after seen.link_after ran.ended ran.run ready.ready.keeper_tells ready.ready.source_tells ready.ready.legal some enough in
       true≢false (sym end ∙ ran.end_is)
 
   pub replayed : (status : Status) → IsReplay order words seen status → ¬ IsUsageStatus status → IsComplete status

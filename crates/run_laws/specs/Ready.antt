@@ -54,7 +54,7 @@ pub record IsReplayReady (order : Order) (words : ReplayWords) (seen : Observed)
   pub accepted : IsAccepted words seen
   pub ready : AreReady seen words.sources words.records words.ticks
   pub early : (readings : List ℕ) → seen.has_read readings → All (λ (reading : ℕ). reading ≤ LAST_MOMENT) readings
-  pub numbers : (given : Given) → IsReplayGiven words seen given → ¬ RanOutOfNumbers (run_in order seen given) seen.kept_after
+  pub numbers : (given : Given) → IsReplayGiven words seen given → ¬ RanOutOfNumbers (run_in order words seen given) seen.kept_after
 
 -- a question: so are its text and the configuration that it names, if it names one
 pub record IsQueryReady (words : QueryWords) (seen : Observed) : Type 0 where

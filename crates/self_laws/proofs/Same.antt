@@ -1,6 +1,7 @@
 -- The session of a self test leaves one list.
-use Rattle.std.proofs.Common.{◌≡◌, ℕ, ◌+◌, ◌/◌, List, [], ◌∷◌, length, refl, ap, sym, subst, ◌∙◌, Option, Some, option_map}
+use Rattle.std.proofs.Common.{◌≡◌, ℕ, ◌+◌, ◌/◌, List, [], ◌∷◌, ◌++◌, length, map, refl, ap, sym, subst, ◌∙◌, Option, Some, option_map}
 use Rattle.std.specs.Prelude.{unwrap_or}
+use Rattle.std.proofs.lemmas.List.{length-map}
 use Rattle.serde_json.specs.Data.{Data}
 use Rattle.serde_json.specs.Read.{read}
 use Rattle.serde_json.proofs.OnLiterals.{serde_json_on_literals}
@@ -17,6 +18,8 @@ use Rattle.program_words.specs.Bounds.{GenerateBounds}
 use Rattle.kept_report.specs.Counting.{numbers_in, numbers_line}
 use Rattle.session_model.specs.Given.{Given, Source}
 use Rattle.session_model.specs.Orders.{in_turn}
+use Rattle.session_model.specs.Sessions.{Beat, quiet}
+use Rattle.replay_rounds.specs.Linking.{polled_at, readings_of}
 use Rattle.replay_rounds.specs.Running.{AddsAt}
 use Rattle.osq_program.specs.SelfTesting.{HasRunOver, IsSelfGiven, document, readings_from, self_key}
 use Rattle.same_sessions.specs.Laws.{StandsAlone}
@@ -47,27 +50,42 @@ given_same lines count start one other x y =
     ∙ (ap (λ (ss : List Source). given_with other.host other.documents other.config ss one.records) (x.sources ∙ sym y.sources)
     ∙ ap (λ (n : ℕ). given_with other.host other.documents other.config other.sources n) (x.records ∙ sym y.records))))
 
--- a session at these readings adds one list
-adds_same : (words : GenerateWords) (given : Given) (readings : List ℕ) (one other : List Entry) → GenerateBounds words → IsSelfGiven (lines_of words.from words.count) words.count 1000 given
-    → AddsAt in_turn (Unit {0}) given [] readings one → AddsAt in_turn (Unit {0}) given [] readings other → one ≡ other
+-- a session at these beats adds one list
+adds_same : (words : GenerateWords) (given : Given) (beats : List Beat) (one other : List Entry) → GenerateBounds words → IsSelfGiven (lines_of words.from words.count) words.count 1000 given
+    → AddsAt in_turn (Unit {0}) given [] beats one → AddsAt in_turn (Unit {0}) given [] beats other → one ≡ other
 adds_same words given [] one other bounds is x y = x ∙ sym y
-adds_same words given (reading ∷ readings) one other bounds is x y =
-    same_loads (Unit {0}) given [] reading readings one other _ words.from words.count tt is.sources is.records bounds.lines_in x y
+adds_same words given (beat ∷ beats) one other bounds is x y =
+    same_loads (Unit {0}) given [] beat beats one other _ words.from words.count tt is.sources is.records bounds.lines_in x y
 
--- the readings of so many ticks are those of the clock
-readings_are : (ticks : ℕ) (readings : List ℕ) → readings ≡ readings_from 1000 (length readings) → length readings ≡ ticks → readings ≡ readings_from 1000 ticks
-readings_are ticks readings read count = read ∙ ap (readings_from 1000) count
+no_parts : {X : Type 0} (xs ys : List X) → xs ++ ys ≡ [] → (xs ≡ []) × (ys ≡ [])
+no_parts [] ys none = (refl, none)
+no_parts (x ∷ xs) ys none = absurd (let gone : ⊥ = cc in gone)
+
+abbrev beat_with : ℕ → List (Option ℕ) → Beat
+beat_with reading polled = record { reading = reading; polled = polled }
+
+-- beats at which nothing is polled are those of their readings
+all_quiet : (beats : List Beat) → polled_at beats ≡ [] → beats ≡ map quiet (readings_of beats)
+all_quiet [] none = refl
+all_quiet (beat ∷ beats) none =
+    let (first, others) = no_parts beat.polled (polled_at beats) none in
+    ap (λ (polled : List (Option ℕ)). beat_with beat.reading polled ∷ beats) first ∙ ap (λ (rest : List Beat). quiet beat.reading ∷ rest) (all_quiet beats others)
+
+-- so those of so many ticks are the clock's, since a self test has no link
+beats_are : (ticks : ℕ) (beats : List Beat) → readings_of beats ≡ readings_from 1000 (length (readings_of beats)) → length beats ≡ ticks → polled_at beats ≡ [] → beats ≡ map quiet (readings_from 1000 ticks)
+beats_are ticks beats read count none =
+    all_quiet beats none ∙ ap (map quiet) (read ∙ ap (readings_from 1000) (length-map beats (λ (beat : Beat). beat.reading) ∙ count))
 
 kept_same : (words : GenerateWords) (one other : List Entry) → GenerateBounds words → HasRunOver (lines_of words.from words.count) words.count 1000 [] one → HasRunOver (lines_of words.from words.count) words.count 1000 [] other → one ≡ other
 kept_same words one other bounds x y =
     let lines = lines_of words.from words.count in
     let ticks = words.count / 100 + 2 in
     let given = given_same lines words.count 1000 x.given y.given x.is y.is in
-    let mine = readings_are ticks x.run.readings x.run.read x.run.count in
-    let theirs = readings_are ticks y.run.readings y.run.read y.run.count in
-    let adds = subst (λ (g : Given). AddsAt in_turn (Unit {0}) g [] x.run.readings x.run.entries) given (x.run.grows.adds tt tt) in
-    let at = subst (λ (rs : List ℕ). AddsAt in_turn (Unit {0}) y.given [] rs x.run.entries) (mine ∙ sym theirs) adds in
-    let entries = adds_same words y.given y.run.readings x.run.entries y.run.entries bounds y.is at (y.run.grows.adds tt tt) in
+    let mine = beats_are ticks x.run.beats x.run.read x.run.count (x.run.grows.heard tt tt) in
+    let theirs = beats_are ticks y.run.beats y.run.read y.run.count (y.run.grows.heard tt tt) in
+    let adds = subst (λ (g : Given). AddsAt in_turn (Unit {0}) g [] x.run.beats x.run.entries) given (x.run.grows.adds tt tt) in
+    let at = subst (λ (bs : List Beat). AddsAt in_turn (Unit {0}) y.given [] bs x.run.entries) (mine ∙ sym theirs) adds in
+    let entries = adds_same words y.given y.run.beats x.run.entries y.run.entries bounds y.is at (y.run.grows.adds tt tt) in
     x.run.grows.grown tt ∙ (entries ∙ sym (y.run.grows.grown tt))
 
 pub one_line : OneLine

@@ -58,6 +58,7 @@ fn prepare(alloc: Global, outside: &mut Memory, given: Given<'_>) -> Result<(), 
     outside.status = given.sink(alloc, "status")?;
     outside.ledger = given.sink(alloc, "ledger")?;
     outside.files = given.files(alloc)?;
+    outside.link = given.link(alloc)?;
     outside.clock = StepClock {
         next: given.number("start"),
         step: given.number("step"),
@@ -76,7 +77,7 @@ fn push_run(
     let before = outside.keeper.entries().len();
     let number = run_plain(alloc, words.as_slice(), outside).number();
     writeln!(text, "status {number}")?;
-    push_left(text, outside, before, given)
+    push_left(alloc, text, outside, before, given)
 }
 
 /// Prepares a run, and runs it; or says what its line has that no run may have.

@@ -1,20 +1,22 @@
 //! What a run is over.
 
 use crate::text::text_of;
+use batch_forwarder::MemoryLink;
 use case_text::items_of;
 use osq_outside::{
     Fail, FailList, MemoryFiles, MemorySink, MemorySource, NamedFile, NamedFileList,
 };
-use osq_value::{Bytes, NoMemory, Str};
+use osq_value::{Bytes, NoMemory, Sequence, Str};
 use serde_json::Value as Json;
 use std::alloc::Global;
 
 /// The members that a run may have.
-pub(crate) const KEYS: [&str; 10] = [
+pub(crate) const KEYS: [&str; 11] = [
     "words",
     "text",
     "files",
     "sources",
+    "answers",
     "start",
     "step",
     "fails",
@@ -24,7 +26,7 @@ pub(crate) const KEYS: [&str; 10] = [
 ];
 
 /// The objects whose calls may fail.
-const OBJECTS: [&str; 5] = ["files", "keeper", "results", "status", "ledger"];
+const OBJECTS: [&str; 6] = ["files", "keeper", "results", "status", "ledger", "link"];
 
 /// The first member of an object that is none of these.
 fn odd_member<'a>(item: &'a Json, keys: &[&str]) -> Option<&'a str> {
@@ -69,6 +71,33 @@ pub(crate) fn calls_of(alloc: Global, numbers: Option<&Json>) -> Result<FailList
 pub(crate) fn bytes_of(alloc: Global, texts: &[Json], value: &Json) -> Result<Bytes, NoMemory> {
     let text = text_of(alloc, texts, value)?;
     Ok(Bytes::from_vec(text.into_bytes()))
+}
+
+/// Adds an answer, or as many copies of it as its object says.
+fn push_answers(
+    alloc: Global,
+    texts: &[Json],
+    item: &Json,
+    answers: &mut Sequence<Bytes>,
+) -> Result<(), NoMemory> {
+    let text = item.get("text").unwrap_or(item);
+    for _ in 0..item.get("copies").and_then(Json::as_u64).unwrap_or(1) {
+        answers.push(bytes_of(alloc, texts, text)?)?;
+    }
+    Ok(())
+}
+
+/// The answers of an array.
+pub(crate) fn answers_of(
+    alloc: Global,
+    texts: &[Json],
+    items: Option<&Json>,
+) -> Result<Sequence<Bytes>, NoMemory> {
+    let mut answers = Sequence::new(alloc);
+    for answer in items_of(items) {
+        push_answers(alloc, texts, answer, &mut answers)?;
+    }
+    Ok(answers)
 }
 
 /// A source: a text, or an object with `text` and `fails`.
@@ -143,6 +172,16 @@ impl<'a> Given<'a> {
             Some(fails) => calls_of(alloc, fails.get(name)),
             None => Ok(FailList::new(alloc)),
         }
+    }
+
+    /// Whether the run says what its link answers.
+    pub(crate) fn has_link(self) -> bool {
+        self.member("answers").is_some()
+    }
+
+    pub(crate) fn link(self, alloc: Global) -> Result<MemoryLink, NoMemory> {
+        let answers = answers_of(alloc, self.texts, self.member("answers"))?;
+        Ok(MemoryLink::new(alloc, answers, self.fails(alloc, "link")?))
     }
 
     pub(crate) fn sink(self, alloc: Global, name: &str) -> Result<MemorySink, NoMemory> {

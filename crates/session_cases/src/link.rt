@@ -1,19 +1,15 @@
 //! Polls of a link.
 
-use crate::given::{bytes_of, calls_of, push_odd};
+use crate::given::{answers_of, calls_of, push_odd};
 use batch_forwarder::{Link, LinkError, MemoryLink};
-use case_text::items_of;
-use osq_value::{Bytes, NoMemory, Sequence};
+use osq_value::{Bytes, NoMemory};
 use serde_json::Value as Json;
 use std::alloc::Global;
 use std::str;
 
 /// The link whose answers and failing calls an object gives.
 fn link_of(alloc: Global, texts: &[Json], item: &Json) -> Result<MemoryLink, NoMemory> {
-    let mut answers = Sequence::new(alloc);
-    for answer in items_of(item.get("answers")) {
-        answers.push(bytes_of(alloc, texts, answer)?)?;
-    }
+    let answers = answers_of(alloc, texts, item.get("answers"))?;
     Ok(MemoryLink::new(alloc, answers, calls_of(alloc, item.get("fails"))?))
 }
 

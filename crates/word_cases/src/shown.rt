@@ -2,8 +2,8 @@
 
 use osq_value::{NoMemory, SourceKind, SourceNameList, Str};
 use program_words::{
-    CheckWords, CollectWords, CommandWords, DaemonWords, GenerateWords, Paths, QueryWords,
-    ReplayWords, ReportWords,
+    CheckWords, CollectWords, CommandWords, DaemonWords, GenerateWords, LinkPaths, Paths,
+    QueryWords, ReplayWords, ReportWords,
 };
 
 /// The most sources that are named.
@@ -50,6 +50,19 @@ fn push_store(text: &mut String, store: &Option<Str>) -> Result<(), NoMemory> {
     Ok(())
 }
 
+/// Adds the files of the link, where the words name them.
+fn push_link(text: &mut String, link: &Option<LinkPaths>) -> Result<(), NoMemory> {
+    if let Some(link) = link {
+        write!(
+            text,
+            " frames {} answers {}",
+            link.frames.as_str(),
+            link.answers.as_str()
+        )?;
+    }
+    Ok(())
+}
+
 fn push_host(text: &mut String, host: &str, platform: &str, agent: &str) -> Result<(), NoMemory> {
     write!(text, " host {host} platform {platform} agent {agent}")?;
     Ok(())
@@ -67,6 +80,7 @@ fn push_session(text: &mut String, words: &ReplayWords) -> Result<(), NoMemory> 
     push_clock(text, words.start, words.step)?;
     push_counts(text, words.ticks, words.records)?;
     push_store(text, &words.store)?;
+    push_link(text, &words.link)?;
     push_sources(text, &words.sources)
 }
 
@@ -165,6 +179,7 @@ pub(crate) fn push_paths(text: &mut String, paths: &Paths) -> Result<(), NoMemor
     if let Some(ledger) = &paths.ledger {
         write!(text, " ledger {}", ledger.as_str())?;
     }
+    push_link(text, &paths.link)?;
     text.push_str("\n")?;
     Ok(())
 }

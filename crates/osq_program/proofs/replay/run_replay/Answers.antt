@@ -1,13 +1,13 @@
-use Rattle.std.proofs.Common.{refl, inr, List, ap, sym, subst, ◌∙◌, map, length}
+use Rattle.std.proofs.Common.{refl, ℕ, ◌-◌, List, ap, sym, subst, ◌∙◌, map, length}
 use Rattle.osq_value.specs.declared.source.SourceName.{SourceName}
 use Rattle.daemon_rounds.specs.declared.setup.Setup.{Setup}
 use Rattle.osq_program.specs.Ending.{IsAnswerTo}
 use Rattle.osq_program.proofs.Ended.{failed_before, rose_behind}
 use Rattle.osq_program.specs.Telling.{MayReplayTell, TellsSome}
 use Rattle.osq_program.specs.declared.status.Status.TheVariants.{OutOfMemory}
-use Rattle.osq_program.proofs.Endings.{ran_telling, replay_may, stopped_telling, untold_replay}
-use Rattle.osq_program.proofs.Replays.{answered, fails_there, given_is, is_within, no_memory, ran, refused_config, shrank_by, stopped}
-use Rattle.osq_program.proofs.Setups.{for_ticks, setup_distinct, setup_paired, setup_ticks}
+use Rattle.osq_program.proofs.Endings.{ran_telling_if, replay_may, stopped_telling_if, untold_replay}
+use Rattle.osq_program.proofs.Replays.{answered, fails_there, given_is, is_within, no_memory, ran_if, refused_config, shrank_by, stopped_if}
+use Rattle.osq_program.proofs.Setups.{for_ticks, setup_distinct, setup_forwards, setup_host, setup_paired, setup_ticks}
 use Rattle.osq_program.proofs.Toldings.{stopped_cause, tells_line, tells_unconfigured, unconfigured_cause}
 use Rattle.osq_program.proofs.replay.run_replay.Goals as goal
 
@@ -40,18 +40,32 @@ run_session-requires-clause-paired g c κs within =
     setup_paired c.in-Ok-setup_of.setup c.args.words.now _ c.in-Ok-setup_of.ensures (c.as_mut_slice.ensures.len ∙ c.requires.sources)
 
 pub run_session-requires-clause-distinct : goal.run_session-requires-clause-distinct
-run_session-requires-clause-distinct g c κs within = setup_distinct c.in-Ok-setup_of.setup c.args.words.now c.in-Ok-setup_of.ensures c.requires.bounded.sources_in.own_paths
+run_session-requires-clause-distinct g c κs within = setup_distinct c.in-Ok-setup_of.setup c.args.words.now c.in-Ok-setup_of.ensures c.requires.bounded.0.sources_in.own_paths
 
 pub run_session-requires-clause-ticks : goal.run_session-requires-clause-ticks
-run_session-requires-clause-ticks g c κs within = setup_ticks c.in-Ok-setup_of.setup c.args.words.now c.in-Ok-setup_of.ensures c.requires.bounded.some_ticks
+run_session-requires-clause-ticks g c κs within = setup_ticks c.in-Ok-setup_of.setup c.args.words.now c.in-Ok-setup_of.ensures c.requires.bounded.0.some_ticks
+
+pub run_session-requires-clause-host : goal.run_session-requires-clause-host
+run_session-requires-clause-host g c κs within = λ forwards. setup_host c.in-Ok-setup_of.setup c.args.words.now c.in-Ok-setup_of.ensures c.requires.bounded.1
+
+pub returns-in-Ok-run_session-clause-link : goal.returns-in-Ok-run_session-clause-link
+returns-in-Ok-run_session-clause-link g c = λ quiet. c.in-Ok-run_session.ensures.unlinked (setup_forwards c.in-Ok-setup_of.setup c.args.words.now c.in-Ok-setup_of.ensures ∙ quiet)
+
+pub returns-clause-link : goal.returns-clause-link
+returns-clause-link g c = λ quiet. c.in-Err-run_session.ensures.unlinked (setup_forwards c.in-Ok-setup_of.setup c.args.words.now c.in-Ok-setup_of.ensures ∙ quiet)
 
 pub returns-in-Ok-run_session-clause-does : goal.returns-in-Ok-run_session-clause-does
 returns-in-Ok-run_session-clause-does g c =
     let s = c.in-Ok-run_session.ensures in
+    let order = g.T.TakesRound.order in
+    let words = c.args.words.now in
+    let setup = c.in-Ok-setup_of.setup in
     let left = g.S.Source.left in
     let bytes = sym (ap (map left) c.as_mut_slice.ensures.value) in
-    let is = given_is left _ _ c.in-Ok-setup_of.setup c.in-Ok.configured.config c.in-Ok.configured.documents c.in-Ok.configured.notes _ c.in-Ok-setup_of.ensures bytes c.in-Ok.ensures.config in
-    ran g.T.TakesRound.order _ _ _ _ is c.in-Ok-run_session.ended (for_ticks c.in-Ok-setup_of.setup c.args.words.now _ _ _ _ c.in-Ok-setup_of.ensures s.done) _ s.told s.fit _
+    let is = given_is left words _ setup c.in-Ok.configured.config c.in-Ok.configured.documents c.in-Ok.configured.notes _ c.in-Ok-setup_of.ensures bytes c.in-Ok.ensures.config in
+    let same = setup_forwards setup words c.in-Ok-setup_of.ensures in
+    let count = c.faults_since-faults.ensures ∙ ap (λ (n : ℕ). g.L.Link.faults c.run_session.new.link - n) c.fault_count-before.ensures in
+    ran_if order words _ c.finish.result _ is setup.forward same c.in-Ok-run_session.ended (for_ticks setup words _ _ _ _ _ c.in-Ok-setup_of.ensures s.done) _ s.told s.fit _ count _
     (rose_behind _ _ _ s.later.2) c.finish.ensures.done c.finish.ensures.spent c.finish.ensures.cause s.kept s.written
 
 pub answer_to-status-requires-clause-fault : goal.answer_to-status-requires-clause-fault
@@ -75,7 +89,8 @@ returns-clause-does g c =
     let bytes = sym (ap (map left) c.as_mut_slice.ensures.value) in
     let is = given_is left _ _ setup c.in-Ok.configured.config c.in-Ok.configured.documents c.in-Ok.configured.notes _ c.in-Ok-setup_of.ensures bytes c.in-Ok.ensures.config in
     let answer = subst (λ (sources : List SourceName). IsAnswerTo sources r.error c.answer_to-status.result) c.as_slice.ensures c.answer_to-status.ensures in
-    stopped g.T.TakesRound.order _ _ c.stop.result (stopped_cause _ c.answer_to-status.result c.stop.result c.stop.ensures.same
+    let same = setup_forwards setup c.args.words.now c.in-Ok-setup_of.ensures in
+    stopped_if g.T.TakesRound.order c.args.words.now _ c.stop.result _ is setup.forward same (λ spends. stopped_cause _ c.answer_to-status.result c.stop.result c.stop.ensures.same
     (answered _ c.args.words.now.sources r.error _ answer
     (λ e. ((_, is), s.keeper_cause r refl e))
     (λ e. ((_, is), λ tells. (s.illegal tells r refl e, s.refused tells r refl e)))
@@ -84,26 +99,34 @@ returns-clause-does g c =
     (λ place kept found name e named.
     let h = s.shrank r place kept found refl e in
     ((_, is), shrank_by left _ _ setup.sources _ h.0 place kept found name (ap (λ (s : Setup). s.sources) c.in-Ok-setup_of.ensures) bytes h.1 h.2 named))
-    (λ e. (_, is, s.spent r refl e))
+    (λ e. spends (s.spent r refl e))
     (λ e. ((_, is), failed_before _ _ _ _ c.stop.ensures.later (s.sink_cause r refl e)))))
-    (λ tells. inr (_, is, s.kept tells)) (λ tells. inr (_, is, s.written tells))
+    s.kept s.written
 
 pub returns-in-Ok-run_session-clause-told : goal.returns-in-Ok-run_session-clause-told
 returns-in-Ok-run_session-clause-told g c =
     let s = c.in-Ok-run_session.ensures in
+    let order = g.T.TakesRound.order in
+    let words = c.args.words.now in
+    let setup = c.in-Ok-setup_of.setup in
     let left = g.S.Source.left in
     let bytes = sym (ap (map left) c.as_mut_slice.ensures.value) in
-    let is = given_is left c.args.words.now _ c.in-Ok-setup_of.setup c.in-Ok.configured.config c.in-Ok.configured.documents c.in-Ok.configured.notes _ c.in-Ok-setup_of.ensures bytes c.in-Ok.ensures.config in
-    ran_telling g.T.TakesRound.order c.args.words.now _ c.finish.result _ is _ _ (rose_behind _ _ _ s.later.2) s.told c.finish.ensures.told
+    let is = given_is left words _ setup c.in-Ok.configured.config c.in-Ok.configured.documents c.in-Ok.configured.notes _ c.in-Ok-setup_of.ensures bytes c.in-Ok.ensures.config in
+    let same = setup_forwards setup words c.in-Ok-setup_of.ensures in
+    ran_telling_if order words _ c.finish.result _ is setup.forward same _ _ (rose_behind _ _ _ s.later.2) s.told c.finish.ensures.told
 
 pub returns-clause-told : goal.returns-clause-told
 returns-clause-told g c =
     let s = c.in-Err-run_session.ensures in
     let r = c.in-Err-run_session.refused in
-    let left = g.S.Source.left in
+    let order = g.T.TakesRound.order in
+    let words = c.args.words.now in
     let setup = c.in-Ok-setup_of.setup in
+    let left = g.S.Source.left in
     let bytes = sym (ap (map left) c.as_mut_slice.ensures.value) in
-    let is = given_is left c.args.words.now _ setup c.in-Ok.configured.config c.in-Ok.configured.documents c.in-Ok.configured.notes _ c.in-Ok-setup_of.ensures bytes c.in-Ok.ensures.config in
+    let is = given_is left words _ setup c.in-Ok.configured.config c.in-Ok.configured.documents c.in-Ok.configured.notes _ c.in-Ok-setup_of.ensures bytes c.in-Ok.ensures.config in
+    let same = setup_forwards setup words c.in-Ok-setup_of.ensures in
+    let count = c.faults_since-faults-in-Err-run_session.ensures ∙ ap (λ (n : ℕ). g.L.Link.faults c.run_session.new.link - n) c.fault_count-before.ensures in
     let answer = subst (λ (sources : List SourceName). IsAnswerTo sources r.error c.answer_to-status.result) c.as_slice.ensures c.answer_to-status.ensures in
-    stopped_telling g.T.TakesRound.order c.args.words.now _ _ is c.args.words.now.sources r.error c.answer_to-status.result c.stop.result (g.O.Sink.written c.run_session.new.status) _ _ answer (rose_behind _ _ _ s.later.2)
+    stopped_telling_if order words _ _ is setup.forward same words.sources r.error c.answer_to-status.result c.stop.result (g.O.Sink.written c.run_session.new.status) _ _ answer (rose_behind _ _ _ s.later.2) _ count
     r.numbers s.stops (λ same. ap g.O.Sink.written same) (λ tells. failed_before _ _ _ _ c.stop.ensures.later (s.stops_telling tells)) c.stop.ensures.told c.stop.ensures.same

@@ -2,7 +2,7 @@ use Rattle.std.proofs.Common.{Some, ap, refl, subst, sym, ◌∙◌}
 use Rattle.program_words.specs.Bounds.{IsBounded}
 use Rattle.program_words.specs.declared.command.CommandWords.{CommandWords}
 use Rattle.program_words.specs.declared.command.CommandWords.TheVariants.{Daemon as AsksDaemon}
-use Rattle.osq_program.proofs.Paths.{for_read, tells_wanting, told_for_read, wants_by}
+use Rattle.osq_program.proofs.Paths.{for_read, not_forwarding, tells_wanting, told_for_read, wants_by}
 use Rattle.osq_program.proofs.run.run_daemon.Goals as goal
 
 pub run_by_threads-requires-clause-bounded : goal.run_by_threads-requires-clause-bounded
@@ -20,3 +20,7 @@ returns-in-Ok-Daemon-clause-told g c = λ command is used. told_for_read (AsksDa
 
 pub returns-in-Err-NoMemory-clause-told : goal.returns-in-Err-NoMemory-clause-told
 returns-in-Err-NoMemory-clause-told g c = λ command is used. tells_wanting command _ _ c.starve.ensures.same refl c.starve.ensures.told
+
+pub returns-in-Ok-Daemon-clause-link : goal.returns-in-Ok-Daemon-clause-link
+returns-in-Ok-Daemon-clause-link g c = λ quiet.
+    c.run_by_threads.ensures.link (not_forwarding _ (AsksDaemon c.in-Ok-Daemon.words) (c.in-Ok-Daemon.ensures.command ∙ ap (λ (w : CommandWords). Some w) c.in-Ok-Daemon.field-0-is) quiet)
