@@ -1,0 +1,4 @@
+pub mod Answered
+pub mod Laws
+pub mod Prefixes
+pub mod Sent
