@@ -8,8 +8,9 @@ use osq_outside::{Sink, SinkFault, write_all};
 /// A sink to which frames are added as lines.
 #[derive(Drop)]
 pub struct FrameLines<O> {
-    sink: O,
-    is_torn: bool,
+    pub(crate) sink: O,
+    /// Whether the last line has no end yet.
+    pub(crate) is_torn: bool,
 }
 
 impl<O> FrameLines<O> {

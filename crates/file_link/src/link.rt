@@ -1,7 +1,7 @@
 //! The link over a sink and a source.
 
-ghost use Rattle.std.specs.Prelude.{◌≡◌, ◌≤◌, []};
-ghost use Rattle.osq_outside.specs.Causes.{HasCause, Rose};
+ghost use Rattle.std.specs.Prelude.{◌≡◌, ◌≤◌, ◌×◌, ◌++◌, ◌∷◌, [], false, if◌then◌else◌, OnOk};
+ghost use Rattle.osq_outside.specs.Causes.{HasCause, FaultHasCause, Rose};
 
 use crate::answers::AnswerLines;
 use crate::frames::FrameLines;
@@ -31,7 +31,9 @@ pub struct FileLink<O, S> {
 impl<O, S> FileLink<O, S> {
     /// A link that hasn't failed yet. Its answers are those lines of the source that end within the first `size` bytes.
     pub fn new(alloc: Global, frames: O, source: S, size: u64) -> FileLink<O, S>
-        ensures { result.faults ≡ 0 }
+        ensures frames { result.frames ≡ record { sink = frames; is_torn = false } }
+        ensures answers { (result.source ≡ source) × (result.answers.left ≡ size) }
+        ensures faults { result.faults ≡ 0 }
     {
         FileLink {
             frames: FrameLines::new(frames),
@@ -43,6 +45,7 @@ impl<O, S> FileLink<O, S> {
 
     /// Counts a fault.
     fn count_fault(&mut self)
+        ensures alone { (self.new.frames ≡ self.old.frames) × (self.new.source ≡ self.old.source) × (self.new.answers ≡ self.old.answers) }
         ensures later { self.old.faults ≤ self.new.faults }
         ensures rose { Rose self.old.faults self.new.faults }
     {
@@ -51,9 +54,12 @@ impl<O, S> FileLink<O, S> {
 }
 
 impl<O: Sink, S> FileLink<O, S> {
-    /// Appends a frame as a line.
+    /// Appends a frame as a line, behind the end of one that a fault has cut off. What is polled stays as it is.
     pub fn append(&mut self, frame: &[u8]) -> Result<(), LinkFault>
-        ensures { HasCause self.old.faults self.new.faults result }
+        ensures line { O.tells → OnOk result (O.written self.new.frames.sink ≡ O.written self.old.frames.sink ++ (if self.old.frames.is_torn then 10 ∷ [] else []) ++ frame.now ++ 10 ∷ []) }
+        ensures whole { OnOk result (self.new.frames.is_torn ≡ false) }
+        ensures unpolled { (self.new.source ≡ self.old.source) × (self.new.answers ≡ self.old.answers) }
+        ensures cause { HasCause self.old.faults self.new.faults result }
     {
         match self.frames.add(frame) {
             Ok(()) => Ok(()),
@@ -80,11 +86,19 @@ impl<O: Sink, S: Source> Link for FileLink<O, S> {
         _host: &str,
         _number: u64,
         frame: &[u8],
-    ) -> Result<(), LinkFault> {
+    ) -> Result<(), LinkFault>
+        ensures line { O.tells → OnOk result (O.written self.new.frames.sink ≡ O.written self.old.frames.sink ++ (if self.old.frames.is_torn then 10 ∷ [] else []) ++ frame.now ++ 10 ∷ []) }
+        ensures whole { OnOk result (self.new.frames.is_torn ≡ false) }
+        ensures unpolled { (self.new.source ≡ self.old.source) × (self.new.answers ≡ self.old.answers) }
+        ensures cause { HasCause self.old.faults self.new.faults result }
+    {
         self.append(frame)
     }
 
-    fn poll(&mut self) -> Result<Option<Bytes>, LinkError> {
+    fn poll(&mut self) -> Result<Option<Bytes>, LinkError>
+        ensures unsent { self.new.frames ≡ self.old.frames }
+        ensures cause { FaultHasCause LinkError.Fault self.old.faults self.new.faults result }
+    {
         let mut line = self.answers.take_line();
         while line.is_none() && self.answers.left > 0 {
             let Ok(mut piece) = self.answers.room() else {
