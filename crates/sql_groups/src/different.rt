@@ -7,8 +7,10 @@ ghost use Rattle.sql_groups.specs.Keys.{key_worths};
 
 use crate::kept::is_kept;
 use crate::keys::{RowKey, key_in};
+use crate::set_key::{key_of_column, key_of_exprs};
 use indexmap::IndexSet;
 use osq_value::{NoMemory, Sequence, Value};
+use set_keys::{FEW, SetKey};
 use sql_meaning::{Joined, value_in};
 use sql_query::query::Condition;
 use sql_query::tree::Expr;
@@ -17,12 +19,13 @@ use std::alloc::Global;
 /// Rows whose values of a column differ, and these values.
 #[derive(Drop)]
 struct FoundRows<'a> {
-    values: IndexSet<&'a Value>,
+    values: IndexSet<&'a Value, SetKey>,
     rows: Sequence<Joined<'a>>,
 }
 
 /// The rows for which the condition holds and whose value at a place no earlier one of them has, where all of them have that place. Null is
-/// equal to Null, and no number to a text. Each value is hashed once, where it stands.
+/// equal to Null, and no number to a text. Each value is hashed once, where it stands; where more than a few differ, it begins again with a key that is
+/// drawn from all of them, so that no rows make it slow.
 pub(crate) fn different<'a>(
     alloc: Global,
     place: u32,
@@ -31,12 +34,32 @@ pub(crate) fn different<'a>(
 ) -> Result<Option<Sequence<Joined<'a>>>, NoMemory>
     ensures { IfOk result (λ found. IfSome found (λ made. made ≡ different place (map expr_of condition.now.parts) rows.now)) }
 {
+    match first_few(alloc, SetKey::plain(), FEW, place, condition, rows)? {
+        Some(found) => Ok(Some(found)),
+        None => {
+            let key = key_of_column(rows, place);
+            first_few(alloc, key, usize::MAX, place, condition, rows)
+        }
+    }
+}
+
+/// The same by a set that is hashed by this key. None also where they are more than `most`.
+fn first_few<'a>(
+    alloc: Global,
+    key: SetKey,
+    most: usize,
+    place: u32,
+    condition: &Condition,
+    rows: &[Joined<'a>],
+) -> Result<Option<Sequence<Joined<'a>>>, NoMemory>
+    ensures { IfOk result (λ found. IfSome found (λ made. made ≡ different place (map expr_of condition.now.parts) rows.now)) }
+{
     let mut found = FoundRows {
-        values: IndexSet::new(alloc),
+        values: IndexSet::with_hasher(alloc, key),
         rows: Sequence::new(alloc),
     };
     for row in rows {
-        if !look_at(alloc, place, condition, &mut found, *row)? {
+        if !look_at(alloc, place, condition, &mut found, *row)? || found.rows.len() > most {
             return Ok(None);
         }
     }
@@ -78,28 +101,52 @@ fn add<'a>(found: &mut FoundRows<'a>, row: Joined<'a>, value: &'a Value) -> Resu
 /// Rows whose values of some expressions differ, and these values.
 #[derive(Drop)]
 struct FoundKeys<'a> {
-    keys: IndexSet<RowKey<'a>>,
+    keys: IndexSet<RowKey<'a>, SetKey>,
     rows: Sequence<Joined<'a>>,
 }
 
 /// The rows for which the condition holds and whose values of the expressions no earlier one of them has. Null is equal to Null, and no
-/// number to a text. Each row's values are hashed once.
+/// number to a text. Each row's values are hashed once; where more than a few differ, it begins again with a key that is drawn from all of them.
+/// None where they are more than can be counted.
 pub(crate) fn different_by<'a>(
     alloc: Global,
     exprs: &[&'a Expr],
     condition: &Condition,
     rows: &[Joined<'a>],
-) -> Result<Sequence<Joined<'a>>, NoMemory>
-    ensures { IfOk result (λ made. made ≡ different_by (map (λ expr. expr_of expr.now) exprs.now) (map expr_of condition.now.parts) rows.now) }
+) -> Result<Option<Sequence<Joined<'a>>>, NoMemory>
+    ensures { IfOk result (λ found. IfSome found (λ made. made ≡ different_by (map (λ expr. expr_of expr.now) exprs.now) (map expr_of condition.now.parts) rows.now)) }
+{
+    match few_by(alloc, SetKey::plain(), FEW, exprs, condition, rows)? {
+        Some(found) => Ok(Some(found)),
+        None => {
+            let key = key_of_exprs(alloc, rows, exprs)?;
+            few_by(alloc, key, usize::MAX, exprs, condition, rows)
+        }
+    }
+}
+
+/// The same by a set that is hashed by this key. None where they are more than `most`.
+fn few_by<'a>(
+    alloc: Global,
+    key: SetKey,
+    most: usize,
+    exprs: &[&'a Expr],
+    condition: &Condition,
+    rows: &[Joined<'a>],
+) -> Result<Option<Sequence<Joined<'a>>>, NoMemory>
+    ensures { IfOk result (λ found. IfSome found (λ made. made ≡ different_by (map (λ expr. expr_of expr.now) exprs.now) (map expr_of condition.now.parts) rows.now)) }
 {
     let mut found = FoundKeys {
-        keys: IndexSet::new(alloc),
+        keys: IndexSet::with_hasher(alloc, key),
         rows: Sequence::new(alloc),
     };
     for row in rows {
         look_by(alloc, exprs, condition, &mut found, *row)?;
+        if found.rows.len() > most {
+            return Ok(None);
+        }
     }
-    Ok(found.rows)
+    Ok(Some(found.rows))
 }
 
 /// Adds a row for which the condition holds, where no earlier one has its values.

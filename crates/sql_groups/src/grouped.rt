@@ -13,9 +13,11 @@ ghost use Rattle.sql_groups.specs.Keys.{key_worths, row_values};
 use crate::items::GroupItem;
 use crate::kept::is_kept;
 use crate::keys::{RowKey, key_in};
+use crate::set_key::{key_of_column, key_of_exprs};
 use crate::so_far::SoFar;
 use indexmap::IndexSet;
 use osq_value::{NoMemory, Sequence, Value};
+use set_keys::{FEW, SetKey};
 use sql_meaning::worth::{ResultRow, ResultRowList};
 use sql_meaning::{Joined, value_in};
 use sql_query::query::Condition;
@@ -29,7 +31,7 @@ pub(crate) type GroupSoFar<'a> = Sequence<SoFar<'a>>;
 #[derive(Drop)]
 pub(crate) struct FoundGroups<'a> {
     /// The values, in the order of the first rows that have them.
-    pub values: IndexSet<&'a Value>,
+    pub values: IndexSet<&'a Value, SetKey>,
     /// The group of each value, at the value's place.
     pub groups: Vec<GroupSoFar<'a>>,
 }
@@ -38,14 +40,14 @@ pub(crate) struct FoundGroups<'a> {
 #[derive(Drop)]
 pub(crate) struct KeyedGroups<'a> {
     /// The values, in the order of the first rows that have them.
-    pub keys: IndexSet<RowKey<'a>>,
+    pub keys: IndexSet<RowKey<'a>, SetKey>,
     /// The group of each, at its place.
     pub groups: Vec<GroupSoFar<'a>>,
 }
 
 /// The groups of the rows for which the condition holds, by their values at a place, in the order of their first rows. Null is equal to
-/// Null, and no number to a text. Each value is hashed once, where it stands, and each row is looked at once. None where a row doesn't
-/// have the place, or a number leaves its bounds.
+/// Null, and no number to a text. Each value is hashed once, where it stands; where more than a few differ, it begins again with a key that is drawn from
+/// all of them, so that no rows make it slow. None where a row doesn't have the place, or a number leaves its bounds.
 pub(crate) fn groups_by_column<'a>(
     alloc: Global,
     place: u32,
@@ -55,12 +57,34 @@ pub(crate) fn groups_by_column<'a>(
 ) -> Result<Option<Vec<GroupSoFar<'a>>>, NoMemory>
     ensures { IfOk result (λ found. IfSome found (λ groups. IsFolded items.now (lists place (map expr_of condition.now.parts) rows.now) groups.items)) }
 {
+    match few_by_column(alloc, SetKey::plain(), FEW, place, items, condition, rows)? {
+        Some(groups) => Ok(Some(groups)),
+        None => {
+            let key = key_of_column(rows, place);
+            few_by_column(alloc, key, usize::MAX, place, items, condition, rows)
+        }
+    }
+}
+
+/// The same by a set that is hashed by this key. None also where they are more than `most`.
+fn few_by_column<'a>(
+    alloc: Global,
+    key: SetKey,
+    most: usize,
+    place: u32,
+    items: &[GroupItem<'a>],
+    condition: &Condition,
+    rows: &[Joined<'a>],
+) -> Result<Option<Vec<GroupSoFar<'a>>>, NoMemory>
+    ensures { IfOk result (λ found. IfSome found (λ groups. IsFolded items.now (lists place (map expr_of condition.now.parts) rows.now) groups.items)) }
+{
     let mut found = FoundGroups {
-        values: IndexSet::new(alloc),
+        values: IndexSet::with_hasher(alloc, key),
         groups: Vec::new(alloc),
     };
     for row in rows {
-        if !look_at(alloc, place, items, condition, &mut found, *row)? {
+        if !look_at(alloc, place, items, condition, &mut found, *row)? || found.groups.len() > most
+        {
             return Ok(None);
         }
     }
@@ -154,7 +178,8 @@ fn add<'a>(
 }
 
 /// The groups of the rows for which the condition holds, by their values of some expressions, in the order of their first rows. Null is
-/// equal to Null, and no number to a text. Each row's values are hashed once. None where a number leaves its bounds.
+/// equal to Null, and no number to a text. Each row's values are hashed once; where more than a few differ, it begins again with a key that is drawn from
+/// all of them. None where a number leaves its bounds.
 pub(crate) fn groups_by_keys<'a>(
     alloc: Global,
     exprs: &[&'a Expr],
@@ -164,12 +189,34 @@ pub(crate) fn groups_by_keys<'a>(
 ) -> Result<Option<Vec<GroupSoFar<'a>>>, NoMemory>
     ensures { IfOk result (λ found. IfSome found (λ groups. IsFolded items.now (lists_by (row_values (map (λ expr. expr_of expr.now) exprs.now)) (map expr_of condition.now.parts) rows.now) groups.items)) }
 {
+    match few_by_keys(alloc, SetKey::plain(), FEW, exprs, items, condition, rows)? {
+        Some(groups) => Ok(Some(groups)),
+        None => {
+            let key = key_of_exprs(alloc, rows, exprs)?;
+            few_by_keys(alloc, key, usize::MAX, exprs, items, condition, rows)
+        }
+    }
+}
+
+/// The same by a set that is hashed by this key. None also where they are more than `most`.
+fn few_by_keys<'a>(
+    alloc: Global,
+    key: SetKey,
+    most: usize,
+    exprs: &[&'a Expr],
+    items: &[GroupItem<'a>],
+    condition: &Condition,
+    rows: &[Joined<'a>],
+) -> Result<Option<Vec<GroupSoFar<'a>>>, NoMemory>
+    ensures { IfOk result (λ found. IfSome found (λ groups. IsFolded items.now (lists_by (row_values (map (λ expr. expr_of expr.now) exprs.now)) (map expr_of condition.now.parts) rows.now) groups.items)) }
+{
     let mut found = KeyedGroups {
-        keys: IndexSet::new(alloc),
+        keys: IndexSet::with_hasher(alloc, key),
         groups: Vec::new(alloc),
     };
     for row in rows {
-        if !look_by(alloc, exprs, items, condition, &mut found, *row)? {
+        if !look_by(alloc, exprs, items, condition, &mut found, *row)? || found.groups.len() > most
+        {
             return Ok(None);
         }
     }

@@ -31,7 +31,7 @@ pub(crate) type RowKey<'a> = Key<Worth<'a>>;
 pub(crate) type ExprRefs<'a> = Sequence<&'a Expr>;
 
 impl<T: Drop> Key<T> {
-    fn as_slice(&self) -> &[T]
+    pub fn as_slice(&self) -> &[T]
         ensures { result.now ≡ key_list self.now }
     {
         match self {

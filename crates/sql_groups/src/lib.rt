@@ -12,6 +12,7 @@ mod kept;
 mod keys;
 mod leading;
 mod order;
+mod set_key;
 mod so_far;
 mod sorted;
 mod steps;

@@ -179,8 +179,10 @@ fn rows_by_items(
     ensures { IfOk result (λ made. made ≡ behind_from (asked_by (map expr_of condition.now.parts) (query_of query.now)) (map values_in rows.now)) }
 {
     let exprs = item_exprs(alloc, query.items.as_slice())?;
-    let kept = different_by(alloc, exprs.as_slice(), condition, rows)?;
-    rows_where(alloc, query, condition, kept.as_slice())
+    match different_by(alloc, exprs.as_slice(), condition, rows)? {
+        None => rows_where(alloc, query, condition, rows),
+        Some(kept) => rows_where(alloc, query, condition, kept.as_slice()),
+    }
 }
 
 /// The same, where the only column of the result is the one at a place of the rows.

@@ -5,9 +5,11 @@ ghost use Rattle.sql_meaning.specs.Fronts.{fronted};
 ghost use Rattle.sql_meaning.specs.Worths.{worths};
 
 use crate::front::Front;
+use crate::set_key::key_of_rows;
 use crate::worth::{ResultRowList, Worth};
 use indexmap::IndexSet;
 use osq_value::NoMemory;
+use set_keys::SetKey;
 use std::alloc::Global;
 
 /// The rows whose first `width` values no earlier row has, as DISTINCT keeps them: Null is equal to Null, and no number
@@ -31,10 +33,11 @@ fn first_fronts<'a>(
     alloc: Global,
     rows: ResultRowList<'a>,
     width: usize,
-) -> Result<IndexSet<Front<Worth<'a>>>, NoMemory>
+) -> Result<IndexSet<Front<Worth<'a>>, SetKey>, NoMemory>
     ensures { IfOk result (λ firsts. firsts.keys ≡ map (fronted width) (firsts_by (λ row. take width (worths row)) rows.entry)) }
 {
-    let mut firsts = IndexSet::new(alloc);
+    let key = key_of_rows(rows.as_slice(), width);
+    let mut firsts = IndexSet::with_hasher(alloc, key);
     for items in rows.into_vec() {
         firsts.insert(Front { items, width })?;
     }

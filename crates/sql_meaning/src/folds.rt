@@ -6,8 +6,10 @@ ghost use Rattle.sql_meaning.specs.Known.{is_known};
 ghost use Rattle.sql_meaning.specs.Looks.{extreme_of, nearer_of};
 ghost use Rattle.sql_scalar.specs.Arithmetic.{whole, within};
 
+use crate::set_key::key_of_values;
 use indexmap::IndexSet;
 use osq_value::{NoMemory, Sequence, Value, compare};
+use set_keys::SetKey;
 use sql_scalar::whole;
 use sql_tree::functions::Fold;
 use std::alloc::Global;
@@ -88,10 +90,10 @@ fn different(alloc: Global, values: Vec<Value>) -> Result<Sequence<Value>, NoMem
 }
 
 /// The same values, which are found by their hash. Each is hashed once.
-fn hashed(alloc: Global, values: Vec<Value>) -> Result<IndexSet<Value>, NoMemory>
+fn hashed(alloc: Global, values: Vec<Value>) -> Result<IndexSet<Value, SetKey>, NoMemory>
     ensures { IfOk result (λ kept. kept.keys ≡ different values.items) }
 {
-    let mut kept = IndexSet::new(alloc);
+    let mut kept = IndexSet::with_hasher(alloc, key_of_values(values.as_slice()));
     for value in values {
         kept.insert(value)?;
     }

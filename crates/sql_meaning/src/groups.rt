@@ -4,6 +4,7 @@ ghost use Rattle.sql_meaning.specs.Groups.{groups_by};
 ghost use Rattle.sql_meaning.specs.Worths.{worths};
 
 use crate::joined::{Joined, JoinedList};
+use crate::set_key::key_of_members;
 use crate::worth::ResultRow;
 use indexmap::IndexSet;
 use osq_value::{NoMemory, Sequence};
@@ -26,7 +27,8 @@ pub fn groups<'a>(
 ) -> Result<Sequence<JoinedList<'a>>, NoMemory>
     ensures { IfOk result (λ groups. groups ≡ map (map (λ member. member.row)) (groups_by (λ member. worths member.key) members.entry)) }
 {
-    let mut keys = IndexSet::new(alloc);
+    let key = key_of_members(members.as_slice());
+    let mut keys = IndexSet::with_hasher(alloc, key);
     let mut groups: Vec<JoinedList<'a>> = Vec::new(alloc);
     for member in members.into_vec() {
         let (at, is_new) = keys.insert_full(member.key)?;

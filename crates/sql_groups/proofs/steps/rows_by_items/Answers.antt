@@ -1,4 +1,4 @@
-use Rattle.std.proofs.Common.{◌∙◌, Bor, List, ap, map}
+use Rattle.std.proofs.Common.{◌≡◌, ◌∙◌, Bor, IfSome, List, Option, ap, map, subst}
 use Rattle.std.proofs.lemmas.Result.{IfOk-weaker}
 use Rattle.sql_query.specs.declared.query.QueryItem.{QueryItem}
 use Rattle.sql_query.specs.declared.tree.Expr.{Expr}
@@ -12,8 +12,8 @@ use Rattle.sql_groups.specs.Different.{different_by}
 use Rattle.sql_groups.proofs.Cutting.{different-by-lent}
 use Rattle.sql_groups.proofs.steps.rows_by_items.Goals as goal
 
-pub returns : goal.returns
-returns c =
+pub returns-in-Some : goal.returns-in-Some
+returns-in-Some c =
     let condition = map expr_of c.args.condition.now.parts in
     let query = asked_by condition (query_of c.args.query.now) in
     let rows = c.args.rows.now in
@@ -21,8 +21,9 @@ returns c =
     ap (map (λ (expr : Bor Expr). expr_of expr.now)) c.as_slice-2.ensures
     ∙ c.in_ok-exprs.ensures
     ∙ ap (λ (items : List QueryItem). map (λ (item : ResultTree). item.expr) (map result_of items)) c.as_slice.ensures in
-    IfOk-weaker c.rows_where.result _ _
+    let made = subst (λ (o : Option (List Joined)). IfSome o (λ kept. kept ≡ different_by (map (λ (expr : Bor Expr). expr_of expr.now) c.as_slice-2.result.now) condition rows)) c.in-Some.is c.in_ok-different_by.ensures in
+    IfOk-weaker c.rows_where-in-Some.result _ _
     (λ result is.
-    is ∙ ap (λ (kept : List Joined). behind_from query (map values_in kept)) (c.as_slice-3.ensures ∙ c.in_ok-kept.ensures ∙ ap (λ (some : List ExprTree). different_by some condition rows) exprs)
+    is ∙ ap (λ (kept : List Joined). behind_from query (map values_in kept)) (c.as_slice-in-Some.ensures ∙ made ∙ ap (λ (some : List ExprTree). different_by some condition rows) exprs)
     ∙ different-by-lent query c.requires.ungrouped c.requires.distinct rows)
-    c.rows_where.ensures
+    c.rows_where-in-Some.ensures
