@@ -3,7 +3,8 @@
 
 Usage: bench/crafted_keys.py [--program FILE] [ROWS ..]: tables of so many rows (default 10000 and 100000). The program is that of
 bench/sqlite_speed.py, which is built by `rt run` where none is given. Beside each time stands that over as many numbers that nobody chose,
-and the exponent by which the time over chosen ones grew from the size before: 1.0 is in step with the rows, 2.0 is their square.
+and the exponent by which the time over chosen ones grew from the size before: 1.0 is in step with the rows, 2.0 is their square. What by the
+square of its time before would take more than a minute isn't run. Skipped where there is no `rt`.
 
 The hash of the kit begins with a fixed state and multiplies it for each 8 bytes with a fixed number, folding the upper half of the product
 onto the lower, so nobody has to try: numbers whose product with it has nothing in the bits that make the slot form a lattice of two dimensions.
@@ -12,6 +13,7 @@ Of two numbers the second can undo what the first made of the state, so that who
 
 import math
 import pathlib
+import shutil
 import subprocess
 import sys
 import tempfile
@@ -23,6 +25,7 @@ FIRST = 0x243F6A8885A308D3
 MULTIPLIER = 0x9E3779B97F4A7C15 ^ 16
 SLOT_BITS = 17  # slots that the numbers share, as a power of two
 INT = 1  # what is hashed before a value that is a number
+LONGEST = 60.0  # seconds that one measure may take by the square of the one before
 
 
 def folded(state: int, number: int) -> int:
@@ -81,8 +84,8 @@ CASES = [
     ("join by two keys", "SELECT COUNT(*) AS n FROM users u JOIN user_groups k ON k.uid = u.uid AND k.gid = u.gid", lambda n: pairs(n, FIRST, -1)),
     ("GROUP BY one key", "SELECT uid, COUNT(*) AS n FROM users GROUP BY uid LIMIT 1", lambda n: [(it, it) for it in sharing(n, folded(FIRST, INT))]),
     ("GROUP BY two keys", "SELECT uid, gid, COUNT(*) AS n FROM users GROUP BY uid, gid LIMIT 1", lambda n: pairs(n, slice_state(2), INT)),
-    ("DISTINCT of one column", "SELECT DISTINCT uid FROM users LIMIT 1", lambda n: [(it, it) for it in sharing(n, folded(FIRST, INT))]),
-    ("DISTINCT of two columns", "SELECT DISTINCT uid, gid FROM users LIMIT 1", lambda n: pairs(n, slice_state(2), INT)),
+    ("DISTINCT of one column", "SELECT DISTINCT uid FROM users ORDER BY uid LIMIT 1", lambda n: [(it, it) for it in sharing(n, folded(FIRST, INT))]),
+    ("DISTINCT of two columns", "SELECT DISTINCT uid, gid FROM users ORDER BY uid LIMIT 1", lambda n: pairs(n, slice_state(2), INT)),
 ]
 
 
@@ -102,18 +105,26 @@ def main() -> None:
     given = words[1] if words[:1] == ["--program"] else None
     if given:
         words = words[2:]
+    elif not shutil.which("rt"):
+        print("skipped: there is no rt")
+        return
     sizes = [int(word) for word in words] or [10_000, 100_000]
     with tempfile.TemporaryDirectory() as folder:
         program = given or sqlite_speed.built(pathlib.Path(folder))
-        before: dict[str, float] = {}
-        for number, rows in enumerate(sizes):
+        before: dict[str, tuple[int, float]] = {}
+        for rows in sizes:
             print(f"{rows} rows {'':18} {'chosen':>13} {'not chosen':>13} {'exponent':>9}")
             for name, text, made in CASES:
+                size, time = before.get(name, (rows, 0.0))
+                expected = time * (rows / size) ** 2
+                if expected > LONGEST:
+                    print(f"{name:28} not run: {expected:.0f} s by the square", flush=True)
+                    continue
                 chosen, _ = seconds(program, text, made(rows))
                 other, _ = seconds(program, text, honest(rows))
-                exponent = f"{math.log(chosen / before[name], rows / sizes[number - 1]):9.2f}" if name in before else ""
+                exponent = f"{math.log(chosen / time, rows / size):9.2f}" if size != rows else ""
                 print(f"{name:28} {chosen * 1e3:10.2f} ms {other * 1e3:10.2f} ms {exponent}", flush=True)
-                before[name] = chosen
+                before[name] = (rows, chosen)
 
 
 if __name__ == "__main__":
