@@ -138,7 +138,7 @@ def built(folder: pathlib.Path) -> str:
 def ours(program: str, rows: int, rounds: int, texts: list[str]) -> tuple[list[tuple[float, int]], int]:
     """For each text the least time in seconds and the number of rows, and the peak memory in KB."""
     with tempfile.TemporaryFile() as out:
-        started = subprocess.Popen([program, str(rows), str(rounds), *texts], stdout=out)
+        started = subprocess.Popen([program, str(rows), str(rounds), *texts], stdin=subprocess.DEVNULL, stdout=out)
         _, _, used = os.wait4(started.pid, 0)
         out.seek(0)
         found = [line.split() for line in out.read().decode().splitlines()]

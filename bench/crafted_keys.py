@@ -1,0 +1,131 @@
+#!/usr/bin/env python3
+"""The processor time of joins, GROUP BY and DISTINCT over numbers that somebody chose so that their hashes share a slot.
+
+Usage: bench/crafted_keys.py [--program FILE] [ROWS ..]: tables of so many rows (default 10000 and 100000). The program is that of
+bench/sqlite_speed.py, which is built by `rt run` where none is given. Beside each time stands that over as many numbers that nobody chose,
+and the exponent by which the time over chosen ones grew from the size before: 1.0 is in step with the rows, 2.0 is their square. What by the
+square of its time before would take more than a minute isn't run. Skipped where there is no `rt`.
+
+The hash of the kit begins with a fixed state and multiplies it for each 8 bytes with a fixed number, folding the upper half of the product
+onto the lower, so nobody has to try: numbers whose product with it has nothing in the bits that make the slot form a lattice of two dimensions.
+Of two numbers the second can undo what the first made of the state, so that whole hashes are equal.
+"""
+
+import math
+import pathlib
+import shutil
+import subprocess
+import sys
+import tempfile
+
+import sqlite_speed
+
+WORD = 1 << 64
+FIRST = 0x243F6A8885A308D3
+MULTIPLIER = 0x9E3779B97F4A7C15 ^ 16
+SLOT_BITS = 17  # slots that the numbers share, as a power of two
+INT = 1  # what is hashed before a value that is a number
+LONGEST = 60.0  # seconds that one measure may take by the square of the one before
+
+
+def folded(state: int, number: int) -> int:
+    product = ((state ^ number) % WORD) * MULTIPLIER
+    return (product >> 64) ^ (product % WORD)
+
+
+def signed(number: int) -> int:
+    return number if number < WORD // 2 else number - WORD
+
+
+def short_basis() -> tuple[tuple[int, int], tuple[int, int]]:
+    """Two short vectors of the lattice of all (k, k * MULTIPLIER mod 2^64)."""
+    one, other = (1, MULTIPLIER), (0, WORD)
+    while True:
+        if math.hypot(*one) > math.hypot(*other):
+            one, other = other, one
+        times = round((one[0] * other[0] + one[1] * other[1]) / (one[0] ** 2 + one[1] ** 2))
+        if times == 0:
+            return one, other
+        other = (other[0] - times * one[0], other[1] - times * one[1])
+
+
+def sharing(count: int, state: int) -> list[int]:
+    """So many numbers that a hasher in this state takes to hashes with zeros in the bits of a slot."""
+    one, other = short_basis()
+    found: list[int] = []
+    for first in range(-2000, 2000):
+        for second in range(-2000, 2000):
+            k = first * one[0] + second * other[0]
+            rest = first * one[1] + second * other[1]
+            if 0 < k < 1 << (62 - SLOT_BITS) and 0 <= rest < 1 << (64 - SLOT_BITS):
+                found.append(signed((k << SLOT_BITS) ^ state))
+                if len(found) == count:
+                    return found
+    raise SystemExit("the lattice has too few such numbers")
+
+
+def pairs(count: int, first: int, second: int) -> list[tuple[int, int]]:
+    """So many pairs of one hash: the state before the first number, and what is hashed before the second, where there is something."""
+    made = []
+    for number in range(1, count + 1):
+        state = folded(first, number)
+        made.append((number, signed((state if second < 0 else folded(state, second)) ^ 7)))
+    return made
+
+
+def slice_state(length: int) -> int:
+    """A hasher behind the length of a slice and what stands before its first value."""
+    return folded(folded(FIRST, length), INT)
+
+
+# What is measured: its text, and the pairs of uid and gid for so many rows.
+CASES = [
+    ("join by one key", "SELECT COUNT(*) AS n FROM users u JOIN user_groups k ON k.uid = u.uid", lambda n: [(it, it) for it in sharing(n, FIRST)]),
+    ("join by two keys", "SELECT COUNT(*) AS n FROM users u JOIN user_groups k ON k.uid = u.uid AND k.gid = u.gid", lambda n: pairs(n, FIRST, -1)),
+    ("GROUP BY one key", "SELECT uid, COUNT(*) AS n FROM users GROUP BY uid LIMIT 1", lambda n: [(it, it) for it in sharing(n, folded(FIRST, INT))]),
+    ("GROUP BY two keys", "SELECT uid, gid, COUNT(*) AS n FROM users GROUP BY uid, gid LIMIT 1", lambda n: pairs(n, slice_state(2), INT)),
+    ("DISTINCT of one column", "SELECT DISTINCT uid FROM users ORDER BY uid LIMIT 1", lambda n: [(it, it) for it in sharing(n, folded(FIRST, INT))]),
+    ("DISTINCT of two columns", "SELECT DISTINCT uid, gid FROM users ORDER BY uid LIMIT 1", lambda n: pairs(n, slice_state(2), INT)),
+]
+
+
+def seconds(program: str, text: str, keys: list[tuple[int, int]]) -> tuple[float, int]:
+    """The time of a text over these pairs, and how many rows it gave."""
+    lines = "".join(f"{uid} {gid}\n" for uid, gid in keys)
+    told = subprocess.run([program, "0", "1", text], input=lines, capture_output=True, text=True, check=True).stdout.split()
+    return int(told[0]) / 1e9, int(told[1])
+
+
+def honest(count: int) -> list[tuple[int, int]]:
+    return [((at * 7919) % (count * 13) - count, at) for at in range(count)]
+
+
+def main() -> None:
+    words = sys.argv[1:]
+    given = words[1] if words[:1] == ["--program"] else None
+    if given:
+        words = words[2:]
+    elif not shutil.which("rt"):
+        print("skipped: there is no rt")
+        return
+    sizes = [int(word) for word in words] or [10_000, 100_000]
+    with tempfile.TemporaryDirectory() as folder:
+        program = given or sqlite_speed.built(pathlib.Path(folder))
+        before: dict[str, tuple[int, float]] = {}
+        for rows in sizes:
+            print(f"{rows} rows {'':18} {'chosen':>13} {'not chosen':>13} {'exponent':>9}")
+            for name, text, made in CASES:
+                size, time = before.get(name, (rows, 0.0))
+                expected = time * (rows / size) ** 2
+                if expected > LONGEST:
+                    print(f"{name:28} not run: {expected:.0f} s by the square", flush=True)
+                    continue
+                chosen, _ = seconds(program, text, made(rows))
+                other, _ = seconds(program, text, honest(rows))
+                exponent = f"{math.log(chosen / time, rows / size):9.2f}" if size != rows else ""
+                print(f"{name:28} {chosen * 1e3:10.2f} ms {other * 1e3:10.2f} ms {exponent}", flush=True)
+                before[name] = (rows, chosen)
+
+
+if __name__ == "__main__":
+    main()
