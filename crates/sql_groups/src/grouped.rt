@@ -83,7 +83,8 @@ fn few_by_column<'a>(
         groups: Vec::new(alloc),
     };
     for row in rows {
-        if !look_at(alloc, place, items, condition, &mut found, *row)? || found.groups.len() > most
+        if !look_at(alloc, place, items, condition, &mut found, *row)?
+            || found.groups.len() > most
         {
             return Ok(None);
         }
@@ -215,7 +216,8 @@ fn few_by_keys<'a>(
         groups: Vec::new(alloc),
     };
     for row in rows {
-        if !look_by(alloc, exprs, items, condition, &mut found, *row)? || found.groups.len() > most
+        if !look_by(alloc, exprs, items, condition, &mut found, *row)?
+            || found.groups.len() > most
         {
             return Ok(None);
         }

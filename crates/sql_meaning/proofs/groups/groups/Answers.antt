@@ -52,7 +52,7 @@ place-is members member keys at held told =
     ∙ places member (firsts_by key_in members)
 
 pub loop-member-init : goal.loop-member-init
-loop-member-init c = record { keys = c.new-keys.ensures.empty; lists = c.new-groups.ensures.items }
+loop-member-init c = record { keys = c.with_hasher-keys.ensures.empty; lists = c.new-groups.ensures.items }
 
 pub loop-member-preserved-in_ok-push : goal.loop-member-preserved-in_ok-push
 loop-member-preserved-in_ok-push c =
