@@ -8,9 +8,10 @@ ghost use Rattle.sql_groups.specs.Keys.{key_worths};
 use crate::kept::is_kept;
 use crate::keys::{RowKey, key_in};
 use crate::set_key::{key_of_column, key_of_exprs};
+use crate::watch::{Watch, is_last_spread};
 use indexmap::IndexSet;
 use osq_value::{NoMemory, Sequence, Value};
-use set_keys::{FEW, SetKey};
+use set_keys::SetKey;
 use sql_meaning::{Joined, value_in};
 use sql_query::query::Condition;
 use sql_query::tree::Expr;
@@ -24,8 +25,8 @@ struct FoundRows<'a> {
 }
 
 /// The rows for which the condition holds and whose value at a place no earlier one of them has, where all of them have that place. Null is
-/// equal to Null, and no number to a text. Each value is hashed once, where it stands; where more than a few differ, it begins again with a key that is
-/// drawn from all of them, so that no rows make it slow.
+/// equal to Null, and no number to a text. Each value is hashed once, where it stands; where they share hashes as if somebody had chosen them, it begins again
+/// with a key that is drawn from all of them, so that no rows make it slow.
 pub(crate) fn different<'a>(
     alloc: Global,
     place: u32,
@@ -34,20 +35,21 @@ pub(crate) fn different<'a>(
 ) -> Result<Option<Sequence<Joined<'a>>>, NoMemory>
     ensures { IfOk result (λ found. IfSome found (λ made. made ≡ different place (map expr_of condition.now.parts) rows.now)) }
 {
-    match first_few(alloc, SetKey::plain(), FEW, place, condition, rows)? {
+    let watch = Watch::over(alloc, rows.len())?;
+    match different_by_key(alloc, SetKey::plain(), watch, place, condition, rows)? {
         Some(found) => Ok(Some(found)),
         None => {
             let key = key_of_column(rows, place);
-            first_few(alloc, key, usize::MAX, place, condition, rows)
+            different_by_key(alloc, key, Watch::nothing(alloc), place, condition, rows)
         }
     }
 }
 
-/// The same by a set that is hashed by this key. None also where they are more than `most`.
-fn first_few<'a>(
+/// The same by a set that is hashed by this key. None also where they share hashes.
+fn different_by_key<'a>(
     alloc: Global,
     key: SetKey,
-    most: usize,
+    mut watch: Watch,
     place: u32,
     condition: &Condition,
     rows: &[Joined<'a>],
@@ -59,7 +61,11 @@ fn first_few<'a>(
         rows: Sequence::new(alloc),
     };
     for row in rows {
-        if !look_at(alloc, place, condition, &mut found, *row)? || found.rows.len() > most {
+        let before = found.rows.len();
+        if !look_at(alloc, place, condition, &mut found, *row)? {
+            return Ok(None);
+        }
+        if found.rows.len() > before && !is_last_spread(&mut watch, &found.values) {
             return Ok(None);
         }
     }
@@ -106,8 +112,8 @@ struct FoundKeys<'a> {
 }
 
 /// The rows for which the condition holds and whose values of the expressions no earlier one of them has. Null is equal to Null, and no
-/// number to a text. Each row's values are hashed once; where more than a few differ, it begins again with a key that is drawn from all of them.
-/// None where they are more than can be counted.
+/// number to a text. Each row's values are hashed once; where they share hashes, it begins again with a key that is drawn from all
+/// of them. None where they share hashes even so.
 pub(crate) fn different_by<'a>(
     alloc: Global,
     exprs: &[&'a Expr],
@@ -116,20 +122,21 @@ pub(crate) fn different_by<'a>(
 ) -> Result<Option<Sequence<Joined<'a>>>, NoMemory>
     ensures { IfOk result (λ found. IfSome found (λ made. made ≡ different_by (map (λ expr. expr_of expr.now) exprs.now) (map expr_of condition.now.parts) rows.now)) }
 {
-    match few_by(alloc, SetKey::plain(), FEW, exprs, condition, rows)? {
+    let watch = Watch::over(alloc, rows.len())?;
+    match different_by_keys(alloc, SetKey::plain(), watch, exprs, condition, rows)? {
         Some(found) => Ok(Some(found)),
         None => {
             let key = key_of_exprs(alloc, rows, exprs)?;
-            few_by(alloc, key, usize::MAX, exprs, condition, rows)
+            different_by_keys(alloc, key, Watch::nothing(alloc), exprs, condition, rows)
         }
     }
 }
 
-/// The same by a set that is hashed by this key. None where they are more than `most`.
-fn few_by<'a>(
+/// The same by a set that is hashed by this key. None where they share hashes.
+fn different_by_keys<'a>(
     alloc: Global,
     key: SetKey,
-    most: usize,
+    mut watch: Watch,
     exprs: &[&'a Expr],
     condition: &Condition,
     rows: &[Joined<'a>],
@@ -141,8 +148,9 @@ fn few_by<'a>(
         rows: Sequence::new(alloc),
     };
     for row in rows {
+        let before = found.rows.len();
         look_by(alloc, exprs, condition, &mut found, *row)?;
-        if found.rows.len() > most {
+        if found.rows.len() > before && !is_last_spread(&mut watch, &found.keys) {
             return Ok(None);
         }
     }

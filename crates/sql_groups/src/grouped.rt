@@ -15,9 +15,10 @@ use crate::kept::is_kept;
 use crate::keys::{RowKey, key_in};
 use crate::set_key::{key_of_column, key_of_exprs};
 use crate::so_far::SoFar;
+use crate::watch::{Watch, is_last_spread};
 use indexmap::IndexSet;
 use osq_value::{NoMemory, Sequence, Value};
-use set_keys::{FEW, SetKey};
+use set_keys::SetKey;
 use sql_meaning::worth::{ResultRow, ResultRowList};
 use sql_meaning::{Joined, value_in};
 use sql_query::query::Condition;
@@ -46,8 +47,8 @@ pub(crate) struct KeyedGroups<'a> {
 }
 
 /// The groups of the rows for which the condition holds, by their values at a place, in the order of their first rows. Null is equal to
-/// Null, and no number to a text. Each value is hashed once, where it stands; where more than a few differ, it begins again with a key that is drawn from
-/// all of them, so that no rows make it slow. None where a row doesn't have the place, or a number leaves its bounds.
+/// Null, and no number to a text. Each value is hashed once, where it stands; where they share hashes as if somebody had chosen them, it begins
+/// again with a key that is drawn from all of them, so that no rows make it slow. None where a row doesn't have the place, or a number leaves its bounds.
 pub(crate) fn groups_by_column<'a>(
     alloc: Global,
     place: u32,
@@ -57,20 +58,22 @@ pub(crate) fn groups_by_column<'a>(
 ) -> Result<Option<Vec<GroupSoFar<'a>>>, NoMemory>
     ensures { IfOk result (λ found. IfSome found (λ groups. IsFolded items.now (lists place (map expr_of condition.now.parts) rows.now) groups.items)) }
 {
-    match few_by_column(alloc, SetKey::plain(), FEW, place, items, condition, rows)? {
+    let watch = Watch::over(alloc, rows.len())?;
+    match groups_of_column(alloc, SetKey::plain(), watch, place, items, condition, rows)? {
         Some(groups) => Ok(Some(groups)),
         None => {
             let key = key_of_column(rows, place);
-            few_by_column(alloc, key, usize::MAX, place, items, condition, rows)
+            let watch = Watch::nothing(alloc);
+            groups_of_column(alloc, key, watch, place, items, condition, rows)
         }
     }
 }
 
-/// The same by a set that is hashed by this key. None also where they are more than `most`.
-fn few_by_column<'a>(
+/// The same by a set that is hashed by this key. None also where they share hashes.
+fn groups_of_column<'a>(
     alloc: Global,
     key: SetKey,
-    most: usize,
+    mut watch: Watch,
     place: u32,
     items: &[GroupItem<'a>],
     condition: &Condition,
@@ -83,9 +86,11 @@ fn few_by_column<'a>(
         groups: Vec::new(alloc),
     };
     for row in rows {
-        if !look_at(alloc, place, items, condition, &mut found, *row)?
-            || found.groups.len() > most
-        {
+        let before = found.groups.len();
+        if !look_at(alloc, place, items, condition, &mut found, *row)? {
+            return Ok(None);
+        }
+        if found.groups.len() > before && !is_last_spread(&mut watch, &found.values) {
             return Ok(None);
         }
     }
@@ -179,8 +184,8 @@ fn add<'a>(
 }
 
 /// The groups of the rows for which the condition holds, by their values of some expressions, in the order of their first rows. Null is
-/// equal to Null, and no number to a text. Each row's values are hashed once; where more than a few differ, it begins again with a key that is drawn from
-/// all of them. None where a number leaves its bounds.
+/// equal to Null, and no number to a text. Each row's values are hashed once; where they share hashes, it begins again with a key that is drawn from all of
+/// them. None where a number leaves its bounds.
 pub(crate) fn groups_by_keys<'a>(
     alloc: Global,
     exprs: &[&'a Expr],
@@ -190,20 +195,22 @@ pub(crate) fn groups_by_keys<'a>(
 ) -> Result<Option<Vec<GroupSoFar<'a>>>, NoMemory>
     ensures { IfOk result (λ found. IfSome found (λ groups. IsFolded items.now (lists_by (row_values (map (λ expr. expr_of expr.now) exprs.now)) (map expr_of condition.now.parts) rows.now) groups.items)) }
 {
-    match few_by_keys(alloc, SetKey::plain(), FEW, exprs, items, condition, rows)? {
+    let watch = Watch::over(alloc, rows.len())?;
+    match groups_of_keys(alloc, SetKey::plain(), watch, exprs, items, condition, rows)? {
         Some(groups) => Ok(Some(groups)),
         None => {
             let key = key_of_exprs(alloc, rows, exprs)?;
-            few_by_keys(alloc, key, usize::MAX, exprs, items, condition, rows)
+            let watch = Watch::nothing(alloc);
+            groups_of_keys(alloc, key, watch, exprs, items, condition, rows)
         }
     }
 }
 
-/// The same by a set that is hashed by this key. None also where they are more than `most`.
-fn few_by_keys<'a>(
+/// The same by a set that is hashed by this key. None also where they share hashes.
+fn groups_of_keys<'a>(
     alloc: Global,
     key: SetKey,
-    most: usize,
+    mut watch: Watch,
     exprs: &[&'a Expr],
     items: &[GroupItem<'a>],
     condition: &Condition,
@@ -216,9 +223,11 @@ fn few_by_keys<'a>(
         groups: Vec::new(alloc),
     };
     for row in rows {
-        if !look_by(alloc, exprs, items, condition, &mut found, *row)?
-            || found.groups.len() > most
-        {
+        let before = found.groups.len();
+        if !look_by(alloc, exprs, items, condition, &mut found, *row)? {
+            return Ok(None);
+        }
+        if found.groups.len() > before && !is_last_spread(&mut watch, &found.keys) {
             return Ok(None);
         }
     }

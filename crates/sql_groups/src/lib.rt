@@ -18,6 +18,7 @@ mod sorted;
 mod steps;
 mod totals;
 mod wanted;
+mod watch;
 mod worth_in;
 
 pub use steps::{rows_behind, rows_behind_where};
