@@ -1,5 +1,4 @@
-use Rattle.std.proofs.Common.{◌≡◌, ◌∙◌, List, ap, arith, length}
-use Rattle.osq_value.specs.declared.value.Value.{Value}
+use Rattle.std.proofs.Common.{◌≡◌, ◌∙◌, ap, arith, length}
 use Rattle.sql_planner.specs.RowTests.{passes, passes_one}
 use Rattle.sql_planner.proofs.OneTable.{any-of-one}
 use Rattle.sql_planner.proofs.single.only_of.Goals as goal

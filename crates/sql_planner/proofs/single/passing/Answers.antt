@@ -1,6 +1,5 @@
-use Rattle.std.proofs.Common.{◌∙◌, List, ap, filter, sym, take}
+use Rattle.std.proofs.Common.{◌∙◌, sym, take}
 use Rattle.std.proofs.lemmas.Result.{IfOk-weaker}
-use Rattle.osq_value.specs.declared.value.Value.{Value}
 use Rattle.sql_planner.proofs.OneTable.{same-filter}
 use Rattle.sql_planner.proofs.single.passing.Goals as goal
 
