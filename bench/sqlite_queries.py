@@ -126,10 +126,12 @@ class Query:
             text += f"{join if join == ', ' else join}{table} {alias}"
             self.tables.append((alias, table))
             if "JOIN" in join and "CROSS" not in join:
+                # (where no columns are equated all pairs are looked at, another form of a join)
                 left, right = self.rng.choice(self.tables[:-1])[0], alias
-                text += f" ON {left}.gid = {right}.gid"
-                if self.rng.randrange(2):
-                    text += f" AND {self.condition(1)}"
+                parts = [f"{left}.gid = {right}.gid"] if self.rng.randrange(4) else []
+                if not parts or self.rng.randrange(2):
+                    parts.append(self.condition(1))
+                text += f" ON {' AND '.join(parts)}"
         return text
 
     def aggregate(self) -> str:

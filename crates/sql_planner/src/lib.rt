@@ -8,6 +8,7 @@ mod explaining;
 mod folding;
 mod item_set;
 mod joining;
+mod kept_pairs;
 pub mod plan;
 mod planning;
 mod pushing;

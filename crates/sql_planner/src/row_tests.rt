@@ -1,6 +1,7 @@
 //! Tests of rows, which are made once for all rows of a table.
 ghost use Rattle.std.specs.Prelude.{◌≡◌, IfOk, IfSome, None};
 ghost use Rattle.std.specs.List.{list_all};
+ghost use Rattle.osq_value.specs.Order.{order_of};
 ghost use Rattle.sql_meaning.specs.Expressions.{is_true, negated, value_at};
 ghost use Rattle.sql_meaning.specs.Lent.{values_in};
 ghost use Rattle.sql_scalar.specs.Comparison.{between_of, unless_null};
@@ -15,6 +16,7 @@ use sql_query::tree::Expr;
 use sql_scalar::apply;
 use sql_tree::tree::Operator;
 use std::alloc::Global;
+use std::cmp::Ordering;
 
 /// What is asked of a value. The constants are turned by the affinity that the value has, so that no affinity is looked at any more.
 #[derive(Drop)]
@@ -104,7 +106,7 @@ fn passes_column(alloc: Global, test: &ValueTest, row: Joined, at: u32) -> Resul
     }
 }
 
-fn passes(alloc: Global, test: &ValueTest, value: &Value) -> Result<bool, NoMemory>
+pub(crate) fn passes(alloc: Global, test: &ValueTest, value: &Value) -> Result<bool, NoMemory>
     ensures { IfOk result (λ answer. answer ≡ passes test.now value.now) }
 {
     match test {
@@ -139,13 +141,23 @@ fn outcome(op: Operator, left: &Value, right: &Value) -> Option<bool>
     ensures { IfSome result (λ answer. apply_of op None None left.now right.now ≡ from_truth (unless_null left.now right.now answer)) }
 {
     match op {
-        Operator::Equal => Some(compare(left, right).is_eq()),
-        Operator::NotEqual => Some(compare(left, right).is_ne()),
-        Operator::Less => Some(compare(left, right).is_lt()),
-        Operator::LessEqual => Some(compare(left, right).is_le()),
-        Operator::Greater => Some(compare(left, right).is_gt()),
-        Operator::GreaterEqual => Some(compare(left, right).is_ge()),
+        Operator::Equal => Some(order(left, right).is_eq()),
+        Operator::NotEqual => Some(order(left, right).is_ne()),
+        Operator::Less => Some(order(left, right).is_lt()),
+        Operator::LessEqual => Some(order(left, right).is_le()),
+        Operator::Greater => Some(order(left, right).is_gt()),
+        Operator::GreaterEqual => Some(order(left, right).is_ge()),
         _ => None,
+    }
+}
+
+/// The order of two values. That of two numbers is found here, since most tests are of them.
+fn order(left: &Value, right: &Value) -> Ordering
+    ensures { result ≡ order_of left.now right.now }
+{
+    match (left, right) {
+        (Value::Int(one), Value::Int(other)) => one.cmp(other),
+        _ => compare(left, right),
     }
 }
 
@@ -163,8 +175,8 @@ fn known(left: &Value, right: &Value, answer: bool) -> Option<bool>
 fn is_between(is_negated: bool, value: &Value, low: &Value, high: &Value) -> bool
     ensures { result ≡ is_true (negated is_negated (between_of None None None value.now low.now high.now)) }
 {
-    let above = known(value, low, compare(value, low).is_ge());
-    let below = known(value, high, compare(value, high).is_le());
+    let above = known(value, low, order(value, low).is_ge());
+    let below = known(value, high, order(value, high).is_le());
     are_wanted(is_negated, above, below)
 }
 
