@@ -1,9 +1,10 @@
 //! A collector.
 
-use crate::counts::{Counts, add, add_if, count_collect};
+use crate::counts::{Counts, add_if};
 use crate::delivery::delivered;
-use crate::memory::{Memory, copied, one_file, one_source, outside_with, run};
+use crate::memory::{clear_sinks, copied, one_file, one_source};
 use crate::numbers::{below, once_in, some_call};
+use crate::outside::{Memory, run};
 use osq_outside::MemorySink;
 use osq_value::{Bytes, NoMemory};
 use rand_pcg::Pcg32;
@@ -21,16 +22,14 @@ pub(crate) struct Collector {
     pub(crate) tears: usize,
 }
 
-/// Counts answers by their kinds.
-fn count_answers(counts: &mut Counts, lines: &str) {
-    for line in lines.lines() {
-        add_if(
-            &mut counts.repeats,
-            line.starts_with("{\"answer\":\"repeat\""),
-        );
-        add_if(&mut counts.gaps, line.starts_with("{\"answer\":\"gap\""));
-        add_if(&mut counts.bad, line.starts_with("{\"answer\":\"bad\""));
-    }
+/// Counts an answer by its kind.
+fn count_answer(counts: &mut Counts, line: &str) {
+    add_if(
+        &mut counts.repeats,
+        line.starts_with("{\"answer\":\"repeat\""),
+    );
+    add_if(&mut counts.gaps, line.starts_with("{\"answer\":\"gap\""));
+    add_if(&mut counts.bad, line.starts_with("{\"answer\":\"bad\""));
 }
 
 /// A front part of a frame, which is never the whole.
@@ -53,17 +52,24 @@ fn joined(alloc: Global, lines: &[Bytes]) -> Result<Bytes, NoMemory> {
 }
 
 /// Adds the answers to those that were given.
-fn take_answers(
+pub(crate) fn take_answers(
     alloc: Global,
     written: &[u8],
     answers: &mut Vec<Bytes>,
     counts: &mut Counts,
 ) -> Result<(), NoMemory> {
-    let lines = str::from_utf8(written).unwrap_or("");
-    count_answers(counts, lines);
-    for line in lines.lines() {
+    for line in str::from_utf8(written).unwrap_or("").lines() {
+        count_answer(counts, line);
         answers.push(copied(alloc, line.as_bytes())?)?;
     }
+    Ok(())
+}
+
+/// Gives the outside sinks to which nothing was written; those of answers and of the ledger with the call that fails.
+fn give_sinks(alloc: Global, random: &mut Pcg32, outside: &mut Memory) -> Result<(), NoMemory> {
+    clear_sinks(alloc, outside);
+    outside.results = MemorySink::new(alloc, some_call(alloc, random, 3)?);
+    outside.ledger = MemorySink::new(alloc, some_call(alloc, random, 3)?);
     Ok(())
 }
 
@@ -76,26 +82,34 @@ impl Collector {
         }
     }
 
-    /// An outside with what comes of these frames, the ledger's file, and the calls that fail.
-    fn outside_of(
+    /// Gives the outside what comes of these frames, and the ledger's file. It answers how many lines come.
+    fn give_texts(
         &self,
         alloc: Global,
         random: &mut Pcg32,
         frames: &[Bytes],
-        counts: &mut Counts,
-    ) -> Result<Memory, NoMemory> {
+        outside: &mut Memory,
+    ) -> Result<usize, NoMemory> {
         let lines = delivered(alloc, random, frames)?;
-        add(&mut counts.delivered, lines.len());
-        let files = one_file(alloc, "l", copied(alloc, self.file.as_slice())?)?;
-        let mut outside = outside_with(alloc, files);
         outside.sources = one_source(alloc, joined(alloc, lines.as_slice())?)?;
-        outside.results = MemorySink::new(alloc, some_call(alloc, random, 3)?);
-        outside.ledger = MemorySink::new(alloc, some_call(alloc, random, 3)?);
-        Ok(outside)
+        outside.files = one_file(alloc, "l", copied(alloc, self.file.as_slice())?)?;
+        Ok(lines.len())
+    }
+
+    /// Adds a front part of a frame to the file, as a fault of writing leaves it.
+    fn tear(&mut self, random: &mut Pcg32, frames: &[Bytes]) -> Result<(), NoMemory> {
+        if frames.is_empty() || once_in(random, 2) {
+            return Ok(());
+        }
+        let place = below(random, frames.len() as u64) as usize;
+        self.file
+            .extend(front_of(random, frames[place].as_slice()))?;
+        self.tears = self.tears.saturating_add(1);
+        Ok(())
     }
 
     /// Adds what was written to the file. Where a fault ended the run, a front part of a frame may stand behind it.
-    fn keep(
+    pub(crate) fn keep(
         &mut self,
         random: &mut Pcg32,
         frames: &[Bytes],
@@ -103,36 +117,24 @@ impl Collector {
         is_stopped: bool,
     ) -> Result<(), NoMemory> {
         self.file.extend(written)?;
-        if !is_stopped || frames.is_empty() || once_in(random, 2) {
-            return Ok(());
+        if is_stopped {
+            self.tear(random, frames)
+        } else {
+            Ok(())
         }
-        let place = below(random, frames.len() as u64) as usize;
-        if let Some(frame) = frames.get(place) {
-            self.file.extend(front_of(random, frame.as_slice()))?;
-            self.tears = self.tears.saturating_add(1);
-        }
-        Ok(())
     }
 
-    /// Collects what comes of these frames. Its answers are added to those that were given. It answers what is wrong with how it ends.
+    /// Collects what comes of these frames. It answers how many lines came, and the number of the status.
     pub(crate) fn run(
-        &mut self,
+        &self,
         alloc: Global,
         random: &mut Pcg32,
         frames: &[Bytes],
-        answers: &mut Vec<Bytes>,
-        counts: &mut Counts,
-    ) -> Result<Option<&'static str>, NoMemory> {
-        let mut outside = self.outside_of(alloc, random, frames, counts)?;
-        let status = run(alloc, &WORDS, &mut outside);
-        count_collect(counts, status);
-        let written = outside.ledger.written().as_slice();
-        self.keep(random, frames, written, status == 8)?;
-        take_answers(alloc, outside.results.written().as_slice(), answers, counts)?;
-        Ok(if status == 0 || status == 8 {
-            None
-        } else {
-            Some("a status that isn't 0 or 8")
-        })
+        outside: &mut Memory,
+    ) -> Result<(usize, u8), NoMemory> {
+        let lines = self.give_texts(alloc, random, frames, outside)?;
+        give_sinks(alloc, random, outside)?;
+        let status = run(alloc, &WORDS, outside);
+        Ok((lines, status))
     }
 }

@@ -64,9 +64,10 @@ pub(crate) fn count_session(counts: &mut Counts, status: u8, sent: usize) {
     add(&mut counts.sent, sent);
 }
 
-/// Counts a run of the collector with this status.
-pub(crate) fn count_collect(counts: &mut Counts, status: u8) {
+/// Counts a run of the collector with this status, to which so many lines came.
+pub(crate) fn count_collect(counts: &mut Counts, lines: usize, status: u8) {
     add(&mut counts.collects, 1);
+    add(&mut counts.delivered, lines);
     add_if(&mut counts.stops, status == 8);
 }
 

@@ -1,15 +1,14 @@
 //! A host.
 
-use crate::counts::{Counts, count_session};
 use crate::delivery::delivered;
 use crate::judge::{Judge, Name};
-use crate::memory::{Memory, add_copies, copied, one_file, one_source, outside_with, run};
+use crate::memory::{clear_sinks, copied, one_file, one_source};
 use crate::numbers::{below, once_in, some_call};
+use crate::outside::{Memory, run};
 use batch_forwarder::MemoryLink;
 use batch_keeper::MemoryKeeper;
 use entry_model::entry::EntryList;
 use osq_outside::{FailList, Failures, StepClock};
-use osq_program::Outside;
 use osq_value::{Bytes, NoMemory};
 use rand_pcg::Pcg32;
 use std::alloc::Global;
@@ -38,8 +37,7 @@ fn lines_of(alloc: Global, count: u64) -> Result<Bytes, NoMemory> {
     Ok(text)
 }
 
-/// A host with its kept list, its source, and what is judged of its list. What its sessions are over beside these is made for each, so that the host
-/// itself is small: it stands in every function of a story.
+/// A host with its kept list, the lines of its source, and what is judged of its list.
 #[derive(Drop)]
 pub(crate) struct Host {
     name: Name,
@@ -48,11 +46,6 @@ pub(crate) struct Host {
     moment: u64,
     /// What is judged of the list.
     pub(crate) judge: Judge,
-}
-
-/// A keeper of nothing.
-fn no_keeper(alloc: Global) -> MemoryKeeper {
-    MemoryKeeper::new(EntryList::new(alloc), FailList::new(alloc), false)
 }
 
 /// A link over what comes of these answers, with the call that fails.
@@ -86,42 +79,69 @@ impl Host {
     pub(crate) fn new(alloc: Global, name: Name) -> Host {
         Host {
             name,
-            keeper: no_keeper(alloc),
+            keeper: MemoryKeeper::new(EntryList::new(alloc), FailList::new(alloc), false),
             lines: 0,
             moment: 1000,
             judge: Judge::new(alloc, name),
         }
     }
 
-    /// An outside with the configuration, and with the source, which has grown.
-    fn outside_of(&mut self, alloc: Global, random: &mut Pcg32) -> Result<Memory, NoMemory> {
-        self.lines = self.lines.saturating_add(below(random, 4));
-        let files = one_file(alloc, "c", copied(alloc, CONFIG.as_bytes())?)?;
-        let mut outside = outside_with(alloc, files);
-        outside.sources = one_source(alloc, lines_of(alloc, self.lines)?)?;
-        Ok(outside)
-    }
-
-    /// Gives the outside the clock, which is later, and the kept list, with the call that fails.
-    fn give(
+    /// Gives the outside the configuration, and the source, which has grown.
+    fn give_texts(
         &mut self,
         alloc: Global,
         random: &mut Pcg32,
         outside: &mut Memory,
     ) -> Result<(), NoMemory> {
+        self.lines = self.lines.saturating_add(below(random, 4));
+        outside.sources = one_source(alloc, lines_of(alloc, self.lines)?)?;
+        outside.files = one_file(alloc, "c", copied(alloc, CONFIG.as_bytes())?)?;
+        Ok(())
+    }
+
+    /// Gives the outside the clock, which is later than at the session before.
+    fn give_clock(&mut self, outside: &mut Memory) {
         outside.clock = StepClock {
             next: self.moment,
             step: 60,
         };
         self.moment = self.moment.saturating_add(180);
-        outside.keeper = mem::replace(&mut self.keeper, no_keeper(alloc));
-        outside.keeper.failures = Failures::new(some_call(alloc, random, 8)?);
-        outside.keeper.is_whole = once_in(random, 2);
+    }
+
+    /// Gives the kept list the call that fails.
+    fn give_failures(&mut self, alloc: Global, random: &mut Pcg32) -> Result<(), NoMemory> {
+        self.keeper.failures = Failures::new(some_call(alloc, random, 8)?);
+        self.keeper.is_whole = once_in(random, 2);
         Ok(())
     }
 
+    /// Runs a session over the kept list, and gives the number of the status.
+    fn run_over(&mut self, alloc: Global, ticks: &str, outside: &mut Memory) -> u8 {
+        mem::swap(&mut self.keeper, &mut outside.keeper);
+        let status = run_session(alloc, self.name.as_str(), ticks, outside);
+        mem::swap(&mut self.keeper, &mut outside.keeper);
+        status
+    }
+
+    /// Runs a session over what comes of these answers, and gives the number of the status. The frames that it sends are left in the outside.
+    pub(crate) fn run(
+        &mut self,
+        alloc: Global,
+        random: &mut Pcg32,
+        answers: &[Bytes],
+        outside: &mut Memory,
+    ) -> Result<u8, NoMemory> {
+        clear_sinks(alloc, outside);
+        self.give_texts(alloc, random, outside)?;
+        self.give_clock(outside);
+        self.give_failures(alloc, random)?;
+        outside.link = link_of(alloc, random, answers)?;
+        let ticks = TICKS[below(random, 3) as usize];
+        Ok(self.run_over(alloc, ticks, outside))
+    }
+
     /// What is wrong with what a session left.
-    fn fault_of(
+    pub(crate) fn fault_of(
         &mut self,
         alloc: Global,
         status: u8,
@@ -130,42 +150,13 @@ impl Host {
         if status != 0 && status != 4 {
             return Ok(Some("a status that isn't 0 or 4"));
         }
-        if !self
-            .judge
-            .takes_all(alloc, self.keeper.entries().as_slice())?
-        {
+        let entries = self.keeper.entries().as_slice();
+        if !self.judge.takes_all(alloc, entries)? {
             return Ok(Some("a kept list that no session leaves"));
         }
-        Ok(if sent
-            .iter()
-            .all(|frame| self.judge.has_frame(frame.as_slice()))
-        {
-            None
-        } else {
-            Some("a frame of no sealed batch")
-        })
-    }
-
-    /// Runs a session over what comes of these answers. The frames that it sends are added to those that were sent. It answers what is wrong
-    /// with what it leaves.
-    pub(crate) fn run(
-        &mut self,
-        alloc: Global,
-        random: &mut Pcg32,
-        answers: &[Bytes],
-        frames: &mut Vec<Bytes>,
-        counts: &mut Counts,
-    ) -> Result<Option<&'static str>, NoMemory> {
-        let mut outside = self.outside_of(alloc, random)?;
-        self.give(alloc, random, &mut outside)?;
-        outside.link = link_of(alloc, random, answers)?;
-        let ticks = TICKS[below(random, 3) as usize];
-        let status = run_session(alloc, self.name.as_str(), ticks, &mut outside);
-        let Outside { keeper, link, .. } = outside;
-        self.keeper = keeper;
-        let sent = link.sent().as_slice();
-        count_session(counts, status, sent.len());
-        add_copies(alloc, frames, sent)?;
-        self.fault_of(alloc, status, sent)
+        if !self.judge.has_frames(sent) {
+            return Ok(Some("a frame of no sealed batch"));
+        }
+        Ok(None)
     }
 }

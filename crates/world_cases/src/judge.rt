@@ -57,14 +57,22 @@ fn names_of(alloc: Global, query: &str) -> Result<TextList, NoMemory> {
     Ok(names)
 }
 
-/// The text of a batch's frame.
-fn frame_of(alloc: Global, host: &str, batch: &Batch) -> Result<Bytes, NoMemory> {
-    let frame = Frame {
+/// The frame of a batch, with the names of its rows' columns.
+fn frame_of(alloc: Global, host: &str, batch: &Batch) -> Result<Frame, NoMemory> {
+    Ok(Frame {
         host: Str::of(alloc, host)?,
         batch: batch.copy(alloc)?,
         names: names_of(alloc, batch.query.name.as_str())?,
-    };
-    encode_frame(alloc, &frame)
+    })
+}
+
+/// The text of a frame. None where it isn't valid.
+fn text_of(alloc: Global, frame: &Frame) -> Result<Option<Bytes>, NoMemory> {
+    if frame.is_valid() {
+        Ok(Some(encode_frame(alloc, frame)?))
+    } else {
+        Ok(None)
+    }
 }
 
 impl Judge {
@@ -114,13 +122,24 @@ impl Judge {
         begins && batch.rows.len() as u64 == batch.hi.saturating_sub(batch.lo)
     }
 
+    /// Adds the frame of a batch, and answers whether it has one.
+    fn has_text(&mut self, alloc: Global, batch: &Batch) -> Result<bool, NoMemory> {
+        let frame = frame_of(alloc, self.host.as_str(), batch)?;
+        match text_of(alloc, &frame)? {
+            Some(text) => {
+                self.frames.push(text)?;
+                Ok(true)
+            }
+            None => Ok(false),
+        }
+    }
+
     fn commits(&mut self, alloc: Global, batch: &Batch) -> Result<bool, NoMemory> {
         let is_next = batch.number == (self.frames.len() as u64).saturating_add(1);
         let is_cut_here = batch.cut == self.entries as u64 && batch.moment == self.moment;
         let has_slice = self.has_slice(batch) && batch.hi == self.events;
-        self.frames
-            .push(frame_of(alloc, self.host.as_str(), batch)?)?;
-        Ok(is_next && is_cut_here && has_slice)
+        let has_text = self.has_text(alloc, batch)?;
+        Ok(is_next && is_cut_here && has_slice && has_text)
     }
 
     /// Whether the entry may stand behind those before it.
@@ -159,6 +178,11 @@ impl Judge {
     /// Whether this is the frame of one of the batches.
     pub(crate) fn has_frame(&self, frame: &[u8]) -> bool {
         self.frames.iter().any(|own| own.as_slice() == frame)
+    }
+
+    /// Whether each of these is the frame of one of the batches.
+    pub(crate) fn has_frames(&self, frames: &[Bytes]) -> bool {
+        frames.iter().all(|frame| self.has_frame(frame.as_slice()))
     }
 
     /// Whether this is the frame of the batch behind so many.

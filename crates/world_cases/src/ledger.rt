@@ -1,6 +1,6 @@
 //! What a ledger's file has recorded.
 
-use crate::host::Host;
+use crate::judge::Judge;
 use std::str;
 
 /// How many batches of each host are recorded, and how many lines are none of theirs.
@@ -15,32 +15,50 @@ pub(crate) struct Recorded {
 }
 
 impl Recorded {
-    pub(crate) const NOTHING: Recorded = Recorded {
+    const NOTHING: Recorded = Recorded {
         first: 0,
         second: 0,
         torn: 0,
     };
 
-    /// With a line more; None where it is a frame that isn't the next of its host.
-    fn with(mut self, first: &Host, second: &Host, line: &[u8]) -> Option<Recorded> {
-        if first.judge.is_next(self.first, line) {
+    /// Takes a line more, and answers whether it may stand there: not where it is a frame that isn't the next of its host.
+    fn takes(&mut self, first: &Judge, second: &Judge, line: &[u8]) -> bool {
+        if first.is_next(self.first, line) {
             self.first = self.first.saturating_add(1);
-        } else if second.judge.is_next(self.second, line) {
+            return true;
+        }
+        if second.is_next(self.second, line) {
             self.second = self.second.saturating_add(1);
-        } else if first.judge.has_frame(line) || second.judge.has_frame(line) {
-            return None;
-        } else if !line.is_empty() {
+            return true;
+        }
+        if !line.is_empty() {
             self.torn = self.torn.saturating_add(1);
         }
-        Some(self)
+        !first.has_frame(line) && !second.has_frame(line)
+    }
+
+    /// What is wrong with a ledger in which so much is recorded, of which so many lines may have been cut off.
+    pub(crate) fn fault(self, first: &Judge, second: &Judge, tears: usize) -> Option<&'static str> {
+        if tears < self.torn {
+            return Some("a line in the ledger that is no frame of a sealed batch");
+        }
+        if (self.first as u64) < first.acked {
+            return Some("more is acknowledged than the first host has recorded");
+        }
+        if (self.second as u64) < second.acked {
+            return Some("more is acknowledged than the second host has recorded");
+        }
+        None
     }
 }
 
 /// What the file has recorded. None where a frame stands in it that isn't the next of its host, so twice or behind a gap.
-pub(crate) fn recorded_in(first: &Host, second: &Host, file: &[u8]) -> Option<Recorded> {
+pub(crate) fn recorded_in(first: &Judge, second: &Judge, file: &[u8]) -> Option<Recorded> {
     let mut recorded = Recorded::NOTHING;
     for line in str::from_utf8(file).unwrap_or("not UTF-8").split('\n') {
-        recorded = recorded.with(first, second, line.as_bytes())?;
+        if !recorded.takes(first, second, line.as_bytes()) {
+            return None;
+        }
     }
     Some(recorded)
 }

@@ -16,6 +16,7 @@ mod judge;
 mod ledger;
 mod memory;
 mod numbers;
+mod outside;
 mod story;
 
 use case_text::print_answers;

@@ -1,30 +1,9 @@
-//! The outside in memory.
+//! What the outside in memory is given.
 
-use batch_forwarder::MemoryLink;
-use batch_keeper::MemoryKeeper;
-use entry_model::entry::EntryList;
-use osq_outside::{
-    FailList, MemoryFiles, MemorySink, MemorySource, NamedFile, NamedFileList, StepClock,
-};
-use osq_program::Outside;
-use osq_program::run::run_plain;
-use osq_value::{Bytes, NoMemory, Sequence, Str};
+use crate::outside::Memory;
+use osq_outside::{FailList, MemoryFiles, MemorySink, MemorySource, NamedFile, NamedFileList};
+use osq_value::{Bytes, NoMemory, Str};
 use std::alloc::Global;
-
-/// The outside in memory.
-pub(crate) type Memory = Outside<
-    MemorySource,
-    MemorySink,
-    MemoryFiles,
-    StepClock,
-    MemoryKeeper,
-    MemoryLink,
->;
-
-/// A sink whose writes don't fail.
-fn sink(alloc: Global) -> MemorySink {
-    MemorySink::new(alloc, FailList::new(alloc))
-}
 
 /// One file.
 pub(crate) fn one_file(alloc: Global, path: &str, text: Bytes) -> Result<MemoryFiles, NoMemory> {
@@ -36,18 +15,11 @@ pub(crate) fn one_file(alloc: Global, path: &str, text: Bytes) -> Result<MemoryF
     Ok(MemoryFiles::new(files, FailList::new(alloc)))
 }
 
-/// An outside with nothing in it but these files.
-pub(crate) fn outside_with(alloc: Global, files: MemoryFiles) -> Memory {
-    Outside {
-        sources: Vec::new(alloc),
-        results: sink(alloc),
-        status: sink(alloc),
-        ledger: sink(alloc),
-        files,
-        clock: StepClock { next: 0, step: 60 },
-        keeper: MemoryKeeper::new(EntryList::new(alloc), FailList::new(alloc), false),
-        link: MemoryLink::new(alloc, Sequence::new(alloc), FailList::new(alloc)),
-    }
+/// Gives the outside sinks to which nothing was written, and whose writes don't fail.
+pub(crate) fn clear_sinks(alloc: Global, outside: &mut Memory) {
+    outside.results = MemorySink::new(alloc, FailList::new(alloc));
+    outside.status = MemorySink::new(alloc, FailList::new(alloc));
+    outside.ledger = MemorySink::new(alloc, FailList::new(alloc));
 }
 
 /// One source, whose reads don't fail.
@@ -55,11 +27,6 @@ pub(crate) fn one_source(alloc: Global, text: Bytes) -> Result<Vec<MemorySource>
     let mut sources = Vec::new(alloc);
     sources.push(MemorySource::new(text, FailList::new(alloc)))?;
     Ok(sources)
-}
-
-/// Runs these words, and gives the number of the status.
-pub(crate) fn run(alloc: Global, words: &[&str], outside: &mut Memory) -> u8 {
-    run_plain(alloc, words, outside).number()
 }
 
 /// A copy of these bytes.
