@@ -12,8 +12,8 @@ use Rattle.sql_groups.specs.Different.{different_by}
 use Rattle.sql_groups.proofs.Cutting.{different-by-lent}
 use Rattle.sql_groups.proofs.steps.rows_by_items.Goals as goal
 
-pub returns-in-Some : goal.returns-in-Some
-returns-in-Some c =
+pub returns : goal.returns
+returns c =
     let condition = map expr_of c.args.condition.now.parts in
     let query = asked_by condition (query_of c.args.query.now) in
     let rows = c.args.rows.now in
