@@ -25,6 +25,7 @@ TOP = pathlib.Path(__file__).resolve().parent.parent
 # The crates that the program uses, and the kit's.
 LIBRARIES = [
     "osq_value",
+    "set_keys",
     "sql_tree",
     "sql_tokens",
     "sql_faults",
