@@ -13,7 +13,6 @@ Of two numbers the second can undo what the first made of the state, so that who
 
 import math
 import pathlib
-import shutil
 import subprocess
 import sys
 import tempfile
@@ -101,13 +100,7 @@ def honest(count: int) -> list[tuple[int, int]]:
 
 
 def main() -> None:
-    words = sys.argv[1:]
-    given = words[1] if words[:1] == ["--program"] else None
-    if given:
-        words = words[2:]
-    elif not shutil.which("rt"):
-        print("skipped: there is no rt")
-        return
+    words, given = sqlite_speed.words_and_program()
     sizes = [int(word) for word in words] or [10_000, 100_000]
     with tempfile.TemporaryDirectory() as folder:
         program = given or sqlite_speed.built(pathlib.Path(folder))

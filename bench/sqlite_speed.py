@@ -170,14 +170,19 @@ def measured(program: str, rows: int, rounds: int) -> list[tuple[float, float, b
     return best
 
 
-def main() -> None:
+def words_and_program() -> tuple[list[str], str | None]:
+    """The words behind `--program FILE`, and that file. Where it isn't named and there is no `rt` to build one, nothing is measured."""
     words = sys.argv[1:]
-    given = words[1] if words[:1] == ["--program"] else None
-    if given:
-        words = words[2:]
-    elif not shutil.which("rt"):
+    if words[:1] == ["--program"]:
+        return words[2:], words[1]
+    if not shutil.which("rt"):
         print("skipped: there is no rt")
-        return
+        sys.exit(0)
+    return words, None
+
+
+def main() -> None:
+    words, given = words_and_program()
     rounds = int(words[0]) if words else 5
     sizes = [int(word) for word in words[1:]] or [10_000, 100_000, 1_000_000]
     with tempfile.TemporaryDirectory() as folder:
