@@ -14,7 +14,6 @@ Of two numbers the second can undo what the first made of the state, so that who
 import math
 import pathlib
 import subprocess
-import sys
 import tempfile
 
 import sqlite_speed
