@@ -1,6 +1,6 @@
 //! The link over a sink and a source.
 
-ghost use Rattle.std.specs.Prelude.{◌≡◌, ◌≤◌, ◌×◌, ◌++◌, ◌∷◌, [], false, if◌then◌else◌, OnOk};
+ghost use Rattle.std.specs.Prelude.{◌≡◌, ◌≤◌, ◌++◌, ◌∷◌, [], false, if◌then◌else◌, OnOk};
 ghost use Rattle.osq_outside.specs.Causes.{HasCause, FaultHasCause, Rose};
 
 use crate::answers::AnswerLines;

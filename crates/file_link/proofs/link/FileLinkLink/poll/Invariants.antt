@@ -1,4 +1,4 @@
-use Rattle.std.proofs.Common.{◌≡◌, ◌×◌}
+use Rattle.std.proofs.Common.{◌≡◌}
 use Rattle.file_link.proofs.link.FileLinkLink.poll.Given as goal
 
 abbrev pub invariant-loop-self : goal.invariant-loop-self
