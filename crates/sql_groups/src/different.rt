@@ -25,8 +25,8 @@ struct FoundRows<'a> {
 }
 
 /// The rows for which the condition holds and whose value at a place no earlier one of them has, where all of them have that place. Null is
-/// equal to Null, and no number to a text. Each value is hashed once, where it stands; where they share hashes as if somebody had chosen them, it begins again
-/// with a key that is drawn from all of them, so that no rows make it slow.
+/// equal to Null, and no number to a text. Each value is hashed where it stands; where more than a few differ, or a few share hashes as if somebody had
+/// chosen them, it begins again with a key that is drawn from all of them, so that no rows make it grow with their square.
 pub(crate) fn different<'a>(
     alloc: Global,
     place: u32,
@@ -35,7 +35,7 @@ pub(crate) fn different<'a>(
 ) -> Result<Option<Sequence<Joined<'a>>>, NoMemory>
     ensures { IfOk result (λ found. IfSome found (λ made. made ≡ different place (map expr_of condition.now.parts) rows.now)) }
 {
-    let watch = Watch::over(alloc, rows.len())?;
+    let watch = Watch::over_plain(alloc)?;
     match different_by_key(alloc, SetKey::plain(), watch, place, condition, rows)? {
         Some(found) => Ok(Some(found)),
         None => {
@@ -45,7 +45,7 @@ pub(crate) fn different<'a>(
     }
 }
 
-/// The same by a set that is hashed by this key. None also where they share hashes.
+/// The same by a set that is hashed by this key. None also where another key is to be drawn.
 fn different_by_key<'a>(
     alloc: Global,
     key: SetKey,
@@ -112,8 +112,8 @@ struct FoundKeys<'a> {
 }
 
 /// The rows for which the condition holds and whose values of the expressions no earlier one of them has. Null is equal to Null, and no
-/// number to a text. Each row's values are hashed once; where they share hashes, it begins again with a key that is drawn from all
-/// of them. None where they share hashes even so.
+/// number to a text. Each row's values are hashed; where more than a few differ, or a few share hashes, it begins again with a key that is drawn
+/// from all of them. None where they share hashes even so.
 pub(crate) fn different_by<'a>(
     alloc: Global,
     exprs: &[&'a Expr],
@@ -122,7 +122,7 @@ pub(crate) fn different_by<'a>(
 ) -> Result<Option<Sequence<Joined<'a>>>, NoMemory>
     ensures { IfOk result (λ found. IfSome found (λ made. made ≡ different_by (map (λ expr. expr_of expr.now) exprs.now) (map expr_of condition.now.parts) rows.now)) }
 {
-    let watch = Watch::over(alloc, rows.len())?;
+    let watch = Watch::over_plain(alloc)?;
     match different_by_keys(alloc, SetKey::plain(), watch, exprs, condition, rows)? {
         Some(found) => Ok(Some(found)),
         None => {
@@ -132,7 +132,7 @@ pub(crate) fn different_by<'a>(
     }
 }
 
-/// The same by a set that is hashed by this key. None where they share hashes.
+/// The same by a set that is hashed by this key. None where another key is to be drawn.
 fn different_by_keys<'a>(
     alloc: Global,
     key: SetKey,

@@ -47,8 +47,9 @@ pub(crate) struct KeyedGroups<'a> {
 }
 
 /// The groups of the rows for which the condition holds, by their values at a place, in the order of their first rows. Null is equal to
-/// Null, and no number to a text. Each value is hashed once, where it stands; where they share hashes as if somebody had chosen them, it begins
-/// again with a key that is drawn from all of them, so that no rows make it slow. None where a row doesn't have the place, or a number leaves its bounds.
+/// Null, and no number to a text. Each value is hashed where it stands; where more than a few differ, or a few share hashes as if somebody had chosen
+/// them, it begins again with a key that is drawn from all of them, so that no rows make it grow with their square. None where a row doesn't have the place,
+/// or a number leaves its bounds.
 pub(crate) fn groups_by_column<'a>(
     alloc: Global,
     place: u32,
@@ -58,7 +59,7 @@ pub(crate) fn groups_by_column<'a>(
 ) -> Result<Option<Vec<GroupSoFar<'a>>>, NoMemory>
     ensures { IfOk result (λ found. IfSome found (λ groups. IsFolded items.now (lists place (map expr_of condition.now.parts) rows.now) groups.items)) }
 {
-    let watch = Watch::over(alloc, rows.len())?;
+    let watch = Watch::over_plain(alloc)?;
     match groups_of_column(alloc, SetKey::plain(), watch, place, items, condition, rows)? {
         Some(groups) => Ok(Some(groups)),
         None => {
@@ -69,7 +70,7 @@ pub(crate) fn groups_by_column<'a>(
     }
 }
 
-/// The same by a set that is hashed by this key. None also where they share hashes.
+/// The same by a set that is hashed by this key. None also where another key is to be drawn.
 fn groups_of_column<'a>(
     alloc: Global,
     key: SetKey,
@@ -184,8 +185,8 @@ fn add<'a>(
 }
 
 /// The groups of the rows for which the condition holds, by their values of some expressions, in the order of their first rows. Null is
-/// equal to Null, and no number to a text. Each row's values are hashed once; where they share hashes, it begins again with a key that is drawn from all of
-/// them. None where a number leaves its bounds.
+/// equal to Null, and no number to a text. Each row's values are hashed; where more than a few differ, or a few share hashes, it begins again with a key that
+/// is drawn from all of them. None where a number leaves its bounds.
 pub(crate) fn groups_by_keys<'a>(
     alloc: Global,
     exprs: &[&'a Expr],
@@ -195,7 +196,7 @@ pub(crate) fn groups_by_keys<'a>(
 ) -> Result<Option<Vec<GroupSoFar<'a>>>, NoMemory>
     ensures { IfOk result (λ found. IfSome found (λ groups. IsFolded items.now (lists_by (row_values (map (λ expr. expr_of expr.now) exprs.now)) (map expr_of condition.now.parts) rows.now) groups.items)) }
 {
-    let watch = Watch::over(alloc, rows.len())?;
+    let watch = Watch::over_plain(alloc)?;
     match groups_of_keys(alloc, SetKey::plain(), watch, exprs, items, condition, rows)? {
         Some(groups) => Ok(Some(groups)),
         None => {
@@ -206,7 +207,7 @@ pub(crate) fn groups_by_keys<'a>(
     }
 }
 
-/// The same by a set that is hashed by this key. None also where they share hashes.
+/// The same by a set that is hashed by this key. None also where another key is to be drawn.
 fn groups_of_keys<'a>(
     alloc: Global,
     key: SetKey,

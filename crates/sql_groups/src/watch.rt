@@ -1,22 +1,20 @@
-//! Whether the values of a set, which a stranger may have written, were chosen so that they share a hash.
+//! How long a set may be hashed without a key, over values that a stranger may have written.
 //!
-//! A set is hashed without a key at first, which is fast. Each value that it gains is counted at a slot of its hash, by the bits that the set goes by.
-//! Values that nobody chose are spread over the slots; where one slot gains too many, the step is begun again with a key that is drawn.
+//! A set of a few values is hashed without a key, which is fast. Each value that it gains is counted at a slot of its hash. Values that nobody chose
+//! are spread over the slots. Where one slot gains too many, or the set has more than a few values, the step is begun again with a key that is drawn:
+//! so values that were chosen cost each row as much as a few values can, and no more with more rows.
 
 use indexmap::IndexSet;
 use osq_value::NoMemory;
-use set_keys::SetKey;
+use set_keys::{FEW, SetKey};
 use std::alloc::Global;
 use std::hash::{BuildHasher, Hash};
 
-/// There is a slot for each so many rows, up to a power of two.
-const ROWS_OF_A_SLOT: usize = 64;
+/// How many slots there are, a power of two.
+const SLOTS: usize = 64;
 
-/// So many values of one slot are no sign of a choice, however few values there are in all.
-const LEAST: usize = 64;
-
-/// So many times as many values as a slot has on an average are no sign of a choice.
-const TIMES: usize = 4;
+/// So many values of one slot are no sign of a choice: four times what each slot has of a few values on an average.
+const MOST_OF_A_SLOT: usize = 64;
 
 /// How many values fell to each slot.
 #[derive(Drop)]
@@ -28,16 +26,15 @@ pub(crate) struct Watch {
 }
 
 impl Watch {
-    /// Over the values of at most so many rows.
-    pub fn over(alloc: Global, rows: usize) -> Result<Watch, NoMemory> {
-        let slots = (rows / ROWS_OF_A_SLOT).next_power_of_two();
+    /// Over a set that is hashed without a key.
+    pub fn over_plain(alloc: Global) -> Result<Watch, NoMemory> {
         Ok(Watch {
-            counts: vec![in alloc; 0usize; slots]?,
+            counts: vec![in alloc; 0usize; SLOTS]?,
             total: 0,
         })
     }
 
-    /// Where nothing need be watched.
+    /// Where nothing need be watched: a key is drawn.
     pub fn nothing(alloc: Global) -> Watch {
         Watch {
             counts: Vec::new(alloc),
@@ -45,26 +42,25 @@ impl Watch {
         }
     }
 
-    /// Counts a value that differs from all before. The answer is false where its slot has too many.
+    /// Counts a value that differs from all before. The answer is false where its slot has too many, or the set has more than a few.
     pub fn is_spread<T: Hash + Copy>(&mut self, value: T) -> bool {
-        let slots = self.counts.len();
-        if slots == 0 {
+        if self.counts.is_empty() {
             return true;
         }
         self.total = self.total.saturating_add(1);
         let hash = SetKey::plain().hash_one(value);
-        let slot = (hash ^ (hash >> 32)) as usize & (slots - 1);
+        let slot = (hash ^ (hash >> 32)) as usize & (SLOTS - 1);
         match self.counts.get_mut(slot) {
             None => true,
             Some(count) => {
                 *count = count.saturating_add(1);
-                *count <= LEAST || *count / TIMES <= self.total / slots
+                self.total <= FEW && *count <= MOST_OF_A_SLOT
             }
         }
     }
 }
 
-/// Counts the value that a set gained last. The answer is false where its slot has too many.
+/// Counts the value that a set gained last. The answer is false where a key is to be drawn.
 pub(crate) fn is_last_spread<T: Eq + Hash>(watch: &mut Watch, set: &IndexSet<T, SetKey>) -> bool {
     match set.last() {
         None => true,
