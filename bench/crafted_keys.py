@@ -1,20 +1,28 @@
 #!/usr/bin/env python3
-"""The processor time of joins, GROUP BY and DISTINCT over numbers that somebody chose so that their hashes share a slot.
+"""The processor time of joins, GROUP BY and DISTINCT over numbers that somebody chose by their hashes.
 
 Usage: bench/crafted_keys.py [--program FILE] [ROWS ..]: tables of so many rows (default 10000 and 100000). The program is that of
-bench/sqlite_speed.py, which is built by `rt run` where none is given. Beside each time stands that over as many numbers that nobody chose,
-and the exponent by which the time over chosen ones grew from the size before: 1.0 is in step with the rows, 2.0 is their square. What by the
-square of its time before would take more than a minute isn't run. Skipped where there is no `rt`.
+bench/sqlite_speed.py, which is built by `rt run` where none is given. Beside each time stands that over as many numbers that nobody chose, of
+which as many differ, and the exponent by which the time over chosen ones grew from the size before: 1.0 is in step with the rows, 2.0 is their
+square. What by the square of its time before would take more than a minute isn't run. Skipped where there is no `rt`.
 
 The hash of the kit begins with a fixed state and multiplies it for each 8 bytes with a fixed number, folding the upper half of the product
 onto the lower, so nobody has to try: numbers whose product with it has nothing in the bits that make the slot form a lattice of two dimensions.
-Of two numbers the second can undo what the first made of the state, so that whole hashes are equal.
+Of two numbers the second can undo what the first made of the state, so that whole hashes are equal. Two more choices are found by trying:
+
+- a quarter: the hashes fall to one quarter of the groups of the kit's map, evenly, so that each group has few; the map goes on to the next group
+  where one is full;
+- few: a thousand numbers of which no more than 64 share a slot of the watch over a set without a key, so that none is drawn. They begin at sixteen
+  groups of the map, with the same tag, and nearly all rows have the last of them, which is looked up behind all others.
 """
 
+import functools
+import itertools
 import math
 import pathlib
 import subprocess
 import tempfile
+from collections.abc import Callable
 
 import sqlite_speed
 
@@ -23,6 +31,10 @@ FIRST = 0x243F6A8885A308D3
 MULTIPLIER = 0x9E3779B97F4A7C15 ^ 16
 SLOT_BITS = 17  # slots that the numbers share, as a power of two
 INT = 1  # what is hashed before a value that is a number
+GROUP_LOAD = 9  # values that a group of the kit's map has at most on an average
+FEW = 1000  # numbers that a set holds without a key
+SLOTS, MOST_OF_A_SLOT = 64, 64  # of the watch over such a set
+BEGUN = 16  # groups at which the few begin
 LONGEST = 60.0  # seconds that one measure may take by the square of the one before
 
 
@@ -76,14 +88,68 @@ def slice_state(length: int) -> int:
     return folded(folded(FIRST, length), INT)
 
 
+def hash_of_one(number: int) -> int:
+    """What the kit's map goes by for a value."""
+    made = folded(folded(FIRST, INT), number)
+    return (made ^ (made >> 32)) % (1 << 32)
+
+
+def hash_of_two(number: int) -> int:
+    """What it goes by for the same value in two columns."""
+    made = folded(folded(folded(slice_state(2), number), INT), number)
+    return (made ^ (made >> 32)) % (1 << 32)
+
+
+def in_quarter(count: int, hash_of: Callable[[int], int]) -> list[tuple[int, int]]:
+    """So many numbers that begin in the first quarter of the groups of a map of so many, each twice."""
+    bits = max(2, math.ceil(math.log2(count / GROUP_LOAD)))
+    chosen = (it for it in itertools.count(1) if (hash_of(it) >> (bits - 2)) % 4 == 0)
+    return [(it, it) for it in itertools.islice(chosen, count)]
+
+
+@functools.cache
+def few(hash_of: Callable[[int], int]) -> list[int]:
+    """Numbers that a set without a key holds, which begin at few groups and have one tag."""
+    groups = 1 << math.ceil(math.log2(FEW / GROUP_LOAD))
+    slots = [0] * SLOTS
+    found: list[int] = []
+    for number in itertools.count(1):
+        made = hash_of(number)
+        if made >> 25 == 0 and made % groups < BEGUN and slots[made % SLOTS] < MOST_OF_A_SLOT:
+            slots[made % SLOTS] += 1
+            found.append(number)
+            if len(found) == FEW:
+                break
+    return found
+
+
+def with_last(count: int, numbers: list[int]) -> list[tuple[int, int]]:
+    """So many rows: each number, twice, and then the last of them again and again."""
+    held = [numbers[min(at, len(numbers) - 1)] for at in range(count)]
+    return [(it, it) for it in held]
+
+
+BY_ONE = "SELECT uid, COUNT(*) AS n FROM users GROUP BY uid LIMIT 1"
+BY_TWO = "SELECT uid, gid, COUNT(*) AS n FROM users GROUP BY uid, gid LIMIT 1"
+ONE = "SELECT DISTINCT uid FROM users ORDER BY uid LIMIT 1"
+TWO = "SELECT DISTINCT uid, gid FROM users ORDER BY uid LIMIT 1"
+
 # What is measured: its text, and the pairs of uid and gid for so many rows.
 CASES = [
     ("join by one key", "SELECT COUNT(*) AS n FROM users u JOIN user_groups k ON k.uid = u.uid", lambda n: [(it, it) for it in sharing(n, FIRST)]),
     ("join by two keys", "SELECT COUNT(*) AS n FROM users u JOIN user_groups k ON k.uid = u.uid AND k.gid = u.gid", lambda n: pairs(n, FIRST, -1)),
-    ("GROUP BY one key", "SELECT uid, COUNT(*) AS n FROM users GROUP BY uid LIMIT 1", lambda n: [(it, it) for it in sharing(n, folded(FIRST, INT))]),
-    ("GROUP BY two keys", "SELECT uid, gid, COUNT(*) AS n FROM users GROUP BY uid, gid LIMIT 1", lambda n: pairs(n, slice_state(2), INT)),
-    ("DISTINCT of one column", "SELECT DISTINCT uid FROM users ORDER BY uid LIMIT 1", lambda n: [(it, it) for it in sharing(n, folded(FIRST, INT))]),
-    ("DISTINCT of two columns", "SELECT DISTINCT uid, gid FROM users ORDER BY uid LIMIT 1", lambda n: pairs(n, slice_state(2), INT)),
+    ("GROUP BY one key", BY_ONE, lambda n: [(it, it) for it in sharing(n, folded(FIRST, INT))]),
+    ("GROUP BY two keys", BY_TWO, lambda n: pairs(n, slice_state(2), INT)),
+    ("DISTINCT of one column", ONE, lambda n: [(it, it) for it in sharing(n, folded(FIRST, INT))]),
+    ("DISTINCT of two columns", TWO, lambda n: pairs(n, slice_state(2), INT)),
+    ("GROUP BY one key, a quarter", BY_ONE, lambda n: in_quarter(n, hash_of_one)),
+    ("GROUP BY two keys, a quarter", BY_TWO, lambda n: in_quarter(n, hash_of_two)),
+    ("DISTINCT of one column, a quarter", ONE, lambda n: in_quarter(n, hash_of_one)),
+    ("DISTINCT of two columns, a quarter", TWO, lambda n: in_quarter(n, hash_of_two)),
+    ("GROUP BY one key, few", BY_ONE, lambda n: with_last(n, few(hash_of_one))),
+    ("GROUP BY two keys, few", BY_TWO, lambda n: with_last(n, few(hash_of_two))),
+    ("DISTINCT of one column, few", ONE, lambda n: with_last(n, few(hash_of_one))),
+    ("DISTINCT of two columns, few", TWO, lambda n: with_last(n, few(hash_of_two))),
 ]
 
 
@@ -94,8 +160,12 @@ def seconds(program: str, text: str, keys: list[tuple[int, int]]) -> tuple[float
     return int(told[0]) / 1e9, int(told[1])
 
 
-def honest(count: int) -> list[tuple[int, int]]:
-    return [((at * 7919) % (count * 13) - count, at) for at in range(count)]
+def honest(chosen: list[tuple[int, int]]) -> list[tuple[int, int]]:
+    """As many rows by numbers that nobody chose; where these have one pair, those have one."""
+    count = len(chosen)
+    at_of: dict[tuple[int, int], int] = {}
+    places = [at_of.setdefault(pair, len(at_of)) for pair in chosen]
+    return [((at * 7919) % (count * 13) - count, at) for at in places]
 
 
 def main() -> None:
@@ -105,17 +175,18 @@ def main() -> None:
         program = given or sqlite_speed.built(pathlib.Path(folder))
         before: dict[str, tuple[int, float]] = {}
         for rows in sizes:
-            print(f"{rows} rows {'':18} {'chosen':>13} {'not chosen':>13} {'exponent':>9}")
+            print(f"{f'{rows} rows':34} {'chosen':>13} {'not chosen':>13} {'exponent':>9}")
             for name, text, made in CASES:
                 size, time = before.get(name, (rows, 0.0))
                 expected = time * (rows / size) ** 2
                 if expected > LONGEST:
-                    print(f"{name:28} not run: {expected:.0f} s by the square", flush=True)
+                    print(f"{name:34} not run: {expected:.0f} s by the square", flush=True)
                     continue
-                chosen, _ = seconds(program, text, made(rows))
-                other, _ = seconds(program, text, honest(rows))
+                keys = made(rows)
+                chosen, _ = seconds(program, text, keys)
+                other, _ = seconds(program, text, honest(keys))
                 exponent = f"{math.log(chosen / time, rows / size):9.2f}" if size != rows else ""
-                print(f"{name:28} {chosen * 1e3:10.2f} ms {other * 1e3:10.2f} ms {exponent}", flush=True)
+                print(f"{name:34} {chosen * 1e3:10.2f} ms {other * 1e3:10.2f} ms {exponent}", flush=True)
                 before[name] = (rows, chosen)
 
 
