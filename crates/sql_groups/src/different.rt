@@ -25,7 +25,7 @@ struct FoundRows<'a> {
 }
 
 /// The rows for which the condition holds and whose value at a place no earlier one of them has, where all of them have that place. Null is
-/// equal to Null, and no number to a text. Each value is hashed where it stands; where more than a few differ, or a few share hashes as if somebody had
+/// equal to Null, and no number to a text. Each value is hashed where it stands; where very many differ, or they share hashes as if somebody had
 /// chosen them, it begins again with a key that is drawn from all of them, so that no rows make it grow with their square.
 pub(crate) fn different<'a>(
     alloc: Global,
@@ -112,7 +112,7 @@ struct FoundKeys<'a> {
 }
 
 /// The rows for which the condition holds and whose values of the expressions no earlier one of them has. Null is equal to Null, and no
-/// number to a text. Each row's values are hashed; where more than a few differ, or a few share hashes, it begins again with a key that is drawn
+/// number to a text. Each row's values are hashed; where very many differ, or they share hashes, it begins again with a key that is drawn
 /// from all of them. None where they share hashes even so.
 pub(crate) fn different_by<'a>(
     alloc: Global,

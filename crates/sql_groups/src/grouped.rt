@@ -47,7 +47,7 @@ pub(crate) struct KeyedGroups<'a> {
 }
 
 /// The groups of the rows for which the condition holds, by their values at a place, in the order of their first rows. Null is equal to
-/// Null, and no number to a text. Each value is hashed where it stands; where more than a few differ, or a few share hashes as if somebody had chosen
+/// Null, and no number to a text. Each value is hashed where it stands; where very many differ, or they share hashes as if somebody had chosen
 /// them, it begins again with a key that is drawn from all of them, so that no rows make it grow with their square. None where a row doesn't have the place,
 /// or a number leaves its bounds.
 pub(crate) fn groups_by_column<'a>(
@@ -185,7 +185,7 @@ fn add<'a>(
 }
 
 /// The groups of the rows for which the condition holds, by their values of some expressions, in the order of their first rows. Null is
-/// equal to Null, and no number to a text. Each row's values are hashed; where more than a few differ, or a few share hashes, it begins again with a key that
+/// equal to Null, and no number to a text. Each row's values are hashed; where very many differ, or they share hashes, it begins again with a key that
 /// is drawn from all of them. None where a number leaves its bounds.
 pub(crate) fn groups_by_keys<'a>(
     alloc: Global,
