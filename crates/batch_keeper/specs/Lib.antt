@@ -1,2 +1,4 @@
+pub mod Calling
+pub mod Counted
 pub mod Fetching
 pub mod Indexing

@@ -1,7 +1,9 @@
 //! The end of a tick.
 
-ghost use Rattle.std.specs.Prelude.{◌≡◌, ◌≢◌, ◌≤◌, ◌⊎◌, Err, OnErr, IfOk};
+ghost use Rattle.std.specs.Prelude.{◌≡◌, ◌≢◌, ◌≤◌, ◌⊎◌, ◌++◌, Err, OnOk, OnErr, IfOk, if◌then◌else◌};
 ghost use Rattle.osq_outside.specs.Causes.{Rose};
+ghost use Rattle.session_state.specs.Kept.{Kept};
+ghost use Rattle.batch_keeper.specs.Calling.{Fails, Passes};
 ghost use Rattle.daemon_rounds.specs.Answering.{SpendsBatches};
 ghost use Rattle.daemon_rounds.specs.Keeping.{Finishes, GoesOn, IsPartlyTold, IsWhole, Settles};
 ghost use Rattle.daemon_rounds.specs.Refusals.{unsealed_by};
@@ -68,6 +70,9 @@ pub fn finish_tick<K: Keeper, O: Sink>(
     ensures unkept { K.tells → (result ≡ Err FinishError.NumbersSpent) ⊎ (result ≡ Err FinishError.NoMemory) → K.kept keeper.new ≡ K.kept keeper.old }
     ensures unwritten { OnErr result (result ≢ Err FinishError.SinkFault → results.new ≡ results.old) }
     ensures keeper_cause { result ≡ Err FinishError.KeeperFault → Rose (K.faults keeper.old) (K.faults keeper.new) }
+    ensures passed { K.counts → OnOk result (Passes (K.calls keeper.old) 1 (K.calls keeper.new)) }
+    ensures failed { K.counts → result ≡ Err FinishError.KeeperFault → Fails (K.calls keeper.old) 0 (K.calls keeper.new) }
+    ensures failed_kept { K.counts → K.tells → result ≡ Err FinishError.KeeperFault → (settled : Kept) × Settles state.old settled × (K.kept keeper.new ≡ (if (K.calls keeper.old).is_whole then K.kept keeper.old ++ settled.tail else K.kept keeper.old)) }
     ensures sink_cause { result ≡ Err FinishError.SinkFault → Rose (O.faults results.old) (O.faults results.new) }
     ensures later { (K.faults keeper.old ≤ K.faults keeper.new) × (O.faults results.old ≤ O.faults results.new) }
 {

@@ -1,8 +1,9 @@
 //! What was added since the last seal is kept, and its batches are told.
 
-ghost use Rattle.std.specs.Prelude.{◌≡◌, ◌≢◌, ◌≤◌, ◌⊎◌, ◌++◌, ℕ, List, [], take, Err, OnOk, OnErr};
+ghost use Rattle.std.specs.Prelude.{◌≡◌, ◌≢◌, ◌≤◌, ◌⊎◌, ◌++◌, ℕ, List, [], take, Err, OnOk, OnErr, if◌then◌else◌};
 ghost use Rattle.entry_model.specs.Legal.{Legal};
 ghost use Rattle.osq_outside.specs.Causes.{Rose};
+ghost use Rattle.batch_keeper.specs.Calling.{Fails, Passes};
 ghost use Rattle.daemon_rounds.specs.Telling.{AreTellable, AreLinesOf};
 ghost use Rattle.daemon_rounds.specs.declared.sealing.SealError.{SealError};
 
@@ -51,6 +52,9 @@ pub fn seal<K: Keeper, O: Sink>(
     ensures unkept { K.tells → result ≡ Err SealError.NoMemory → K.kept keeper.new ≡ K.kept keeper.old }
     ensures unwritten { OnErr result (result ≢ Err SealError.SinkFault → results.new ≡ results.old) }
     ensures keeper_cause { result ≡ Err SealError.KeeperFault → Rose (K.faults keeper.old) (K.faults keeper.new) }
+    ensures passed { K.counts → OnOk result (Passes (K.calls keeper.old) 1 (K.calls keeper.new)) }
+    ensures failed { K.counts → result ≡ Err SealError.KeeperFault → Fails (K.calls keeper.old) 0 (K.calls keeper.new) }
+    ensures failed_kept { K.counts → K.tells → result ≡ Err SealError.KeeperFault → K.kept keeper.new ≡ (if (K.calls keeper.old).is_whole then K.kept keeper.old ++ state.old.tail else K.kept keeper.old) }
     ensures sink_cause { result ≡ Err SealError.SinkFault → Rose (O.faults results.old) (O.faults results.new) }
     ensures later { (K.faults keeper.old ≤ K.faults keeper.new) × (O.faults results.old ≤ O.faults results.new) }
 {

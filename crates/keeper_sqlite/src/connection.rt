@@ -159,12 +159,17 @@ fn seal<S: Alter>(alloc: Global, conn: &mut Connection<S>, entries: &EntryList) 
 
 impl<S: Alter> Keeper for ConnectionKeeper<S> {
     ghost use Rattle.std.specs.Prelude.{[]};
+    ghost use Rattle.batch_keeper.specs.Calling.{no_calls};
 
     ghost tells = { ⊥ };
 
     ghost kept = { λ _. [] };
 
     ghost faults = { λ s. s.faults };
+
+    ghost counts = { ⊥ };
+
+    ghost calls = { λ _. no_calls };
 
     fn load(&mut self, alloc: Global) -> Result<Restored, KeeperError>
         ensures cause { FaultHasCause KeeperError.Fault self.old.faults self.new.faults result }

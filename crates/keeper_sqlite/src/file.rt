@@ -88,12 +88,17 @@ fn seal(
 
 impl Keeper for SqliteKeeper {
     ghost use Rattle.std.specs.Prelude.{[]};
+    ghost use Rattle.batch_keeper.specs.Calling.{no_calls};
 
     ghost tells = { ⊥ };
 
     ghost kept = { λ _. [] };
 
     ghost faults = { λ s. s.faults };
+
+    ghost counts = { ⊥ };
+
+    ghost calls = { λ _. no_calls };
 
     fn load(&mut self, alloc: Global) -> Result<Restored, KeeperError> {
         let loaded = load(&self.rt, self.path.as_str(), &mut self.opened, alloc);

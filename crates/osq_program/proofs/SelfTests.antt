@@ -1,11 +1,12 @@
 -- From what the parts of `selftest` ensure to what it does.
-use Rattle.std.proofs.Common.{◌≡◌, ◌≤◌, ◌<◌, ◌+◌, ◌-◌, ◌/◌, ◌^◌, ◌++◌, ℕ, arith, List, [], ◌∷◌, length, codes, min, take, Bool, true, false, Some, refl, sym, ap, ◌∙◌, subst}
-use Rattle.std.specs.Prelude.{IfOk, Result, Ok, Err}
+use Rattle.std.proofs.Common.{◌≡◌, ◌≤◌, ◌<◌, ◌+◌, ◌-◌, ◌/◌, ◌^◌, ◌++◌, ℕ, arith, List, [], ◌∷◌, length, codes, min, take, Bool, true, false, Some, refl, sym, ap, ◌∙◌, subst, inl, inr}
+use Rattle.std.specs.Prelude.{◌⊎◌, IfOk, Result, Ok, Err}
 use Rattle.std.proofs.lemmas.Option.{same_Some}
 use Rattle.osq_value.specs.declared.source.SourceKind.TheVariants.{Changes}
 use Rattle.osq_outside.specs.declared.clock.StepClock.{StepClock}
 use Rattle.osq_outside.specs.declared.files.NamedFile.{NamedFile}
 use Rattle.osq_outside.specs.NamedFile.{text_at}
+use Rattle.batch_keeper.specs.Calling.{Calls}
 use Rattle.generated_changes.specs.Generated.{lines_of}
 use Rattle.kept_report.specs.Counting.{numbers_in, numbers_line}
 use Rattle.program_words.specs.declared.command.GenerateWords.{GenerateWords}
@@ -15,9 +16,10 @@ use Rattle.program_words.specs.Commands.{forwards}
 use Rattle.session_model.specs.Given.{Given}
 use Rattle.replay_rounds.specs.declared.running.Ended.{Ended}
 use Rattle.forward_rounds.specs.Forwarding.{View}
+use Rattle.replay_rounds.specs.Called.{HasSealed, HasStopped}
 use Rattle.replay_rounds.specs.Fixed.{Linked, Run}
 use Rattle.replay_rounds.specs.Linking.{readings_of}
-use Rattle.replay_rounds.specs.Running.{HasRun, ReadsAll, run_by}
+use Rattle.replay_rounds.specs.Running.{HasRun, IsKept, ReadsAll, run_by}
 use Rattle.entry_model.specs.declared.entry.Entry.{Entry}
 use Rattle.osq_program.specs.declared.status.Status.{Status}
 use Rattle.osq_program.specs.declared.status.Status.TheVariants.{Ok as Done, SinkFault, OutOfMemory}
@@ -25,7 +27,7 @@ use Rattle.osq_program.specs.Answers.{IsDoneStatus}
 use Rattle.osq_program.specs.Observed.{Observed}
 use Rattle.osq_program.specs.Replaying.{IsReplayGiven}
 use Rattle.osq_program.specs.Report.{IsRefusedAs}
-use Rattle.osq_program.specs.SelfTesting.{HasRunOver, HasTested, IsSelfGiven, IsSelfTest, config_path, document, no_view, readings_from, self_fixed, self_key, self_link, self_run, self_words}
+use Rattle.osq_program.specs.SelfTesting.{HasGrownOver, HasRunOver, HasTested, IsSelfGiven, IsSelfTest, config_path, document, no_view, readings_from, self_fixed, self_key, self_link, self_run, self_words, ticks_for}
 use Rattle.osq_program.specs.Setups.{host_in, sources_named}
 use Rattle.osq_program.proofs.Toldings.{as_plain}
 
@@ -114,15 +116,48 @@ ran_over lines count start before kept after words clock read link linked given 
     let told : HasRun (self_run given start kept) words.ticks after [] linked ended =
     read_as (run_by (self_fixed given kept) steps clock read) (self_run given start kept).has_read words.ticks after [] linked ended (λ readings reads. readings_are clock readings read (ap (λ (c : StepClock). c.step) clock_is) reads ∙ ap (λ (c : StepClock). readings_from c.next (length readings)) clock_is) quiet
     in
-    let ticked : HasRun (self_run given start kept) (count / 100 + 2) after [] linked ended = subst (λ (t : ℕ). HasRun (self_run given start kept) t after [] linked ended) (ap (λ (w : ReplayWords). w.ticks) words_is) told in
+    let ticked : HasRun (self_run given start kept) (ticks_for count) after [] linked ended = subst (λ (t : ℕ). HasRun (self_run given start kept) t after [] linked ended) (ap (λ (w : ReplayWords). w.ticks) words_is) told in
     record {
       given = given;
       is = is;
       ended = ended;
       linked = linked;
       whole = whole;
-      run = subst (λ (k : List Entry). HasRun (self_run given start k) (count / 100 + 2) after [] linked ended) kept_is ticked;
+      run = subst (λ (k : List Entry). HasRun (self_run given start k) (ticks_for count) after [] linked ended) kept_is ticked;
     }
+
+-- the same of what it keeps, however it ends
+kept_as : (ran : Run) (q : List ℕ → Type 0) (kept : List Entry) → ((readings : List ℕ) → ran.has_read readings → q readings) → IsKept ran kept → IsKept (record ran { has_read = q }) kept
+kept_as ran q kept more grown =
+    record { beats = grown.beats; more = grown.more; entries = grown.entries; read = more (readings_of grown.beats ++ grown.more) grown.read; few = grown.few; grows = grown.grows }
+
+pub kept_over : (lines : List ℕ) (count start : ℕ) (before kept after : List Entry) (clock read : StepClock) (link : Linked) (given : Given) → IsSelfGiven lines count start given
+    → kept ≡ before → clock ≡ record { next = start; step = 60 } → link ≡ self_link → IsKept (linked_run given kept clock read link) after → HasGrownOver lines count start before after
+kept_over lines count start before kept after clock read link given is kept_is clock_is link_is grown =
+    let quiet : IsKept (linked_run given kept clock read self_link) after =
+    subst (λ (l : Linked). IsKept (linked_run given kept clock read l) after) link_is grown
+    in
+    let told : IsKept (self_run given start kept) after =
+    kept_as (run_by (self_fixed given kept) steps clock read) (self_run given start kept).has_read after (λ readings reads. readings_are clock readings read (ap (λ (c : StepClock). c.step) clock_is) reads ∙ ap (λ (c : StepClock). readings_from c.next (length readings)) clock_is) quiet
+    in
+    inr (given, is, subst (λ (k : List Entry). IsKept (self_run given start k) after) kept_is told)
+
+pub grown_over : (lines : List ℕ) (count start : ℕ) (before kept after : List Entry) (Begun : Type 0) (Grown : Given → Type 0) → ((after ≡ kept) × Begun) ⊎ ((given : Given) × Grown given) → kept ≡ before → ((given : Given) → Grown given → HasGrownOver lines count start before after) → HasGrownOver lines count start before after
+grown_over lines count start before kept after Begun Grown (inl (same, begun)) kept_is over = inl (same ∙ kept_is)
+grown_over lines count start before kept after Begun Grown (inr (given, grown)) kept_is over = over given grown
+
+-- the calls of its session on the keeper
+pub sealed_over : (count start : ℕ) (words : ReplayWords) (before own after : Calls) (list kept now : List Entry) → words ≡ self_words count start → own ≡ before → kept ≡ list → HasSealed (Unit {0}) own after kept now words.ticks → HasSealed (Unit {0}) before after list now (ticks_for count)
+sealed_over count start words before own after list kept now is calls_are kept_is sealed =
+    subst (λ (k : List Entry). HasSealed (Unit {0}) before after k now (ticks_for count)) kept_is
+    (subst (λ (calls : Calls). HasSealed (Unit {0}) calls after kept now (ticks_for count)) calls_are
+    (subst (λ (w : ReplayWords). HasSealed (Unit {0}) own after kept now w.ticks) is sealed))
+
+pub stopped_over : (count start : ℕ) (words : ReplayWords) (before own after : Calls) (list kept now : List Entry) → words ≡ self_words count start → own ≡ before → kept ≡ list → HasStopped (Unit {0}) own after kept now words.ticks → HasStopped (Unit {0}) before after list now (ticks_for count)
+stopped_over count start words before own after list kept now is calls_are kept_is stopped =
+    subst (λ (k : List Entry). HasStopped (Unit {0}) before after k now (ticks_for count)) kept_is
+    (subst (λ (calls : Calls). HasStopped (Unit {0}) calls after kept now (ticks_for count)) calls_are
+    (subst (λ (w : ReplayWords). HasStopped (Unit {0}) own after kept now w.ticks) is stopped))
 
 -- a link of which nothing is told yet
 pub view_none : (sent waiting : List (List ℕ)) (faults : ℕ) → sent ≡ [] → waiting ≡ [] → faults ≡ 0 → view_with sent waiting faults ≡ no_view

@@ -1,5 +1,5 @@
 -- What `selftest` does.
-use Rattle.std.specs.Prelude.{◌≡◌, ℕ, zero, suc, ◌+◌, ◌-◌, ◌/◌, ◌^◌, min, true, false, List, [], ◌∷◌, ◌++◌, length, take, codes, None, Some}
+use Rattle.std.specs.Prelude.{◌≡◌, ◌⊎◌, ℕ, zero, suc, ◌+◌, ◌-◌, ◌/◌, ◌^◌, min, true, false, List, [], ◌∷◌, ◌++◌, length, take, codes, None, Some}
 use Rattle.osq_value.specs.declared.source.SourceKind.TheVariants.{Changes}
 use Rattle.osq_value.specs.declared.source.SourceName.{SourceName}
 use Rattle.config_files.specs.Configurations.{IsConfigOf}
@@ -15,7 +15,7 @@ use Rattle.session_model.specs.Orders.{in_turn}
 use Rattle.replay_rounds.specs.declared.running.Ended.{Ended}
 use Rattle.forward_rounds.specs.Forwarding.{View}
 use Rattle.replay_rounds.specs.Fixed.{Fixed, Linked, Run}
-use Rattle.replay_rounds.specs.Running.{HasRun}
+use Rattle.replay_rounds.specs.Running.{HasRun, IsKept}
 use Rattle.osq_program.specs.declared.status.Status.{Status}
 use Rattle.osq_program.specs.declared.status.Status.TheVariants.{Ok as Done, SinkFault}
 use Rattle.osq_program.specs.Answers.{Causes, IsCaused, IsDoneStatus, IsRefusal, IsSpentStatus, no_causes}
@@ -36,6 +36,9 @@ abbrev pub self_sources : List SourceName
 self_sources = (record { kind = Changes; name = codes "generated" }) ∷ []
 
 -- a tick for each hundred lines, and two more
+abbrev pub ticks_for : ℕ → ℕ
+ticks_for count = count / 100 + 2
+
 abbrev pub self_words : ℕ → ℕ → ReplayWords
 self_words count start = record {
   config = config_path;
@@ -46,7 +49,7 @@ self_words count start = record {
   store = None;
   start = Some start;
   step = 60;
-  ticks = count / 100 + 2;
+  ticks = ticks_for count;
   records = 100;
   link = None;
 }
@@ -96,7 +99,12 @@ pub record HasRunOver (lines : List ℕ) (count start : ℕ) (before after : Lis
   pub ended : Ended
   pub linked : View
   pub whole : ended.is_end ≡ true
-  pub run : HasRun (self_run given start before) (count / 100 + 2) after [] linked ended
+  pub run : HasRun (self_run given start before) (ticks_for count) after [] linked ended
+
+-- From one list to another a session ran over these lines, however it ended, or none was begun.
+abbrev pub HasGrownOver : (lines : List ℕ) (count start : ℕ) (before after : List Entry) → Type 0
+HasGrownOver lines count start before after =
+    (after ≡ before) ⊎ ((given : Given) × IsSelfGiven lines count start given × IsKept (self_run given start before) after)
 
 -- the line tells the numbers of a list that such a session left, over the generated lines and behind an empty list
 pub record HasTested (w : GenerateWords) (line : List ℕ) : Type 0 where

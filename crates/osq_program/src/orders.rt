@@ -6,7 +6,8 @@ ghost use Rattle.program_words.specs.Commands.{forwards};
 ghost use Rattle.session_model.specs.Orders.{at_once, in_turn};
 ghost use Rattle.daemon_rounds.specs.Orders.{EndsRound};
 ghost use Rattle.daemon_rounds.specs.Rounding.{AreGoing};
-ghost use Rattle.osq_program.specs.Answers.{IsUsageStatus};
+ghost use Rattle.replay_rounds.specs.Called.{HasSealedOf, HasStoppedOf};
+ghost use Rattle.osq_program.specs.Answers.{IsDoneStatus, IsUsageStatus};
 ghost use Rattle.osq_program.specs.Replaying.{IsReplay};
 ghost use Rattle.osq_program.specs.Telling.{TellsReplay};
 
@@ -41,6 +42,8 @@ pub(crate) fn run_in_turn<S: Source, O: Sink, F: Files, C: Clock, K: Keeper, L: 
     ensures ledger { outside.new.ledger ≡ outside.old.ledger }
     ensures sources { vec_len outside.new.sources ≡ vec_len outside.old.sources }
     ensures does { IsReplay in_turn words.now (⟦<Outside<S, O, F, C, K, L> as Observes>⟧.observed outside.old outside.new) result }
+    ensures sealed { K.counts → forwards words.now ≡ false → IsDoneStatus result → HasSealedOf K.Keeper outside.old.keeper outside.new.keeper words.now.ticks }
+    ensures stopped { K.counts → forwards words.now ≡ false → result ≡ Status.KeeperFault → HasStoppedOf K.Keeper outside.old.keeper outside.new.keeper words.now.ticks }
     ensures told { TellsReplay in_turn words.now (⟦<Outside<S, O, F, C, K, L> as Observes>⟧.observed outside.old outside.new) result }
 {
     let call = |alloc: Global, state: &mut State, feeds: &mut [Feed], sources: &mut [S], most: u64| -> Taken
@@ -106,6 +109,8 @@ pub(crate) fn run_by_threads<
     ensures ledger { outside.new.ledger ≡ outside.old.ledger }
     ensures sources { vec_len outside.new.sources ≡ vec_len outside.old.sources }
     ensures does { IsReplay at_once words.now.run (⟦<Outside<S, O, F, C, K, L> as Observes>⟧.observed outside.old outside.new) result }
+    ensures sealed { K.counts → forwards words.now.run ≡ false → IsDoneStatus result → HasSealedOf K.Keeper outside.old.keeper outside.new.keeper words.now.run.ticks }
+    ensures stopped { K.counts → forwards words.now.run ≡ false → result ≡ Status.KeeperFault → HasStoppedOf K.Keeper outside.old.keeper outside.new.keeper words.now.run.ticks }
     ensures told { TellsReplay at_once words.now.run (⟦<Outside<S, O, F, C, K, L> as Observes>⟧.observed outside.old outside.new) result }
 {
     let by = Threaded {

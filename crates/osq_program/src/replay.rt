@@ -3,7 +3,8 @@
 ghost use Rattle.std.specs.Prelude.{◌≡◌, ◌-◌, ℕ, false, List, [], ◌∷◌, vec_len, length};
 ghost use Rattle.program_words.specs.Bounds.{SessionBounds};
 ghost use Rattle.program_words.specs.Commands.{forwards};
-ghost use Rattle.osq_program.specs.Answers.{IsUsageStatus};
+ghost use Rattle.replay_rounds.specs.Called.{HasSealedOf, HasStoppedOf};
+ghost use Rattle.osq_program.specs.Answers.{IsDoneStatus, IsUsageStatus};
 ghost use Rattle.osq_program.specs.Replaying.{IsReplay};
 ghost use Rattle.osq_program.specs.Telling.{TellsReplay};
 
@@ -47,6 +48,8 @@ pub(crate) fn run_replay<
     ensures ledger { outside.new.ledger ≡ outside.old.ledger }
     ensures sources { vec_len outside.new.sources ≡ vec_len outside.old.sources }
     ensures does { IsReplay T.order words.now (⟦<Outside<S, O, F, C, K, L> as Observes>⟧.observed outside.old outside.new) result }
+    ensures sealed { K.counts → forwards words.now ≡ false → IsDoneStatus result → HasSealedOf K.Keeper outside.old.keeper outside.new.keeper words.now.ticks }
+    ensures stopped { K.counts → forwards words.now ≡ false → result ≡ Status.KeeperFault → HasStoppedOf K.Keeper outside.old.keeper outside.new.keeper words.now.ticks }
     ensures told { TellsReplay T.order words.now (⟦<Outside<S, O, F, C, K, L> as Observes>⟧.observed outside.old outside.new) result }
 {
     let configured = match configured(alloc, &mut outside.files, &words.config) {

@@ -2,19 +2,25 @@
 
 ghost use Rattle.std.specs.Prelude.{◌≡◌, ◌≤◌, ◌<◌, ◌^◌, ℕ, ◌∷◌, [], map, vec_len, Some, IfOk};
 ghost use Rattle.forward_rounds.specs.Forwarding.{view_of};
+ghost use Rattle.kept_report.specs.Counting.{numbers_in};
+ghost use Rattle.replay_rounds.specs.Called.{HasSealedOf, HasStoppedOf};
 ghost use Rattle.osq_program.specs.Answers.{IsDoneStatus};
-ghost use Rattle.osq_program.specs.SelfTesting.{HasRunOver, config_path, document, no_view, self_sources, self_words};
+ghost use Rattle.osq_program.specs.SelfTesting.{HasGrownOver, HasRunOver, config_path, document, no_view, self_key, self_sources, self_words, ticks_for};
 
 use crate::orders::run_in_turn;
 use crate::outside::Outside;
 use crate::status::Status;
 use batch_forwarder::{Link, MemoryLink};
 use batch_keeper::{Keeper, MemoryKeeper};
+use entry_model::entry::EntryList;
+use entry_summary::summary::summary_of;
+use kept_report::{ListNumbers, numbers_of};
 use osq_outside::{
     FailList, FileSink, Files, MemoryFiles, MemorySource, NamedFile, NamedFileList, Source,
     StepClock,
 };
 use osq_value::{Bytes, NoMemory, Sequence, SourceKind, SourceName, SourceNameList, Str};
+use pack_rules::schedule::{Mode, QueryKey};
 use program_words::ReplayWords;
 use std::alloc::Global;
 use std::io::{self, Sink};
@@ -31,6 +37,20 @@ const LINES: &str = "generated";
 
 /// The most records of one step.
 const RECORDS: u64 = 100;
+
+/// When the first session begins, in seconds since 1970 UTC.
+pub(crate) const START: u64 = 1000;
+
+/// How many seconds lie between two ticks.
+pub(crate) const STEP: u64 = 60;
+
+/// How many ticks a session over so many lines has: one for each hundred, and two more.
+pub(crate) fn ticks_for(count: u64) -> u64
+    requires { count ≤ 1000000 }
+    ensures { result ≡ ticks_for count }
+{
+    count / RECORDS + 2
+}
 
 /// All that the session reaches. Its results and its status lines go nowhere.
 type Inside = Outside<
@@ -67,8 +87,8 @@ fn words_for(alloc: Global, count: u64, start: u64) -> Result<ReplayWords, NoMem
         sources: sources_of(alloc)?,
         store: None,
         start: Some(start),
-        step: 60,
-        ticks: count / RECORDS + 2,
+        step: STEP,
+        ticks: ticks_for(count),
         records: RECORDS,
         link: None,
     })
@@ -118,11 +138,29 @@ fn inside_of(
         files: files_of(alloc)?,
         clock: StepClock {
             next: start,
-            step: 60,
+            step: STEP,
         },
         keeper,
         link: link_of(alloc),
     })
+}
+
+/// The query of the session.
+fn query_of(alloc: Global) -> Result<QueryKey, NoMemory>
+    ensures { IfOk result (λ query. query ≡ self_key) }
+{
+    let name = Str::of(alloc, "all")?;
+    let text = Str::of(alloc, "SELECT target_path FROM file_events")?;
+    Ok(QueryKey::read(name, text, Mode::Evented))
+}
+
+/// The numbers of a list.
+pub(crate) fn self_numbers(alloc: Global, list: &EntryList) -> Result<ListNumbers, NoMemory>
+    ensures { IfOk result (λ numbers. numbers ≡ numbers_in self_key list.now) }
+{
+    let query = query_of(alloc)?;
+    let values = summary_of(alloc, list.as_slice())?;
+    numbers_of(&values, list.as_slice(), &query)
 }
 
 /// How a session ended, with the keeper behind it.
@@ -145,7 +183,10 @@ pub(crate) fn run_over(
 ) -> Result<Ran, NoMemory>
     requires count { count ≤ 1000000 }
     requires start { start < 2 ^ 63 }
-    ensures { IfOk result (λ ran. IsDoneStatus ran.status → HasRunOver lines count start (⟦<MemoryKeeper as Keeper>⟧.kept keeper) (⟦<MemoryKeeper as Keeper>⟧.kept ran.keeper)) }
+    ensures done { IfOk result (λ ran. IsDoneStatus ran.status → HasRunOver lines count start (⟦<MemoryKeeper as Keeper>⟧.kept keeper) (⟦<MemoryKeeper as Keeper>⟧.kept ran.keeper)) }
+    ensures kept { IfOk result (λ ran. HasGrownOver lines count start (⟦<MemoryKeeper as Keeper>⟧.kept keeper) (⟦<MemoryKeeper as Keeper>⟧.kept ran.keeper)) }
+    ensures sealed { IfOk result (λ ran. IsDoneStatus ran.status → HasSealedOf ⟦<MemoryKeeper as Keeper>⟧ keeper ran.keeper (ticks_for count)) }
+    ensures stopped { IfOk result (λ ran. ran.status ≡ Status.KeeperFault → HasStoppedOf ⟦<MemoryKeeper as Keeper>⟧ keeper ran.keeper (ticks_for count)) }
 {
     let words = words_for(alloc, count, start)?;
     let mut inside = inside_of(alloc, lines, start, keeper)?;

@@ -1,50 +1,24 @@
 //! The command `selftest`: a session over generated lines in memory, and the numbers that it left.
 
 ghost use Rattle.std.specs.Prelude.{◌≡◌, IfOk};
-ghost use Rattle.kept_report.specs.Counting.{numbers_in, numbers_line};
 ghost use Rattle.program_words.specs.Bounds.{GenerateBounds};
 ghost use Rattle.osq_program.specs.Answers.{IsUsageStatus};
-ghost use Rattle.osq_program.specs.SelfTesting.{HasTested, IsSelfTest, self_key};
+ghost use Rattle.osq_program.specs.SelfTesting.{HasTested, IsSelfTest};
 ghost use Rattle.osq_program.specs.Telling.{TellsAlone};
 
 use crate::outside::{Observes, Outside};
-use crate::self_session::{Ran, run_over};
+use crate::self_session::{Ran, START, run_over, self_numbers};
 use crate::status::Status;
 use crate::stop::{refuse, starve};
 use batch_forwarder::Link;
 use batch_keeper::{Keeper, MemoryKeeper};
 use entry_model::entry::EntryList;
 use generated_changes::lines_of;
-use kept_report::{numbers_line, numbers_of};
+use kept_report::numbers_line;
 use osq_outside::{Clock, FailList, Files, Sink, Source, write_all};
-use osq_value::{Bytes, NoMemory, Str};
-use pack_rules::schedule::{Mode, QueryKey};
+use osq_value::{Bytes, NoMemory};
 use program_words::GenerateWords;
 use std::alloc::Global;
-
-/// When the session begins, in seconds since 1970 UTC.
-const START: u64 = 1000;
-
-/// The query of the session.
-fn query_of(alloc: Global) -> Result<QueryKey, NoMemory>
-    ensures { IfOk result (λ query. query ≡ self_key) }
-{
-    let name = Str::of(alloc, "all")?;
-    let text = Str::of(alloc, "SELECT target_path FROM file_events")?;
-    Ok(QueryKey::read(name, text, Mode::Evented))
-}
-
-/// The line of the numbers of a list.
-fn line_of(alloc: Global, keeper: &mut MemoryKeeper) -> Result<Bytes, NoMemory>
-    ensures { IfOk result (λ line. line ≡ numbers_line (numbers_in self_key (⟦<MemoryKeeper as Keeper>⟧.kept keeper.old))) }
-{
-    let query = query_of(alloc)?;
-    let Ok(values) = keeper.load(alloc) else {
-        return Err(NoMemory);
-    };
-    let numbers = numbers_of(&values, keeper.entries().as_slice(), &query)?;
-    numbers_line(alloc, numbers)
-}
 
 /// The line of a self test. Over objects in memory that never fail, a session ends early only for want of memory.
 fn tested(alloc: Global, words: &GenerateWords) -> Result<Bytes, NoMemory>
@@ -53,9 +27,9 @@ fn tested(alloc: Global, words: &GenerateWords) -> Result<Bytes, NoMemory>
 {
     let lines = lines_of(alloc, words.from, words.count)?;
     let keeper = MemoryKeeper::new(EntryList::new(alloc), FailList::new(alloc), false);
-    let Ran { status, mut keeper } = run_over(alloc, lines, words.count, START, keeper)?;
+    let Ran { status, keeper } = run_over(alloc, lines, words.count, START, keeper)?;
     match status {
-        Status::Ok => line_of(alloc, &mut keeper),
+        Status::Ok => numbers_line(alloc, self_numbers(alloc, keeper.entries())?),
         _ => Err(NoMemory),
     }
 }

@@ -10,8 +10,10 @@ use Rattle.daemon_rounds.specs.declared.error.TakeError.TheVariants as taking
 use Rattle.entry_model.specs.declared.entry.Entry.{Entry}
 use Rattle.replay_rounds.specs.Fixed.{Fixed}
 use Rattle.session_state.specs.Kept.{Kept}
-use Rattle.replay_rounds.specs.Refusals.{tick_numbers, unfilled_by, unfinished_by, unfinished_numbers, unopened_by}
+use Rattle.replay_rounds.specs.Refusals.{tick_numbers, unfilled_by, unfinished_by, unfinished_numbers, unloaded_by, unopened_by}
 use Rattle.replay_rounds.specs.Running.{IsWritten}
+use Rattle.replay_rounds.specs.declared.loading.LoadError.{LoadError}
+use Rattle.replay_rounds.specs.declared.loading.LoadError.TheVariants as loading
 use Rattle.replay_rounds.specs.declared.refused.Numbers.{Numbers}
 use Rattle.replay_rounds.specs.declared.refused.Refused.{Refused}
 use Rattle.replay_rounds.specs.declared.refused.RunError.{RunError}
@@ -57,6 +59,11 @@ unfinished_spent finish.NumbersSpent h = refl
 unfinished_spent finish.KeeperFault h = cc
 unfinished_spent finish.SinkFault h = cc
 unfinished_spent finish.NoMemory h = cc
+
+pub unloaded_keeper : (e : LoadError) → unloaded_by e ≡ run.KeeperFault → e ≡ loading.KeeperFault
+unloaded_keeper loading.KeeperFault h = refl
+unloaded_keeper (loading.KeeperRefused kept) h = cc
+unloaded_keeper loading.NoMemory h = cc
 
 pub unfinished_keeper : (e : FinishError) → unfinished_by e ≡ run.KeeperFault → e ≡ finish.KeeperFault
 unfinished_keeper finish.NumbersSpent h = cc

@@ -3,6 +3,7 @@ pub mod Answered
 pub mod AtOnce
 pub mod Begins
 pub mod Begun
+pub mod Called
 pub mod Causes
 pub mod Counted
 pub mod Done

@@ -1,3 +1,4 @@
+pub mod Called
 pub mod Fixed
 pub mod FullTicks
 pub mod Linking

@@ -1,5 +1,5 @@
--- Entries of one tick alone.
-use Rattle.std.specs.Prelude.{◌≡◌, Bool, true, false, All, List, [], ◌∷◌, ◌++◌}
+-- Ticks among entries, and entries of one tick alone.
+use Rattle.std.specs.Prelude.{◌≡◌, ℕ, Bool, true, false, All, List, [], ◌∷◌, ◌++◌, filter, length}
 use Rattle.entry_model.specs.declared.entry.Entry.{Entry}
 use Rattle.entry_model.specs.declared.entry.Entry.TheVariants.{Ticked}
 use Rattle.session_model.specs.Working.{is_batch}
@@ -7,6 +7,10 @@ use Rattle.session_model.specs.Working.{is_batch}
 abbrev pub is_tick : Entry → Bool
 is_tick (Ticked moment) = true
 is_tick _ = false
+
+-- how many ticks begin among these entries
+abbrev pub ticks_of : List Entry → ℕ
+ticks_of entries = length (filter is_tick entries)
 
 -- nothing, or the entries of one tick
 abbrev pub IsOneTick : List Entry → Type 0

@@ -35,6 +35,7 @@ pub(crate) fn forward_sealed<K: Keeper, L: Link>(
     ensures beyond { IfOk result (λ marks. AreBeyond state.now.counts.acked state.now.counts.batches marks) }
     ensures kept { K.tells → K.kept keeper.new ≡ K.kept keeper.old }
     ensures unlinked { basis.now.setup.forward ≡ false → link.new ≡ link.old }
+    ensures still { basis.now.setup.forward ≡ false → keeper.new ≡ keeper.old }
     ensures forwards { OnErr result (basis.now.setup.forward ≡ true) }
     ensures cause { IfErr result (λ refused. IsUnforwarded (Rose (K.faults keeper.old) (K.faults keeper.new)) refused.error) }
     ensures numbers { IfErr result (λ refused. refused.numbers ≡ Some (numbers_of state.now)) }
@@ -86,6 +87,7 @@ pub(crate) fn forward_last<K: Keeper, L: Link>(
     ensures kept { K.tells → OnErr result (IsPartlyOver K.Keeper L.Link basis.now keeper.old keeper.new link.old link.new) }
     ensures unkept { K.tells → IfErr result (λ refused. refused.error ≢ RunError.KeeperFault → K.kept keeper.new ≡ K.kept keeper.old) }
     ensures unlinked { basis.now.setup.forward ≡ false → link.new ≡ link.old }
+    ensures still { basis.now.setup.forward ≡ false → keeper.new ≡ keeper.old }
     ensures forwards { OnErr result (basis.now.setup.forward ≡ true) }
     ensures cause { IfErr result (λ refused. IsUnforwarded (Rose (K.faults keeper.old) (K.faults keeper.new)) refused.error) }
     ensures numbers { IfErr result (λ refused. refused.numbers ≡ Some (numbers_of state.old)) }

@@ -1,6 +1,7 @@
 //! The values that a session goes on from.
 
 ghost use Rattle.std.specs.Prelude.{◌≡◌, ◌≤◌, Err, IfOk, OnOk};
+ghost use Rattle.batch_keeper.specs.Calling.{Fails, Passes};
 ghost use Rattle.osq_outside.specs.Causes.{Rose};
 ghost use Rattle.entry_model.specs.Fits.{Fits};
 ghost use Rattle.entry_model.specs.Legal.{Legal};
@@ -38,6 +39,8 @@ pub fn load_values<K: Keeper>(alloc: Global, keeper: &mut K) -> Result<Restored,
     ensures illegal { K.tells → (kept : Numbers) → result ≡ Err (LoadError.KeeperRefused kept) → ¬ Legal (K.kept keeper.old) }
     ensures numbers { K.tells → (kept : Numbers) → result ≡ Err (LoadError.KeeperRefused kept) → HasNumbers (K.kept keeper.old) kept }
     ensures cause { result ≡ Err LoadError.KeeperFault → Rose (K.faults keeper.old) (K.faults keeper.new) }
+    ensures passed { K.counts → OnOk result (Passes (K.calls keeper.old) 1 (K.calls keeper.new)) }
+    ensures failed { K.counts → result ≡ Err LoadError.KeeperFault → Fails (K.calls keeper.old) 0 (K.calls keeper.new) }
     ensures later { K.faults keeper.old ≤ K.faults keeper.new }
 {
     laws::fitting();

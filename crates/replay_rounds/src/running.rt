@@ -1,6 +1,6 @@
 //! A whole session.
 
-ghost use Rattle.std.specs.Prelude.{◌≡◌, ◌<◌, ◌≤◌, ◌⊎◌, ℕ, true, false, length, bytes_eq, [], ◌∷◌, ◌++◌, List, Some, Err, IfOk, IfErr};
+ghost use Rattle.std.specs.Prelude.{◌≡◌, ◌<◌, ◌≤◌, ◌⊎◌, ℕ, true, false, length, bytes_eq, [], ◌∷◌, ◌++◌, List, Some, Err, IfOk, IfErr, OnOk};
 ghost use Rattle.osq_value.specs.declared.moment.TheConstants.{LAST_MOMENT};
 ghost use Rattle.config_files.specs.Configurations.{IsConfigOf};
 ghost use Rattle.osq_config.specs.Bounds.{IsBounded};
@@ -14,6 +14,7 @@ ghost use Rattle.forward_rounds.specs.Forwarding.{view_of};
 ghost use Rattle.daemon_rounds.specs.Moments.{IsRead};
 ghost use Rattle.daemon_rounds.specs.Rounding.{FailsAt};
 ghost use Rattle.daemon_rounds.specs.Starting.{source_names};
+ghost use Rattle.replay_rounds.specs.Called.{HasSealedOf, HasStoppedOf};
 ghost use Rattle.replay_rounds.specs.Fixed.{fixed_of};
 ghost use Rattle.replay_rounds.specs.Noting.{HasTold, HasToldSome, IsBetween, IsGrown, IsNotedAt, skipped_lines};
 ghost use Rattle.replay_rounds.specs.Refusals.{numbers_of};
@@ -145,6 +146,8 @@ pub fn run_session<T: TakesRound<S>, S: Source, K: Keeper, O: Sink, C: Clock, L:
     requires ticks { 1 ≤ basis.now.setup.ticks }
     requires host { basis.now.setup.forward ≡ true → is_host basis.now.setup.host.identifier ≡ true }
     ensures done { IfOk result (λ ended. HasRun (run_of T.order K.Keeper O.Sink S.Source L.Link C.Clock basis.now sources.old keeper.old results.old link.old clock.old clock.new) basis.now.setup.ticks (K.kept keeper.new) (O.written results.new) (view_of L.Link link.new) ended) }
+    ensures sealed { K.counts → basis.now.setup.forward ≡ false → OnOk result (HasSealedOf K.Keeper keeper.old keeper.new basis.now.setup.ticks) }
+    ensures failed { K.counts → basis.now.setup.forward ≡ false → (refused : Refused) → result ≡ Err refused → refused.error ≡ RunError.KeeperFault → HasStoppedOf K.Keeper keeper.old keeper.new basis.now.setup.ticks }
     ensures fit { K.tells → IfOk result (λ ended. Fits (summary (K.kept keeper.old))) }
     ensures stops { IfErr result (λ refused. Stops (run_of T.order K.Keeper O.Sink S.Source L.Link C.Clock basis.now sources.old keeper.old results.old link.old clock.old clock.new) (K.kept keeper.new) (status.new ≡ status.old) refused.error refused.numbers) }
     ensures kept { K.tells → IsKept (run_of T.order K.Keeper O.Sink S.Source L.Link C.Clock basis.now sources.old keeper.old results.old link.old clock.old clock.new) (K.kept keeper.new) }

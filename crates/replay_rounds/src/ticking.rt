@@ -1,11 +1,13 @@
 //! A whole tick.
 
-ghost use Rattle.std.specs.Prelude.{◌≡◌, ◌≢◌, ◌≤◌, ℕ, length, [], Some, Err, IfOk, IfErr, OnErr};
+ghost use Rattle.std.specs.Prelude.{◌≡◌, ◌≢◌, ◌≤◌, ◌+◌, ℕ, length, [], Some, Err, IfOk, IfErr, OnOk, OnErr, if◌then◌else◌};
 ghost use Rattle.osq_value.specs.declared.moment.TheConstants.{LAST_MOMENT};
 ghost use Rattle.osq_config.specs.Bounds.{IsBounded};
+ghost use Rattle.batch_keeper.specs.Calling.{Fails, Passes};
 ghost use Rattle.osq_outside.specs.Causes.{Rose};
 ghost use Rattle.daemon_rounds.specs.Keeping.{GoesOn};
 ghost use Rattle.daemon_rounds.specs.Rounding.{AllCount, FailsAt};
+ghost use Rattle.replay_rounds.specs.OneTick.{ticks_of};
 ghost use Rattle.replay_rounds.specs.Refusals.{tick_numbers};
 ghost use Rattle.replay_rounds.specs.Standing.{IsReady};
 ghost use Rattle.forward_rounds.specs.Forwarding.{AreBeyond};
@@ -71,6 +73,9 @@ pub fn take_tick<T: TakesRound<S>, S: Source, K: Keeper, O: Sink>(
     ensures spent { (refused : Refused) → result ≡ Err refused → refused.error ≡ RunError.NumbersSpent → SpendsTickOf T.order S.Source basis.now tick feeds.old feeds.new sources.old sources.new state.old state.new }
     ensures unkept { K.tells → (refused : Refused) → result ≡ Err refused → refused.error ≢ RunError.KeeperFault → refused.error ≢ RunError.SinkFault → K.kept keeper.new ≡ K.kept keeper.old }
     ensures keeper_cause { (refused : Refused) → result ≡ Err refused → refused.error ≡ RunError.KeeperFault → Rose (K.faults keeper.old) (K.faults keeper.new) }
+    ensures passed { K.counts → OnOk result (Passes (K.calls keeper.old) 1 (K.calls keeper.new)) }
+    ensures failed { K.counts → (refused : Refused) → result ≡ Err refused → refused.error ≡ RunError.KeeperFault → Fails (K.calls keeper.old) 0 (K.calls keeper.new) }
+    ensures failed_kept { K.counts → K.tells → (refused : Refused) → result ≡ Err refused → refused.error ≡ RunError.KeeperFault → ticks_of (K.kept keeper.new) ≡ ticks_of (K.kept keeper.old) + (if (K.calls keeper.old).is_whole then ticks_of state.old.tail + 1 else 0) }
     ensures sink_cause { (refused : Refused) → result ≡ Err refused → refused.error ≡ RunError.SinkFault → Rose (O.faults results.old) (O.faults results.new) }
     ensures later { (K.faults keeper.old ≤ K.faults keeper.new) × (O.faults results.old ≤ O.faults results.new) }
 {
@@ -131,6 +136,9 @@ pub(crate) fn take_next<T: TakesRound<S>, S: Source, K: Keeper, O: Sink>(
     ensures spent { (refused : Refused) → result ≡ Err refused → refused.error ≡ RunError.NumbersSpent → SpendsNextOf T.order S.Source basis.now tick marks.now feeds.old feeds.new sources.old sources.new state.old state.new }
     ensures unkept { K.tells → (refused : Refused) → result ≡ Err refused → refused.error ≢ RunError.KeeperFault → refused.error ≢ RunError.SinkFault → K.kept keeper.new ≡ K.kept keeper.old }
     ensures keeper_cause { (refused : Refused) → result ≡ Err refused → refused.error ≡ RunError.KeeperFault → Rose (K.faults keeper.old) (K.faults keeper.new) }
+    ensures passed { K.counts → OnOk result (Passes (K.calls keeper.old) 1 (K.calls keeper.new)) }
+    ensures failed { K.counts → (refused : Refused) → result ≡ Err refused → refused.error ≡ RunError.KeeperFault → Fails (K.calls keeper.old) 0 (K.calls keeper.new) }
+    ensures failed_kept { K.counts → K.tells → (refused : Refused) → result ≡ Err refused → refused.error ≡ RunError.KeeperFault → ticks_of (K.kept keeper.new) ≡ ticks_of (K.kept keeper.old) + (if (K.calls keeper.old).is_whole then 1 else 0) }
     ensures sink_cause { (refused : Refused) → result ≡ Err refused → refused.error ≡ RunError.SinkFault → Rose (O.faults results.old) (O.faults results.new) }
     ensures later { (K.faults keeper.old ≤ K.faults keeper.new) × (O.faults results.old ≤ O.faults results.new) }
 {

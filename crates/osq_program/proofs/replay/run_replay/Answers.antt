@@ -1,12 +1,15 @@
 use Rattle.std.proofs.Common.{refl, ℕ, ◌-◌, List, ap, sym, subst, ◌∙◌, map, length}
 use Rattle.osq_value.specs.declared.source.SourceName.{SourceName}
 use Rattle.daemon_rounds.specs.declared.setup.Setup.{Setup}
+use Rattle.replay_rounds.specs.Called.{HasSealedOf, HasStoppedOf}
+use Rattle.osq_program.specs.Answers.{IsDoneStatus}
 use Rattle.osq_program.specs.Ending.{IsAnswerTo}
 use Rattle.osq_program.proofs.Ended.{failed_before, rose_behind}
 use Rattle.osq_program.specs.Telling.{MayReplayTell, TellsSome}
 use Rattle.osq_program.specs.declared.status.Status.TheVariants.{OutOfMemory}
 use Rattle.osq_program.proofs.Endings.{ran_telling_if, replay_may, stopped_telling_if, untold_replay}
-use Rattle.osq_program.proofs.Replays.{answered, fails_there, given_is, is_within, no_memory, ran_if, refused_config, shrank_by, stopped_if}
+use Rattle.osq_program.proofs.KeeperCalls.{answer_keeper, answer_not_done, caused_keeper, refused_keeper, starved_keeper, stopped_keeper, stopped_not_done}
+use Rattle.osq_program.proofs.Replays.{answered, fails_there, given_is, is_within, no_memory, not_done, ran_if, refused_config, shrank_by, stopped_if}
 use Rattle.osq_program.proofs.Setups.{for_ticks, setup_distinct, setup_forwards, setup_host, setup_paired, setup_ticks}
 use Rattle.osq_program.proofs.Toldings.{stopped_cause, tells_line, tells_unconfigured, unconfigured_cause}
 use Rattle.osq_program.proofs.replay.run_replay.Goals as goal
@@ -130,3 +133,35 @@ returns-clause-told g c =
     let answer = subst (λ (sources : List SourceName). IsAnswerTo sources r.error c.answer_to-status.result) c.as_slice.ensures c.answer_to-status.ensures in
     stopped_telling_if order words _ _ is setup.forward same words.sources r.error c.answer_to-status.result c.stop.result (g.O.Sink.written c.run_session.new.status) _ _ answer (rose_behind _ _ _ s.later.2) _ count
     r.numbers s.stops (λ same. ap g.O.Sink.written same) (λ tells. failed_before _ _ _ _ c.stop.ensures.later (s.stops_telling tells)) c.stop.ensures.told c.stop.ensures.same
+
+pub returns-in-Err-clause-sealed : goal.returns-in-Err-clause-sealed
+returns-in-Err-clause-sealed g c counts off done =
+    absurd (not_done _ c.refuse_unconfigured.result (unconfigured_cause _ _ _ c.in-Err.refused c.refuse_unconfigured.result c.in-Err.ensures.cause c.refuse_unconfigured.ensures.same) done)
+
+pub returns-in-Err-clause-stopped : goal.returns-in-Err-clause-stopped
+returns-in-Err-clause-stopped g c counts off failed =
+    absurd (caused_keeper _ c.refuse_unconfigured.result (unconfigured_cause _ _ _ c.in-Err.refused c.refuse_unconfigured.result c.in-Err.ensures.cause c.refuse_unconfigured.ensures.same) failed)
+
+pub returns-in_default-clause-sealed : goal.returns-in_default-clause-sealed
+returns-in_default-clause-sealed g c counts off done = absurd (subst IsDoneStatus c.starve.ensures.same done)
+
+pub returns-in_default-clause-stopped : goal.returns-in_default-clause-stopped
+returns-in_default-clause-stopped g c counts off failed = absurd (starved_keeper c.starve.result c.starve.ensures.same failed)
+
+pub returns-in-Ok-run_session-clause-sealed : goal.returns-in-Ok-run_session-clause-sealed
+returns-in-Ok-run_session-clause-sealed g c counts off done =
+    let is = c.in-Ok-setup_of.ensures in
+    subst (λ (s : Setup). HasSealedOf g.K.Keeper c.args.outside.now.keeper c.run_session.new.keeper s.ticks) is (c.in-Ok-run_session.ensures.sealed counts (setup_forwards c.in-Ok-setup_of.setup c.args.words.now is ∙ off))
+
+pub returns-in-Ok-run_session-clause-stopped : goal.returns-in-Ok-run_session-clause-stopped
+returns-in-Ok-run_session-clause-stopped g c counts off failed = absurd (refused_keeper _ c.finish.result c.finish.ensures.cause failed)
+
+pub returns-clause-sealed : goal.returns-clause-sealed
+returns-clause-sealed g c counts off done =
+    absurd (stopped_not_done c.answer_to-status.result c.stop.result c.stop.ensures.same (answer_not_done _ c.in-Err-run_session.refused.error c.answer_to-status.result c.answer_to-status.ensures) done)
+
+pub returns-clause-stopped : goal.returns-clause-stopped
+returns-clause-stopped g c counts off failed =
+    let is = c.in-Ok-setup_of.ensures in
+    let why = answer_keeper _ c.in-Err-run_session.refused.error c.answer_to-status.result c.answer_to-status.ensures (stopped_keeper c.answer_to-status.result c.stop.result c.stop.ensures.same failed) in
+    subst (λ (s : Setup). HasStoppedOf g.K.Keeper c.args.outside.now.keeper c.run_session.new.keeper s.ticks) is (c.in-Err-run_session.ensures.failed counts (setup_forwards c.in-Ok-setup_of.setup c.args.words.now is ∙ off) c.in-Err-run_session.refused refl why)

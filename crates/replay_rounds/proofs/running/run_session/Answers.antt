@@ -1,4 +1,5 @@
-use Rattle.std.proofs.Common.{◌≡◌, ℕ, List, map, [], ◌∷◌, ◌++◌, Err, refl, sym, ap, ◌∙◌, subst, arith, inl, inr}
+use Rattle.std.proofs.Common.{◌≡◌, ℕ, ◌+◌, List, map, [], ◌∷◌, ◌++◌, Err, refl, sym, ap, ◌∙◌, subst, arith, inl, inr}
+use Rattle.std.specs.Prelude.{if◌then◌else◌}
 use Rattle.std.proofs.lemmas.List.{append-nil}
 use Rattle.source_feeds.specs.Feeding.{Feeding}
 use Rattle.entry_model.specs.declared.entry.Entry.{Entry}
@@ -11,16 +12,19 @@ use Rattle.daemon_rounds.specs.Ticking.{asks_again}
 use Rattle.daemon_rounds.proofs.Laters.{fails_since}
 use Rattle.forward_rounds.specs.Forwarding.{view_of}
 use Rattle.daemon_rounds.proofs.Keeping.{on_list}
+use Rattle.replay_rounds.specs.Called.{HasSealedOf}
 use Rattle.replay_rounds.specs.Fixed.{fixed_of, linked_by}
 use Rattle.replay_rounds.specs.Linking.{IsUnforwarded, readings_of}
 use Rattle.replay_rounds.specs.Noting.{IsBetween, places_of}
+use Rattle.replay_rounds.specs.OneTick.{ticks_of}
 use Rattle.replay_rounds.specs.Refusals.{numbers_in, numbers_of}
 use Rattle.replay_rounds.specs.Running.{IsKept, IsWritten, ReadsAll, run_of}
 use Rattle.replay_rounds.specs.Sources.{sources_of}
 use Rattle.replay_rounds.specs.Stopping.{AreNumbersOf, AreSealed, HasNumbers, Stops}
 use Rattle.replay_rounds.specs.declared.refused.Numbers.{Numbers}
 use Rattle.replay_rounds.specs.declared.refused.Refused.{Refused}
-use Rattle.replay_rounds.proofs.Causes.{by_sink, same_refusal, spent_not_keeper, spent_not_sink}
+use Rattle.replay_rounds.proofs.Called.{none_acked, none_opening, not_both, on_ok, sealed_first, sealed_next, sealed_ticks, stopped_first, stopped_load, stopped_next, tick_begins}
+use Rattle.replay_rounds.proofs.Causes.{by_sink, same_refusal, spent_not_keeper, spent_not_sink, unloaded_keeper}
 use Rattle.replay_rounds.proofs.Done.{has_run}
 use Rattle.replay_rounds.proofs.Full.{HaveSteps}
 use Rattle.replay_rounds.proofs.Grown.{grown_then, of_error, of_value}
@@ -162,6 +166,8 @@ loop-init g c =
       unlinked = λ off. refl;
       link_later = omega arith;
       ready = c.in-Ok-take_tick.ensures.ready;
+      sealed = λ counts off. sealed_first g.K.Keeper.tells (g.K.Keeper.calls c.args.keeper.now) (g.K.Keeper.calls c.load_values.new.keeper) (g.K.Keeper.calls c.take_tick.new.keeper) (g.K.Keeper.kept c.args.keeper.now) (g.K.Keeper.kept c.load_values.new.keeper) (g.K.Keeper.kept c.take_tick.new.keeper) (c.in-Ok.ensures.passed counts) c.in-Ok.ensures.same (c.in-Ok-take_tick.ensures.passed counts)
+          (λ told. let tick = c.in-Ok-take_tick.ensures.done in sealed_ticks (g.K.Keeper.kept c.load_values.new.keeper) (g.K.Keeper.kept c.take_tick.new.keeper) tick.settled.tail 1 (tick.kept told) (tick_begins _ _ _ _ _ _ _ _ _ _ _ _ _ _ tick.settled tick.done ∙ ap (λ (ticks : ℕ). ticks + 1) (none_opening _ _ _ _ _ _ _ _ _ _ _ _ _ c.in-Ok-open_noted.session.state c.in-Ok-open_noted.ensures.opened.opens)));
       goes_on = c.in-Ok-take_tick.ensures.goes_on;
       keeper_later = omega (arith, loaded, keeper_first);
       results_later = results_first;
@@ -347,6 +353,10 @@ loop-preserved g c =
       unlinked = λ off. c.forward_sealed.ensures.unlinked off ∙ c.loop.invariant.unlinked off;
       link_later = omega (arith, linked, linking);
       ready = c.in-Ok-take_next.ensures.ready;
+      sealed = λ counts off. let (begun, acked, tick) = c.in-Ok-take_next.ensures.done in
+          sealed_next g.K.Keeper.tells (g.K.Keeper.calls c.args.keeper.now) (g.K.Keeper.calls c.forward_sealed.new.keeper) (g.K.Keeper.calls c.take_next.new.keeper) (g.K.Keeper.kept c.args.keeper.now) (g.K.Keeper.kept c.forward_sealed.new.keeper) (g.K.Keeper.kept c.take_next.new.keeper) c.loop.counter
+          (subst (λ (k : _). HasSealedOf g.K.Keeper c.args.keeper.now k c.loop.counter) (sym (c.forward_sealed.ensures.still off)) (c.loop.invariant.sealed counts off)) (c.in-Ok-take_next.ensures.passed counts)
+          (λ told. sealed_ticks (g.K.Keeper.kept c.forward_sealed.new.keeper) (g.K.Keeper.kept c.take_next.new.keeper) tick.settled.tail 1 (tick.kept told) (tick_begins _ _ _ _ _ _ _ _ _ _ _ _ _ _ tick.settled tick.done ∙ ap (λ (ticks : ℕ). ticks + 1) (none_acked c.loop.state c.in-Ok-forward_sealed.marks begun c.loop.invariant.looping.running.added.empty acked)));
       goes_on = c.in-Ok-take_next.ensures.goes_on;
       keeper_later = omega (arith, k, k1, k2);
       results_later = omega (arith, r, r2);
@@ -791,3 +801,58 @@ returns-in-Err-next_moment-clause-unlinked g c off = c.forward_sealed.ensures.un
 
 pub returns-in-Err-take_next-clause-unlinked : goal.returns-in-Err-take_next-clause-unlinked
 returns-in-Err-take_next-clause-unlinked g c off = c.forward_sealed.ensures.unlinked off ∙ c.loop.invariant.unlinked off
+
+pub returns-in-Err-clause-failed : goal.returns-in-Err-clause-failed
+returns-in-Err-clause-failed g c counts off refused is error =
+    let same : c.unloaded.result ≡ refused = same_refusal _ _ is in
+    let why = unloaded_keeper c.in-Err.error (sym c.unloaded.ensures.error ∙ ap (λ (r : Refused). r.error) same ∙ error) in
+    stopped_load g.K.Keeper.tells (g.K.Keeper.calls c.args.keeper.now) (g.K.Keeper.calls c.load_values.new.keeper) (g.K.Keeper.kept c.args.keeper.now) (g.K.Keeper.kept c.load_values.new.keeper) c.args.basis.now.setup.ticks (c.load_values.ensures.failed counts (c.in-Err.is ∙ ap Err why)) c.in-Err.ensures.same
+
+pub returns-in-Err-open_noted-clause-failed : goal.returns-in-Err-open_noted-clause-failed
+returns-in-Err-open_noted-clause-failed g c counts off refused is error =
+    let same : c.in-Err-open_noted.refused ≡ refused = same_refusal _ _ is in
+    absurd (c.in-Err-open_noted.ensures.loaded.0 (ap (λ (r : Refused). r.error) same ∙ error))
+
+pub returns-in-Err-take_tick-clause-failed : goal.returns-in-Err-take_tick-clause-failed
+returns-in-Err-take_tick-clause-failed g c counts off refused is error =
+    let same : c.in-Err-take_tick.refused ≡ refused = sym c.told.ensures.same ∙ same_refusal _ _ is in
+    let because = ap (λ (r : Refused). r.error) same ∙ error in
+    let none = none_opening _ _ _ _ _ _ _ _ _ _ _ _ _ c.in-Ok-open_noted.session.state c.in-Ok-open_noted.ensures.opened.opens in
+    stopped_first g.K.Keeper.tells (g.K.Keeper.calls c.args.keeper.now) (g.K.Keeper.calls c.load_values.new.keeper) (g.K.Keeper.calls c.take_tick.new.keeper) (g.K.Keeper.kept c.args.keeper.now) (g.K.Keeper.kept c.load_values.new.keeper) (g.K.Keeper.kept c.take_tick.new.keeper) c.args.basis.now.setup.ticks c.requires.ticks (c.in-Ok.ensures.passed counts) c.in-Ok.ensures.same (c.take_tick.ensures.failed counts c.in-Err-take_tick.refused c.in-Err-take_tick.is because)
+    (λ told. c.take_tick.ensures.failed_kept counts told c.in-Err-take_tick.refused c.in-Err-take_tick.is because ∙ ap (λ (ticks : ℕ). ticks_of (g.K.Keeper.kept c.load_values.new.keeper) + (if (g.K.Keeper.calls c.load_values.new.keeper).is_whole then ticks + 1 else 0)) none)
+
+pub returns-in-Err-forward_sealed-clause-failed : goal.returns-in-Err-forward_sealed-clause-failed
+returns-in-Err-forward_sealed-clause-failed g c counts off refused is error =
+    absurd (not_both _ c.in-Err-forward_sealed.ensures.forwards off)
+
+pub returns-in-Err-next_moment-clause-failed : goal.returns-in-Err-next_moment-clause-failed
+returns-in-Err-next_moment-clause-failed g c counts off refused is error =
+    let same : c.in-Err-next_moment.refused ≡ refused = sym c.told-in-Err-next_moment.ensures.same ∙ same_refusal _ _ is in
+    absurd (subst (IsBetween _ _) (ap (λ (r : Refused). r.error) same ∙ error) c.in-Err-next_moment.ensures.cause)
+
+pub returns-in-Err-take_next-clause-failed : goal.returns-in-Err-take_next-clause-failed
+returns-in-Err-take_next-clause-failed g c counts off refused is error =
+    let same : c.in-Err-take_next.refused ≡ refused = sym c.told-in-Err-take_next.ensures.same ∙ same_refusal _ _ is in
+    let because = ap (λ (r : Refused). r.error) same ∙ error in
+    let within = c.loop-test.true in
+    stopped_next g.K.Keeper.tells (g.K.Keeper.calls c.args.keeper.now) (g.K.Keeper.calls c.forward_sealed.new.keeper) (g.K.Keeper.calls c.take_next.new.keeper) (g.K.Keeper.kept c.args.keeper.now) (g.K.Keeper.kept c.forward_sealed.new.keeper) (g.K.Keeper.kept c.take_next.new.keeper) c.loop.counter c.args.basis.now.setup.ticks (omega (arith, within))
+    (subst (λ (k : _). HasSealedOf g.K.Keeper c.args.keeper.now k c.loop.counter) (sym (c.forward_sealed.ensures.still off)) (c.loop.invariant.sealed counts off))
+    (c.take_next.ensures.failed counts c.in-Err-take_next.refused c.in-Err-take_next.is because)
+    (λ told. c.take_next.ensures.failed_kept counts told c.in-Err-take_next.refused c.in-Err-take_next.is because)
+
+pub returns-in-Err-forward_last-clause-failed : goal.returns-in-Err-forward_last-clause-failed
+returns-in-Err-forward_last-clause-failed g c counts off refused is error =
+    absurd (not_both _ c.in-Err-forward_last.ensures.forwards off)
+
+pub returns-clause-failed : goal.returns-clause-failed
+returns-clause-failed g c counts off refused is error =
+    absurd (subst (IsBetween _ _) error (of_error _ c.end_session.result refused c.end_session.ensures.cause is))
+
+pub returns-clause-sealed : goal.returns-clause-sealed
+returns-clause-sealed g c counts off =
+    let past = c.loop-test.false in
+    let within = c.loop.auto.counter-end in
+    let some = c.requires.ticks in
+    let same : c.loop.counter ≡ c.args.basis.now.setup.ticks = omega (arith, past, within, some) in
+    on_ok c.end_session.result
+    (subst (λ (k : _). HasSealedOf g.K.Keeper c.args.keeper.now k c.args.basis.now.setup.ticks) (sym (c.forward_last.ensures.still off)) (subst (λ (ticks : ℕ). HasSealedOf g.K.Keeper c.args.keeper.now c.loop.keeper ticks) same (c.loop.invariant.sealed counts off)))

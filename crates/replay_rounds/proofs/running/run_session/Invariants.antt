@@ -2,6 +2,7 @@ use Rattle.std.proofs.Common.{◌≡◌, ◌≤◌, false}
 use Rattle.daemon_rounds.specs.Keeping.{GoesOn}
 use Rattle.replay_rounds.specs.Noting.{HasNoted, IsGrown, places_of}
 use Rattle.forward_rounds.specs.Forwarding.{view_of}
+use Rattle.replay_rounds.specs.Called.{HasSealedOf}
 use Rattle.replay_rounds.specs.Fixed.{fixed_of, linked_by}
 use Rattle.replay_rounds.specs.Standing.{IsReady}
 use Rattle.replay_rounds.proofs.Looping.{IsLooping}
@@ -15,6 +16,7 @@ invariant-loop g l = record {
   unlinked : l.basis.setup.forward ≡ false → l.link ≡ l.fn.link;
   link_later : g.L.Link.faults l.fn.link ≤ g.L.Link.faults l.link;
   ready : IsReady l.feeds l.last l.state;
+  sealed : g.K.Keeper.counts → l.basis.setup.forward ≡ false → HasSealedOf g.K.Keeper l.fn.keeper l.keeper l.counter;
   goes_on : GoesOn g.K.Keeper.tells (g.K.Keeper.kept l.keeper) l.state;
   keeper_later : g.K.Keeper.faults l.fn.keeper ≤ g.K.Keeper.faults l.keeper;
   results_later : g.O.Sink.faults l.fn.results ≤ g.O.Sink.faults l.results;

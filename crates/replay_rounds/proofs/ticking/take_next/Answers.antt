@@ -1,6 +1,9 @@
-use Rattle.std.proofs.Common.{◌≤◌, ℕ, sym, subst, inr}
+use Rattle.std.proofs.Common.{◌≤◌, ◌+◌, ℕ, sym, ap, ◌∙◌, subst, inr}
+use Rattle.std.specs.Prelude.{if◌then◌else◌}
 use Rattle.daemon_rounds.proofs.Counting.{all_count}
 use Rattle.forward_rounds.proofs.Acks.{goes_on_adds}
+use Rattle.replay_rounds.specs.OneTick.{ticks_of}
+use Rattle.replay_rounds.proofs.Called.{none_acked}
 use Rattle.replay_rounds.proofs.Nexts.{acked_by, begun_moment, begun_ready, when_err, when_ok}
 use Rattle.replay_rounds.proofs.ticking.take_next.Goals as goal
 
@@ -45,3 +48,9 @@ returns-in-Ok-clause-spent g c refused is error =
 
 pub returns-in-Err-clause-counts : goal.returns-in-Err-clause-counts
 returns-in-Err-clause-counts g c = all_count g.S.Source.tells g.S.Source.left c.args.feeds.now c.args.sources.now c.requires.paired
+
+pub returns-in-Ok-clause-failed_kept : goal.returns-in-Ok-clause-failed_kept
+returns-in-Ok-clause-failed_kept g c counts told refused is error =
+    let acked = acked_by c.args.state.now c.acknowledge_each.new.state c.as_slice.result.now c.args.marks.now c.as_slice.ensures (record { adds = c.in-Ok.ensures.added; due = c.in-Ok.ensures.due; owed = c.in-Ok.ensures.owed }) in
+    c.take_tick.ensures.failed_kept counts told refused is error
+    ∙ ap (λ (ticks : ℕ). ticks_of (g.K.Keeper.kept c.args.keeper.now) + (if (g.K.Keeper.calls c.args.keeper.now).is_whole then ticks + 1 else 0)) (none_acked c.args.state.now c.args.marks.now c.acknowledge_each.new.state c.requires.sealed acked)

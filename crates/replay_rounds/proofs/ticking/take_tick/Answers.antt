@@ -7,6 +7,7 @@ use Rattle.daemon_rounds.specs.declared.error.FinishError.{FinishError}
 use Rattle.daemon_rounds.specs.declared.error.FinishError.TheVariants as finish
 use Rattle.replay_rounds.specs.Refusals.{tick_numbers, unfinished_by}
 use Rattle.replay_rounds.specs.Ticked.{IsWholeTick}
+use Rattle.replay_rounds.proofs.Called.{failed_ticks, tick_begins}
 use Rattle.replay_rounds.proofs.Filled.{filled_moment, filled_on, filled_tellable, ready_behind}
 use Rattle.replay_rounds.specs.declared.refused.Refused.{Refused}
 use Rattle.replay_rounds.specs.declared.refused.RunError.{RunError}
@@ -181,3 +182,28 @@ returns-in-Err-finish_tick-clause-sink_cause g c refused is error =
     let same : c.unfinished.result ≡ refused = (cc) in
     let why = unfinished_sink c.in-Err-finish_tick.error (sym c.unfinished.ensures.error ∙ ap (λ (r : Refused). r.error) same ∙ error) in
     c.finish_tick.ensures.sink_cause (c.in-Err-finish_tick.is ∙ ap Err why)
+
+pub returns-in-Err-clause-failed : goal.returns-in-Err-clause-failed
+returns-in-Err-clause-failed g c counts refused is error =
+    let same : c.unfilled.result ≡ refused = (cc) in
+    absurd (unfilled_keeper c.in-Err.error (sym c.unfilled.ensures.error ∙ ap (λ (r : Refused). r.error) same ∙ error))
+
+pub returns-in-Err-clause-failed_kept : goal.returns-in-Err-clause-failed_kept
+returns-in-Err-clause-failed_kept g c counts told refused is error =
+    let same : c.unfilled.result ≡ refused = (cc) in
+    absurd (unfilled_keeper c.in-Err.error (sym c.unfilled.ensures.error ∙ ap (λ (r : Refused). r.error) same ∙ error))
+
+pub returns-in-Err-finish_tick-clause-failed : goal.returns-in-Err-finish_tick-clause-failed
+returns-in-Err-finish_tick-clause-failed g c counts refused is error =
+    let same : c.unfinished.result ≡ refused = (cc) in
+    let why = unfinished_keeper c.in-Err-finish_tick.error (sym c.unfinished.ensures.error ∙ ap (λ (r : Refused). r.error) same ∙ error) in
+    c.finish_tick.ensures.failed counts (c.in-Err-finish_tick.is ∙ ap Err why)
+
+pub returns-in-Err-finish_tick-clause-failed_kept : goal.returns-in-Err-finish_tick-clause-failed_kept
+returns-in-Err-finish_tick-clause-failed_kept g c counts told refused is error =
+    let same : c.unfinished.result ≡ refused = (cc) in
+    let why = unfinished_keeper c.in-Err-finish_tick.error (sym c.unfinished.ensures.error ∙ ap (λ (r : Refused). r.error) same ∙ error) in
+    let (settled, settles, kept) = c.finish_tick.ensures.failed_kept counts told (c.in-Err-finish_tick.is ∙ ap Err why) in
+    failed_ticks (g.K.Keeper.calls c.args.keeper.now).is_whole (g.K.Keeper.kept c.args.keeper.now) (g.K.Keeper.kept c.finish_tick.new.keeper) settled.tail _ kept
+    (tick_begins g.T.TakesRound.order g.S.Source.tells g.S.Source.left g.S.Source.faults c.args.basis.now.setup c.args.basis.now.configured.config c.args.basis.now.configured.documents c.args.tick.configured_at c.args.tick.moment c.args.feeds.now c.fill_tick.new.feeds c.args.sources.now c.fill_tick.new.sources c.args.state.now settled
+    (record { filled = c.fill_tick.new.state; fills = c.in-Ok.ensures.fills; settles = settles }))
