@@ -1,5 +1,5 @@
 -- What the answer to a session says of its keeper.
-use Rattle.std.proofs.Common.{◌≡◌, ℕ, List, refl, sym, ap, ◌∙◌, subst, inl, inr}
+use Rattle.std.proofs.Common.{◌≡◌, List, refl, sym, ◌∙◌, subst, inl, inr}
 use Rattle.std.specs.Prelude.{◌⊎◌}
 use Rattle.osq_value.specs.declared.source.SourceName.{SourceName}
 use Rattle.replay_rounds.specs.declared.refused.RunError.{RunError}

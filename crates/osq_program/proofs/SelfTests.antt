@@ -1,5 +1,5 @@
 -- From what the parts of `selftest` ensure to what it does.
-use Rattle.std.proofs.Common.{◌≡◌, ◌≤◌, ◌<◌, ◌+◌, ◌-◌, ◌/◌, ◌^◌, ◌++◌, ℕ, arith, List, [], ◌∷◌, length, codes, min, take, Bool, true, false, Some, refl, sym, ap, ◌∙◌, subst, inl, inr}
+use Rattle.std.proofs.Common.{◌≡◌, ◌≤◌, ◌<◌, ◌+◌, ◌-◌, ◌^◌, ◌++◌, ℕ, arith, List, [], ◌∷◌, length, codes, min, take, Bool, true, false, Some, refl, sym, ap, ◌∙◌, subst, inl, inr}
 use Rattle.std.specs.Prelude.{◌⊎◌, IfOk, Result, Ok, Err}
 use Rattle.std.proofs.lemmas.Option.{same_Some}
 use Rattle.osq_value.specs.declared.source.SourceKind.TheVariants.{Changes}

@@ -18,12 +18,12 @@ use Rattle.daemon_rounds.specs.Opening.{Opens}
 use Rattle.daemon_rounds.specs.Rounding.{round_entries}
 use Rattle.daemon_rounds.specs.Ticking.{asks_again}
 use Rattle.daemon_rounds.specs.declared.setup.Setup.{Setup}
-use Rattle.replay_rounds.specs.Called.{HasSealed, HasStopped, ticks_more}
+use Rattle.replay_rounds.specs.Called.{HasSealed, HasStopped}
 use Rattle.replay_rounds.specs.Linking.{IsAcked}
 use Rattle.replay_rounds.specs.OneTick.{is_tick, ticks_of}
 use Rattle.replay_rounds.specs.Ticked.{TickDone}
 use Rattle.replay_rounds.proofs.Again.{again_brings, again_entries}
-use Rattle.replay_rounds.proofs.Rounds.{Gives, gives, plain_tickless}
+use Rattle.replay_rounds.proofs.Rounds.{gives, plain_tickless}
 use Rattle.replay_rounds.proofs.Ticks.{NoTick, again_tickless, round_tickless, settled_tickless}
 
 -- it is so behind each result
