@@ -8,12 +8,14 @@ square. What by the square of its time before would take more than a minute isn'
 
 The hash of the kit begins with a fixed state and multiplies it for each 8 bytes with a fixed number, folding the upper half of the product
 onto the lower, so nobody has to try: numbers whose product with it has nothing in the bits that make the slot form a lattice of two dimensions.
-Of two numbers the second can undo what the first made of the state, so that whole hashes are equal. Two more choices are found by trying:
+Of two numbers the second can undo what the first made of the state, so that whole hashes are equal. Three more choices are found by trying:
 
 - a quarter: the hashes fall to one quarter of the groups of the kit's map, evenly, so that each group has few; the map goes on to the next group
   where one is full;
-- few: a thousand numbers of which no more than 64 share a slot of the watch over a set without a key, so that none is drawn. They begin at sixteen
-  groups of the map, with the same tag, and nearly all rows have the last of them, which is looked up behind all others.
+- few: a thousand numbers of which no more than 64 share the lowest bits of their hashes. They begin at sixteen groups of the map, with the same tag,
+  which are the highest bits, and nearly all rows have the last of them, which is looked up behind all others;
+- most: as many numbers as a set holds without a key, so that none is drawn. As many of them as its watch lets pass have one tag, and all others
+  begin at sixteen groups of the map. Nearly all rows have the last of them, behind all others, whose tag it has.
 """
 
 import functools
@@ -32,9 +34,12 @@ MULTIPLIER = 0x9E3779B97F4A7C15 ^ 16
 SLOT_BITS = 17  # slots that the numbers share, as a power of two
 INT = 1  # what is hashed before a value that is a number
 GROUP_LOAD = 9  # values that a group of the kit's map has at most on an average
-FEW = 1000  # numbers that a set holds without a key
-SLOTS, MOST_OF_A_SLOT = 64, 64  # of the watch over such a set
-BEGUN = 16  # groups at which the few begin
+GROUP_ROOM = 12  # values that a group has room for
+FEW = 1000  # numbers whose highest bits nothing watches
+MOST = 8192  # values that a set holds without a key
+SLOTS = 64  # of the watch over such a set, for either end of a hash
+LEAST, TIMES = 64, 4  # values of a slot that it lets pass: so many, or so many times the average
+BEGUN = 16  # groups at which chosen numbers begin
 LONGEST = 60.0  # seconds that one measure may take by the square of the one before
 
 
@@ -100,25 +105,51 @@ def hash_of_two(number: int) -> int:
     return (made ^ (made >> 32)) % (1 << 32)
 
 
+def groups_of(count: int) -> int:
+    """How many groups the kit's map has for so many values."""
+    return 1 << math.ceil(math.log2(count / GROUP_LOAD))
+
+
 def in_quarter(count: int, hash_of: Callable[[int], int]) -> list[tuple[int, int]]:
     """So many numbers that begin in the first quarter of the groups of a map of so many, each twice."""
-    bits = max(2, math.ceil(math.log2(count / GROUP_LOAD)))
+    bits = max(2, groups_of(count).bit_length() - 1)
     chosen = (it for it in itertools.count(1) if (hash_of(it) >> (bits - 2)) % 4 == 0)
     return [(it, it) for it in itertools.islice(chosen, count)]
 
 
 @functools.cache
 def few(hash_of: Callable[[int], int]) -> list[int]:
-    """Numbers that a set without a key holds, which begin at few groups and have one tag."""
-    groups = 1 << math.ceil(math.log2(FEW / GROUP_LOAD))
+    """Numbers that begin at few groups and have one tag."""
+    groups = groups_of(FEW)
     slots = [0] * SLOTS
     found: list[int] = []
     for number in itertools.count(1):
         made = hash_of(number)
-        if made >> 25 == 0 and made % groups < BEGUN and slots[made % SLOTS] < MOST_OF_A_SLOT:
+        if made >> 25 == 0 and made % groups < BEGUN and slots[made % SLOTS] < LEAST:
             slots[made % SLOTS] += 1
             found.append(number)
             if len(found) == FEW:
+                break
+    return found
+
+
+@functools.cache
+def most(hash_of: Callable[[int], int]) -> list[int]:
+    """As many numbers as a set holds without a key, which begin at few groups or have one tag, and of which the watch lets each pass."""
+    groups, reached = groups_of(MOST), MOST // GROUP_ROOM
+    counts = [0] * (2 * SLOTS)
+    found: list[int] = []
+    for number in itertools.count(1):
+        made, total = hash_of(number), len(found) + 1
+        begun, high = made % groups, made >> 26
+        is_tagged = made >> 25 == 0 and begun < (BEGUN if total == MOST else reached)
+        is_other = high > 0 and begun < BEGUN and total < MOST
+        slots = (made % SLOTS, SLOTS + high)
+        if (is_tagged or is_other) and all(counts[slot] < LEAST or (counts[slot] + 1) // TIMES <= total // SLOTS for slot in slots):
+            for slot in slots:
+                counts[slot] += 1
+            found.append(number)
+            if total == MOST:
                 break
     return found
 
@@ -150,6 +181,10 @@ CASES = [
     ("GROUP BY two keys, few", BY_TWO, lambda n: with_last(n, few(hash_of_two))),
     ("DISTINCT of one column, few", ONE, lambda n: with_last(n, few(hash_of_one))),
     ("DISTINCT of two columns, few", TWO, lambda n: with_last(n, few(hash_of_two))),
+    ("GROUP BY one key, most", BY_ONE, lambda n: with_last(n, most(hash_of_one))),
+    ("GROUP BY two keys, most", BY_TWO, lambda n: with_last(n, most(hash_of_two))),
+    ("DISTINCT of one column, most", ONE, lambda n: with_last(n, most(hash_of_one))),
+    ("DISTINCT of two columns, most", TWO, lambda n: with_last(n, most(hash_of_two))),
 ]
 
 
