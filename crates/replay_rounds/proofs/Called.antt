@@ -112,13 +112,13 @@ failed_ticks true kept now tail count is are = gained kept tail now is ∙ ap (�
 failed_ticks false kept now tail count is are = let same = ap ticks_of is in omega (arith, same)
 
 -- the first tick behind the load
-pub sealed_first : (tells : Type 0) (start before after : Calls) (list kept now : List Entry) → Passes start 1 before → (tells → kept ≡ list) → Passes before 1 after → (tells → ticks_of now ≡ ticks_of kept + 1) → HasSealed tells start after list now 1
-sealed_first tells start before after list kept now loaded same passed ticked =
+pub first_sealed : (tells : Type 0) (start before after : Calls) (list kept now : List Entry) → Passes start 1 before → (tells → kept ≡ list) → Passes before 1 after → (tells → ticks_of now ≡ ticks_of kept + 1) → HasSealed tells start after list now 1
+first_sealed tells start before after list kept now loaded same passed ticked =
     record { passed = passed_on 1 start before after loaded passed; ticked = λ told. ticked told ∙ ap (λ (es : List Entry). ticks_of es + 1) (same told) }
 
 -- one tick more
-pub sealed_next : (tells : Type 0) (start before after : Calls) (list kept now : List Entry) (ticks : ℕ) → HasSealed tells start before list kept ticks → Passes before 1 after → (tells → ticks_of now ≡ ticks_of kept + 1) → HasSealed tells start after list now (ticks + 1)
-sealed_next tells start before after list kept now ticks sealed passed ticked =
+pub next_sealed : (tells : Type 0) (start before after : Calls) (list kept now : List Entry) (ticks : ℕ) → HasSealed tells start before list kept ticks → Passes before 1 after → (tells → ticks_of now ≡ ticks_of kept + 1) → HasSealed tells start after list now (ticks + 1)
+next_sealed tells start before after list kept now ticks sealed passed ticked =
     record {
       passed = subst (λ (count : ℕ). Passes start (suc count) after) (suc-eq-add-one ticks) (passed_on (suc ticks) start before after sealed.passed passed);
       ticked = λ told. let one = ticked told in let all = sealed.ticked told in omega (arith, one, all);

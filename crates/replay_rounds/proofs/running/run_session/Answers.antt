@@ -23,7 +23,7 @@ use Rattle.replay_rounds.specs.Sources.{sources_of}
 use Rattle.replay_rounds.specs.Stopping.{AreNumbersOf, AreSealed, HasNumbers, Stops}
 use Rattle.replay_rounds.specs.declared.refused.Numbers.{Numbers}
 use Rattle.replay_rounds.specs.declared.refused.Refused.{Refused}
-use Rattle.replay_rounds.proofs.Called.{none_acked, none_opening, not_both, on_ok, sealed_first, sealed_next, sealed_ticks, stopped_first, stopped_load, stopped_next, tick_begins}
+use Rattle.replay_rounds.proofs.Called.{none_acked, none_opening, not_both, on_ok, first_sealed, next_sealed, sealed_ticks, stopped_first, stopped_load, stopped_next, tick_begins}
 use Rattle.replay_rounds.proofs.Causes.{by_sink, same_refusal, spent_not_keeper, spent_not_sink, unloaded_keeper}
 use Rattle.replay_rounds.proofs.Done.{has_run}
 use Rattle.replay_rounds.proofs.Full.{HaveSteps}
@@ -166,7 +166,7 @@ loop-init g c =
       unlinked = λ off. refl;
       link_later = omega arith;
       ready = c.in-Ok-take_tick.ensures.ready;
-      sealed = λ counts off. sealed_first g.K.Keeper.tells (g.K.Keeper.calls c.args.keeper.now) (g.K.Keeper.calls c.load_values.new.keeper) (g.K.Keeper.calls c.take_tick.new.keeper) (g.K.Keeper.kept c.args.keeper.now) (g.K.Keeper.kept c.load_values.new.keeper) (g.K.Keeper.kept c.take_tick.new.keeper) (c.in-Ok.ensures.passed counts) c.in-Ok.ensures.same (c.in-Ok-take_tick.ensures.passed counts)
+      sealed = λ counts off. first_sealed g.K.Keeper.tells (g.K.Keeper.calls c.args.keeper.now) (g.K.Keeper.calls c.load_values.new.keeper) (g.K.Keeper.calls c.take_tick.new.keeper) (g.K.Keeper.kept c.args.keeper.now) (g.K.Keeper.kept c.load_values.new.keeper) (g.K.Keeper.kept c.take_tick.new.keeper) (c.in-Ok.ensures.passed counts) c.in-Ok.ensures.same (c.in-Ok-take_tick.ensures.passed counts)
           (λ told. let tick = c.in-Ok-take_tick.ensures.done in sealed_ticks (g.K.Keeper.kept c.load_values.new.keeper) (g.K.Keeper.kept c.take_tick.new.keeper) tick.settled.tail 1 (tick.kept told) (tick_begins _ _ _ _ _ _ _ _ _ _ _ _ _ _ tick.settled tick.done ∙ ap (λ (ticks : ℕ). ticks + 1) (none_opening _ _ _ _ _ _ _ _ _ _ _ _ _ c.in-Ok-open_noted.session.state c.in-Ok-open_noted.ensures.opened.opens)));
       goes_on = c.in-Ok-take_tick.ensures.goes_on;
       keeper_later = omega (arith, loaded, keeper_first);
@@ -354,7 +354,7 @@ loop-preserved g c =
       link_later = omega (arith, linked, linking);
       ready = c.in-Ok-take_next.ensures.ready;
       sealed = λ counts off. let (begun, acked, tick) = c.in-Ok-take_next.ensures.done in
-          sealed_next g.K.Keeper.tells (g.K.Keeper.calls c.args.keeper.now) (g.K.Keeper.calls c.forward_sealed.new.keeper) (g.K.Keeper.calls c.take_next.new.keeper) (g.K.Keeper.kept c.args.keeper.now) (g.K.Keeper.kept c.forward_sealed.new.keeper) (g.K.Keeper.kept c.take_next.new.keeper) c.loop.counter
+          next_sealed g.K.Keeper.tells (g.K.Keeper.calls c.args.keeper.now) (g.K.Keeper.calls c.forward_sealed.new.keeper) (g.K.Keeper.calls c.take_next.new.keeper) (g.K.Keeper.kept c.args.keeper.now) (g.K.Keeper.kept c.forward_sealed.new.keeper) (g.K.Keeper.kept c.take_next.new.keeper) c.loop.counter
           (subst (λ (k : _). HasSealedOf g.K.Keeper c.args.keeper.now k c.loop.counter) (sym (c.forward_sealed.ensures.still off)) (c.loop.invariant.sealed counts off)) (c.in-Ok-take_next.ensures.passed counts)
           (λ told. sealed_ticks (g.K.Keeper.kept c.forward_sealed.new.keeper) (g.K.Keeper.kept c.take_next.new.keeper) tick.settled.tail 1 (tick.kept told) (tick_begins _ _ _ _ _ _ _ _ _ _ _ _ _ _ tick.settled tick.done ∙ ap (λ (ticks : ℕ). ticks + 1) (none_acked c.loop.state c.in-Ok-forward_sealed.marks begun c.loop.invariant.looping.running.added.empty acked)));
       goes_on = c.in-Ok-take_next.ensures.goes_on;
