@@ -5,7 +5,7 @@ use crate::left::{Shown, push_left};
 use crate::many::push_many;
 use crate::run::{Given, Text, run_alone, run_by_threads};
 use case_text::{bytes_of, items_of, kind_of_row, member_text};
-use osq_value::{Bytes, NoMemory};
+use osq_value::{Bytes, NoMemory, Sequence};
 use serde_json::Value as Json;
 use std::alloc::Global;
 use std::sync::Wait;
@@ -16,6 +16,7 @@ const KINDS: [&[&str]; 2] = [
         "words",
         "config",
         "sources",
+        "answers",
         "one_thread",
         "ends",
         "slices",
@@ -49,23 +50,42 @@ fn text_of(alloc: Global, source: &Json) -> Result<Text, NoMemory> {
     })
 }
 
+/// The sources of an array.
+fn sources_of(alloc: Global, items: Option<&Json>) -> Result<Vec<Text>, NoMemory> {
+    let mut sources = Vec::new(alloc);
+    for source in items_of(items) {
+        sources.push(text_of(alloc, source)?)?;
+    }
+    Ok(sources)
+}
+
+/// The answers of an array.
+fn answers_of(alloc: Global, items: Option<&Json>) -> Result<Sequence<Bytes>, NoMemory> {
+    let mut answers = Sequence::new(alloc);
+    for answer in items_of(items) {
+        answers.push(bytes_of(alloc, answer)?)?;
+    }
+    Ok(answers)
+}
+
 /// What the run of a row is over.
 fn given_of(alloc: Global, row: &Json) -> Result<Given, NoMemory> {
     let config = match row.get("config") {
         Some(config) => bytes_of(alloc, config)?,
         None => Bytes::new(alloc),
     };
-    let mut sources = Vec::new(alloc);
-    for source in items_of(row.get("sources")) {
-        sources.push(text_of(alloc, source)?)?;
-    }
-    Ok(Given { config, sources })
+    Ok(Given {
+        config,
+        sources: sources_of(alloc, row.get("sources"))?,
+        answers: answers_of(alloc, row.get("answers"))?,
+    })
 }
 
 fn shown_of(row: &Json) -> Shown {
     Shown {
         ends: is_set(row, "ends"),
         slices: is_set(row, "slices"),
+        sent: row.get("answers").is_some(),
     }
 }
 
@@ -77,6 +97,30 @@ fn gate_of(row: &Json) -> Holds {
     })
 }
 
+/// Adds what a run of words on one thread leaves.
+fn push_alone(alloc: Global, text: &mut String, row: &Json, given: &Given) -> Result<(), NoMemory> {
+    let left = run_alone(alloc, member_text(row, "words"), given)?;
+    push_left(alloc, text, &left, shown_of(row))
+}
+
+/// Adds what a run of words by threads leaves.
+fn push_threaded<R: Threads + Wait + Sync>(
+    rt: &R,
+    alloc: Global,
+    text: &mut String,
+    row: &Json,
+    given: &Given,
+) -> Result<(), NoMemory> {
+    let gate = gate_of(row);
+    let left = run_by_threads(rt, alloc, member_text(row, "words"), given, &gate)?;
+    push_left(alloc, text, &left, shown_of(row))?;
+    let late = gate.late();
+    if late > 0 {
+        writeln!(text, "{late} waited in vain")?;
+    }
+    Ok(())
+}
+
 /// Adds what a run of words leaves.
 fn push_run<R: Threads + Wait + Sync>(
     rt: &R,
@@ -84,20 +128,12 @@ fn push_run<R: Threads + Wait + Sync>(
     text: &mut String,
     row: &Json,
 ) -> Result<(), NoMemory> {
-    let words = member_text(row, "words");
     let given = given_of(alloc, row)?;
     if is_set(row, "one_thread") {
-        let left = run_alone(alloc, words, &given)?;
-        return push_left(alloc, text, &left, shown_of(row));
+        push_alone(alloc, text, row, &given)
+    } else {
+        push_threaded(rt, alloc, text, row, &given)
     }
-    let gate = gate_of(row);
-    let left = run_by_threads(rt, alloc, words, &given, &gate)?;
-    push_left(alloc, text, &left, shown_of(row))?;
-    let late = gate.late();
-    if late > 0 {
-        writeln!(text, "{late} waited in vain")?;
-    }
-    Ok(())
 }
 
 /// Adds what a row gives.

@@ -23,6 +23,8 @@ pub(crate) struct Shown {
     pub(crate) ends: bool,
     /// Their slices.
     pub(crate) slices: bool,
+    /// How many frames were sent.
+    pub(crate) sent: bool,
 }
 
 /// Adds how many batches there are, and whether the slices of an evented query follow one another.
@@ -99,6 +101,9 @@ pub(crate) fn push_left(
     push_list(alloc, text, left.entries(), shown)?;
     if shown.ends {
         writeln!(text, "{} result lines", left.results().lines().count())?;
+    }
+    if shown.sent {
+        writeln!(text, "{} frames sent", left.sent())?;
     }
     for line in left.told().lines() {
         writeln!(text, "! {line}")?;

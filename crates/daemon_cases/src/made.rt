@@ -3,7 +3,7 @@
 ghost use Rattle.std.specs.Prelude.{◌<◌, length};
 
 use crate::run::{Given, Text};
-use osq_value::{Bytes, NoMemory};
+use osq_value::{Bytes, NoMemory, Sequence};
 use rand_core::utils::NextWord;
 use rand_pcg::Pcg32;
 use std::alloc::Global;
@@ -142,6 +142,10 @@ pub(crate) fn made_of(alloc: Global, seed: u64) -> Result<Made, NoMemory> {
     Ok(Made {
         options,
         workers,
-        given: Given { config, sources },
+        given: Given {
+            config,
+            sources,
+            answers: Sequence::new(alloc),
+        },
     })
 }

@@ -3,7 +3,8 @@
 //! gives. The rows:
 //!
 //! - `words`: a run of these words, which stand each behind one space. It may have a configuration `config` at the path `c`, and `sources`, each its
-//!   bytes by parts as `bytes_of` of case_text takes them, or these as `text` and as `fails` the numbers of the reads that fail. The clock begins at 1000 and goes on by 60. Where `one_thread` is true, the call that
+//!   bytes by parts as `bytes_of` of case_text takes them, or these as `text` and as `fails` the numbers of the reads that fail. It may have `answers`
+//!   that wait at a link, and then gives how many frames were sent. The clock begins at 1000 and goes on by 60. Where `one_thread` is true, the call that
 //!   serves all other commands is asked for it. It gives the number of the status; how many events were numbered; of each query of the last schedule
 //!   how many batches it has, and whether each slice begins where the one before ends; what is wrong with the kept list; and the status lines behind
 //!   `!`. With `ends` it also gives where the slices of a query begin and end, and how many result lines there are, and with `slices` the slices

@@ -33,6 +33,8 @@ pub(crate) struct Given {
     pub(crate) config: Bytes,
     /// What each source has.
     pub(crate) sources: Vec<Text>,
+    /// The answers that wait at the link.
+    pub(crate) answers: Sequence<Bytes>,
 }
 
 /// What a run leaves.
@@ -57,6 +59,11 @@ impl Left {
     /// The result lines.
     pub(crate) fn results(&self) -> &str {
         text_of(self.outside.results.written())
+    }
+
+    /// How many frames were sent.
+    pub(crate) fn sent(&self) -> usize {
+        self.outside.link.sent().len()
     }
 
     /// The status lines.
@@ -103,7 +110,7 @@ fn outside_of(alloc: Global, given: &Given) -> Result<Memory, NoMemory> {
             step: 60,
         },
         keeper: MemoryKeeper::new(EntryList::new(alloc), FailList::new(alloc), false),
-        link: MemoryLink::new(alloc, Sequence::new(alloc), FailList::new(alloc)),
+        link: MemoryLink::new(alloc, given.answers.copy(alloc)?, FailList::new(alloc)),
     })
 }
 
