@@ -1,11 +1,12 @@
 //! What rows give.
 
 use crate::gate::{Holds, Wanted};
+use crate::given::give;
 use crate::left::{Shown, push_left};
 use crate::many::push_many;
-use crate::run::{Given, Text, run_alone, run_by_threads};
-use case_text::{bytes_of, items_of, kind_of_row, member_text};
-use osq_value::{Bytes, NoMemory, Sequence};
+use crate::run::Run;
+use case_text::{kind_of_row, member_text};
+use osq_value::NoMemory;
 use serde_json::Value as Json;
 use std::alloc::Global;
 use std::sync::Wait;
@@ -35,52 +36,6 @@ fn is_set(row: &Json, name: &str) -> bool {
     row.get(name).and_then(Json::as_bool).unwrap_or(false)
 }
 
-/// A source: its bytes, or an object with them as `text` and the numbers of the reads that fail.
-fn text_of(alloc: Global, source: &Json) -> Result<Text, NoMemory> {
-    let mut fails = Vec::new(alloc);
-    for call in items_of(source.get("fails"))
-        .iter()
-        .filter_map(Json::as_u64)
-    {
-        fails.push(call)?;
-    }
-    Ok(Text {
-        bytes: bytes_of(alloc, source.get("text").unwrap_or(source))?,
-        fails,
-    })
-}
-
-/// The sources of an array.
-fn sources_of(alloc: Global, items: Option<&Json>) -> Result<Vec<Text>, NoMemory> {
-    let mut sources = Vec::new(alloc);
-    for source in items_of(items) {
-        sources.push(text_of(alloc, source)?)?;
-    }
-    Ok(sources)
-}
-
-/// The answers of an array.
-fn answers_of(alloc: Global, items: Option<&Json>) -> Result<Sequence<Bytes>, NoMemory> {
-    let mut answers = Sequence::new(alloc);
-    for answer in items_of(items) {
-        answers.push(bytes_of(alloc, answer)?)?;
-    }
-    Ok(answers)
-}
-
-/// What the run of a row is over.
-fn given_of(alloc: Global, row: &Json) -> Result<Given, NoMemory> {
-    let config = match row.get("config") {
-        Some(config) => bytes_of(alloc, config)?,
-        None => Bytes::new(alloc),
-    };
-    Ok(Given {
-        config,
-        sources: sources_of(alloc, row.get("sources"))?,
-        answers: answers_of(alloc, row.get("answers"))?,
-    })
-}
-
 fn shown_of(row: &Json) -> Shown {
     Shown {
         ends: is_set(row, "ends"),
@@ -97,43 +52,64 @@ fn gate_of(row: &Json) -> Holds {
     })
 }
 
-/// Adds what a run of words on one thread leaves.
-fn push_alone(alloc: Global, text: &mut String, row: &Json, given: &Given) -> Result<(), NoMemory> {
-    let left = run_alone(alloc, member_text(row, "words"), given)?;
-    push_left(alloc, text, &left, shown_of(row))
-}
-
-/// Adds what a run of words by threads leaves.
-fn push_threaded<R: Threads + Wait + Sync>(
+/// Runs the words of a row by threads. It answers how many waited in vain at the gate.
+fn go_by_threads<R: Threads + Wait + Sync>(
     rt: &R,
     alloc: Global,
-    text: &mut String,
+    run: &mut Run,
     row: &Json,
-    given: &Given,
-) -> Result<(), NoMemory> {
+) -> Result<u64, NoMemory> {
     let gate = gate_of(row);
-    let left = run_by_threads(rt, alloc, member_text(row, "words"), given, &gate)?;
-    push_left(alloc, text, &left, shown_of(row))?;
-    let late = gate.late();
+    run.go_by_threads(rt, alloc, member_text(row, "words"), &gate)?;
+    Ok(gate.late())
+}
+
+/// Runs the words of a row. It answers how many waited in vain.
+fn go<R: Threads + Wait + Sync>(
+    rt: &R,
+    alloc: Global,
+    run: &mut Run,
+    row: &Json,
+) -> Result<u64, NoMemory> {
+    if is_set(row, "one_thread") {
+        run.go_alone(alloc, member_text(row, "words"))?;
+        Ok(0)
+    } else {
+        go_by_threads(rt, alloc, run, row)
+    }
+}
+
+/// Adds how many waited in vain, if any did.
+fn push_late(text: &mut String, late: u64) -> Result<(), NoMemory> {
     if late > 0 {
         writeln!(text, "{late} waited in vain")?;
     }
     Ok(())
 }
 
-/// Adds what a run of words leaves.
+/// Adds what the run of a row leaves.
 fn push_run<R: Threads + Wait + Sync>(
+    rt: &R,
+    alloc: Global,
+    text: &mut String,
+    run: &mut Run,
+    row: &Json,
+) -> Result<(), NoMemory> {
+    give(alloc, &mut run.outside, row)?;
+    let late = go(rt, alloc, run, row)?;
+    push_left(alloc, text, run, shown_of(row))?;
+    push_late(text, late)
+}
+
+/// Adds what a run of words leaves.
+fn push_words<R: Threads + Wait + Sync>(
     rt: &R,
     alloc: Global,
     text: &mut String,
     row: &Json,
 ) -> Result<(), NoMemory> {
-    let given = given_of(alloc, row)?;
-    if is_set(row, "one_thread") {
-        push_alone(alloc, text, row, &given)
-    } else {
-        push_threaded(rt, alloc, text, row, &given)
-    }
+    let mut run = Run::new(alloc);
+    push_run(rt, alloc, text, &mut run, row)
 }
 
 /// Adds what a row gives.
@@ -144,7 +120,7 @@ pub(crate) fn push_answer<R: Threads + Wait + Sync>(
     row: &Json,
 ) -> Result<(), NoMemory> {
     match kind_of_row(&KINDS, row) {
-        Some("words") => push_run(rt, alloc, text, row),
+        Some("words") => push_words(rt, alloc, text, row),
         Some(_) => push_many(
             rt,
             alloc,

@@ -1,108 +1,13 @@
 //! Whether a kept list is a legal one, by a walk that takes each entry with those before it.
 
+use crate::entries::{
+    batch_count, begun_at, is_tick, last_batch, last_number, moment_of, schedule_of,
+};
 use crate::means::rows_meant;
 use entry_model::entry::{Batch, Entry};
 use osq_value::NoMemory;
-use pack_rules::schedule::{Mode, QueryKey, Schedule, Scheduled};
+use pack_rules::schedule::{Mode, QueryKey, Scheduled};
 use std::alloc::Global;
-
-/// How many events an entry has.
-fn event_count(entry: &Entry) -> u64 {
-    match entry {
-        Entry::Appended {
-            source: _,
-            taken: _,
-            events,
-            skipped: _,
-            moment: _,
-        } => events.len() as u64,
-        _ => 0,
-    }
-}
-
-/// The number of the last event.
-pub(crate) fn last_number(entries: &[Entry]) -> u64 {
-    let mut last: u64 = 0;
-    for entry in entries {
-        last = last.saturating_add(event_count(entry));
-    }
-    last
-}
-
-/// What the session runs.
-pub(crate) fn schedule_of(entries: &[Entry]) -> Option<&Schedule> {
-    for entry in entries.iter().rev() {
-        if let Entry::Configured {
-            document: _,
-            schedule,
-            moment: _,
-        } = entry
-        {
-            return Some(schedule);
-        }
-    }
-    None
-}
-
-/// The batch of an entry that has one.
-fn batch_in(entry: &Entry) -> Option<&Batch> {
-    match entry {
-        Entry::Committed { batch } => Some(batch),
-        _ => None,
-    }
-}
-
-/// The batches of a query, in their order.
-pub(crate) fn batches_of<'a>(
-    alloc: Global,
-    entries: &'a [Entry],
-    key: &QueryKey,
-) -> Result<Vec<&'a Batch>, NoMemory> {
-    let mut batches = Vec::new(alloc);
-    for batch in entries.iter().filter_map(batch_in) {
-        if batch.query.is(key) {
-            batches.push(batch)?;
-        }
-    }
-    Ok(batches)
-}
-
-/// The last batch of a query.
-fn last_batch<'a>(entries: &'a [Entry], key: &QueryKey) -> Option<&'a Batch> {
-    let mut last = None;
-    for batch in entries.iter().filter_map(batch_in) {
-        if batch.query.is(key) {
-            last = Some(batch);
-        }
-    }
-    last
-}
-
-fn batch_count(entries: &[Entry]) -> u64 {
-    entries.iter().filter_map(batch_in).count() as u64
-}
-
-/// The moment that an entry begins, and nothing where it goes on in the present one.
-fn begun_at(entry: &Entry) -> Option<u64> {
-    match entry {
-        Entry::Configured {
-            document: _,
-            schedule: _,
-            moment,
-        } => Some(*moment),
-        Entry::Ticked { moment } => Some(*moment),
-        _ => None,
-    }
-}
-
-/// The present moment.
-fn moment_of(entries: &[Entry]) -> u64 {
-    let mut present = 0;
-    for moment in entries.iter().filter_map(begun_at) {
-        present = moment;
-    }
-    present
-}
 
 /// A query has no batch, or its interval has passed.
 fn is_due(entries: &[Entry], query: &Scheduled) -> bool {
@@ -110,10 +15,6 @@ fn is_due(entries: &[Entry], query: &Scheduled) -> bool {
         None => true,
         Some(batch) => { batch.moment.saturating_add(query.interval) <= moment_of(entries) }
     }
-}
-
-fn is_tick(entry: &Entry) -> bool {
-    matches!(entry, Entry::Ticked { .. })
 }
 
 /// In the present tick no query is due.
@@ -158,6 +59,44 @@ fn begins_at(entries: &[Entry], key: &QueryKey) -> u64 {
     }
 }
 
+/// What is wrong with the turn of a batch behind these entries, of which its cut lacks those `behind` it.
+fn turn_fault(entries: &[Entry], behind: &[Entry], batch: &Batch) -> Option<&'static str> {
+    if batch.number != batch_count(entries).saturating_add(1) {
+        return Some("a number that isn't the next");
+    }
+    if !is_one_due(entries, &batch.query) {
+        return Some("a batch that isn't due");
+    }
+    if behind.iter().any(|entry| outdates(entry, &batch.query)) {
+        return Some("a cut that is out of date");
+    }
+    None
+}
+
+/// What is wrong with the slice and the moment of a batch behind these entries, of which its cut has those `seen`.
+fn slice_fault(entries: &[Entry], seen: &[Entry], batch: &Batch) -> Option<&'static str> {
+    if batch.lo != begins_at(entries, &batch.query) || batch.hi != last_number(seen) {
+        return Some("another slice");
+    }
+    if batch.moment != moment_of(entries) {
+        return Some("another moment");
+    }
+    None
+}
+
+/// What is wrong with the rows of a batch whose cut has these entries.
+fn rows_fault(
+    alloc: Global,
+    seen: &[Entry],
+    batch: &Batch,
+) -> Result<Option<&'static str>, NoMemory> {
+    if rows_meant(alloc, seen, batch)? {
+        Ok(None)
+    } else {
+        Ok(Some("other rows"))
+    }
+}
+
 /// What is wrong with a batch behind these entries, of which its cut has the first.
 fn batch_fault(
     alloc: Global,
@@ -169,23 +108,18 @@ fn batch_fault(
         return Ok(Some("a cut beyond the list"));
     }
     let (seen, behind) = entries.split_at(cut);
-    if batch.number != batch_count(entries).saturating_add(1) {
-        return Ok(Some("a number that isn't the next"));
+    match turn_fault(entries, behind, batch).or(slice_fault(entries, seen, batch)) {
+        Some(fault) => Ok(Some(fault)),
+        None => rows_fault(alloc, seen, batch),
     }
-    if !is_one_due(entries, &batch.query) {
-        return Ok(Some("a batch that isn't due"));
+}
+
+/// The entry begins a moment before the present one.
+fn falls(entries: &[Entry], entry: &Entry) -> bool {
+    match begun_at(entry) {
+        Some(moment) => moment < moment_of(entries),
+        None => false,
     }
-    if behind.iter().any(|entry| outdates(entry, &batch.query)) {
-        return Ok(Some("a cut that is out of date"));
-    }
-    if batch.lo != begins_at(entries, &batch.query) || batch.hi != last_number(seen) {
-        return Ok(Some("another slice"));
-    }
-    if batch.moment != moment_of(entries) {
-        return Ok(Some("another moment"));
-    }
-    let meant = rows_meant(alloc, seen, batch)?;
-    Ok(if meant { None } else { Some("other rows") })
 }
 
 /// What is wrong with an entry behind these.
@@ -194,10 +128,8 @@ fn next_fault(
     entries: &[Entry],
     entry: &Entry,
 ) -> Result<Option<&'static str>, NoMemory> {
-    if let Some(moment) = begun_at(entry) {
-        if moment < moment_of(entries) {
-            return Ok(Some("a moment that falls"));
-        }
+    if falls(entries, entry) {
+        return Ok(Some("a moment that falls"));
     }
     match entry {
         Entry::Ticked { moment: _ } if !none_due(entries) => Ok(Some("a tick with a due query")),

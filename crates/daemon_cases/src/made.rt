@@ -1,151 +1,113 @@
 //! Runs that are made of numbers.
 
-ghost use Rattle.std.specs.Prelude.{◌<◌, length};
-
-use crate::run::{Given, Text};
-use osq_value::{Bytes, NoMemory, Sequence};
-use rand_core::utils::NextWord;
+use crate::numbers::{below, numbers_from};
+use crate::outside::{add_source, give_config};
+use crate::run::Run;
+use crate::texts::{changes_of, config_of, users_of};
+use osq_outside::{FailList, OpenGate};
+use osq_value::{Bytes, NoMemory};
 use rand_pcg::Pcg32;
 use std::alloc::Global;
+use std::sync::Wait;
+use std::thread::Threads;
 
-/// The texts of queries.
-const TEXTS: [&str; 6] = [
-    "SELECT 1",
-    "SELECT target_path, action FROM file_events",
-    "SELECT COUNT(*), MAX(target_path) FROM file_events",
-    "SELECT target_path FROM file_events WHERE action = 'CREATED'",
-    "SELECT username FROM users ORDER BY username",
-    "SELECT f.target_path, u.username FROM file_events f JOIN users u ON f.action = u.description",
-];
-
-const ACTIONS: [&str; 3] = ["CREATED", "UPDATED", "DELETED"];
-
-/// Seconds between two batches.
-const INTERVALS: [u64; 3] = [60, 60, 120];
-
-/// A run: its words behind the command's, how many workers it has, and what it is over.
+/// A run that is made of numbers: these, its words behind the command's, how many workers it has, and the run.
 #[derive(Drop)]
 pub(crate) struct Made {
-    pub(crate) options: String,
-    pub(crate) workers: u64,
-    pub(crate) given: Given,
+    random: Pcg32,
+    options: String,
+    workers: u64,
+    /// The run.
+    pub(crate) run: Run,
 }
 
-/// A number below `bound`.
-fn below(random: &mut Pcg32, bound: u64) -> u64
-    requires { 0 < bound }
-    ensures { result < bound }
-{
-    u64::from(random.next_word()) % bound
-}
-
-/// One of these.
-fn one_of<'a>(random: &mut Pcg32, texts: &[&'a str]) -> &'a str
-    requires { 0 < length texts.now }
-{
-    texts[below(random, texts.len() as u64) as usize]
-}
-
-/// A configuration of one to six queries.
-fn config_of(alloc: Global, random: &mut Pcg32) -> Result<Bytes, NoMemory> {
-    let mut text = String::from_str(alloc, "{\"schedule\": {")?;
-    for place in 0..below(random, 6) + 1 {
-        if place > 0 {
-            text.push_str(", ")?;
+impl Made {
+    /// A run of which nothing is made yet, and which goes by the numbers from this seed.
+    pub(crate) fn new(alloc: Global, seed: u64) -> Made {
+        Made {
+            random: numbers_from(seed),
+            options: String::new(alloc),
+            workers: 0,
+            run: Run::new(alloc),
         }
-        let query = one_of(random, &TEXTS);
-        let snapshot = below(random, 3) == 0;
-        let interval = INTERVALS[below(random, 3) as usize];
-        write!(
-            text,
-            "\"q{place}\": {{\"query\": \"{query}\", \"interval\": {interval}, \"snapshot\": {snapshot}}}"
-        )?;
     }
-    text.push_str("}, \"file_paths\": {\"etc\": [\"/etc/%%\"]}}")?;
-    Ok(Bytes::from_vec(text.into_bytes()))
-}
 
-/// So many change lines.
-fn changes_of(
-    alloc: Global,
-    random: &mut Pcg32,
-    source: u64,
-    lines: u64,
-) -> Result<Bytes, NoMemory> {
-    let mut text = String::new(alloc);
-    for line in 0..lines {
-        let action = one_of(random, &ACTIONS);
-        writeln!(
-            text,
-            "{{\"path\":\"/etc/{source}/{line}\",\"action\":\"{action}\",\"time\":1}}"
-        )?;
+    /// Gives the run its configuration.
+    fn make_config(&mut self, alloc: Global) -> Result<(), NoMemory> {
+        let text = config_of(alloc, &mut self.random)?;
+        give_config(alloc, &mut self.run.outside, text)
     }
-    Ok(Bytes::from_vec(text.into_bytes()))
-}
 
-/// So many lines that set the users.
-fn users_of(alloc: Global, random: &mut Pcg32, lines: u64) -> Result<Bytes, NoMemory> {
-    let mut text = String::new(alloc);
-    for line in 0..lines {
-        let action = one_of(random, &ACTIONS);
-        writeln!(
-            text,
-            "{{\"table\":\"users\",\"rows\":[{{\"uid\":\"{line}\",\"gid\":\"0\",\"username\":\"u{line}\",\"description\":\"{action}\"}}]}}"
-        )?;
+    /// Makes the words but for those that name sources, and the number of workers.
+    fn make_words(&mut self) -> Result<(), NoMemory> {
+        self.options.push_str("--config c --host h1 --start 1000")?;
+        let ticks = below(&mut self.random, 4) + 1;
+        write!(self.options, " --ticks {ticks}")?;
+        let records = below(&mut self.random, 6) + 1;
+        write!(self.options, " --records {records}")?;
+        self.workers = below(&mut self.random, 8) + 1;
+        Ok(())
     }
-    Ok(Bytes::from_vec(text.into_bytes()))
-}
 
-/// A source whose reads don't fail.
-fn whole(alloc: Global, bytes: Bytes) -> Text {
-    Text {
-        bytes,
-        fails: Vec::new(alloc),
+    /// Gives the run a source of this text, whose reads don't fail.
+    fn add(&mut self, alloc: Global, text: Bytes) -> Result<(), NoMemory> {
+        add_source(&mut self.run.outside, text, FailList::new(alloc))
     }
-}
 
-/// The sources, up to three lists of changes and maybe a source of tables, with the words that name them. In a third of the runs they have nothing.
-fn add_sources(
-    alloc: Global,
-    random: &mut Pcg32,
-    options: &mut String,
-    sources: &mut Vec<Text>,
-) -> Result<(), NoMemory> {
-    let most = if below(random, 3) == 0 { 0 } else { 12 };
-    for source in 0..below(random, 4) {
-        let lines = below(random, most + 1);
-        let bytes = changes_of(alloc, random, source, lines)?;
-        sources.push(whole(alloc, bytes))?;
-        write!(options, " --changes s{source}")?;
+    /// Adds a list of so many changes, with the words that name it.
+    fn add_changes(&mut self, alloc: Global, source: u64, lines: u64) -> Result<(), NoMemory> {
+        let text = changes_of(alloc, &mut self.random, source, lines)?;
+        self.add(alloc, text)?;
+        write!(self.options, " --changes s{source}")?;
+        Ok(())
     }
-    if below(random, 2) == 0 {
-        let lines = below(random, most / 4 + 1);
-        let bytes = users_of(alloc, random, lines)?;
-        sources.push(whole(alloc, bytes))?;
-        options.push_str(" --tables t")?;
-    }
-    Ok(())
-}
 
-/// The run that is made of this number.
-pub(crate) fn made_of(alloc: Global, seed: u64) -> Result<Made, NoMemory> {
-    let mut random = Pcg32::new(seed, 54);
-    let config = config_of(alloc, &mut random)?;
-    let ticks = below(&mut random, 4) + 1;
-    let records = below(&mut random, 6) + 1;
-    let workers = below(&mut random, 8) + 1;
-    let mut options = format!(in alloc;
-        "--config c --host h1 --start 1000 --ticks {ticks} --records {records}"
-    )?;
-    let mut sources = Vec::new(alloc);
-    add_sources(alloc, &mut random, &mut options, &mut sources)?;
-    Ok(Made {
-        options,
-        workers,
-        given: Given {
-            config,
-            sources,
-            answers: Sequence::new(alloc),
-        },
-    })
+    /// Adds a source of so many tables, with the words that name it.
+    fn add_tables(&mut self, alloc: Global, lines: u64) -> Result<(), NoMemory> {
+        let text = users_of(alloc, &mut self.random, lines)?;
+        self.add(alloc, text)?;
+        Ok(self.options.push_str(" --tables t")?)
+    }
+
+    /// Adds the sources, up to three lists of changes and maybe a source of tables. In a third of the runs they have nothing.
+    fn make_sources(&mut self, alloc: Global) -> Result<(), NoMemory> {
+        let most = if below(&mut self.random, 3) == 0 {
+            0
+        } else {
+            12
+        };
+        for source in 0..below(&mut self.random, 4) {
+            let lines = below(&mut self.random, most + 1);
+            self.add_changes(alloc, source, lines)?;
+        }
+        if below(&mut self.random, 2) == 0 {
+            let lines = below(&mut self.random, most / 4 + 1);
+            self.add_tables(alloc, lines)?;
+        }
+        Ok(())
+    }
+
+    /// Makes the run.
+    pub(crate) fn make(&mut self, alloc: Global) -> Result<(), NoMemory> {
+        self.make_config(alloc)?;
+        self.make_words()?;
+        self.make_sources(alloc)
+    }
+
+    /// Runs it by threads.
+    pub(crate) fn go_by_threads<R: Threads + Wait + Sync>(
+        &mut self,
+        rt: &R,
+        alloc: Global,
+    ) -> Result<(), NoMemory> {
+        write!(self.options, " --workers {}", self.workers)?;
+        let words = format!(in alloc; "daemon {}", self.options.as_str())?;
+        self.run.go_by_threads(rt, alloc, words.as_str(), &OpenGate)
+    }
+
+    /// Runs it on one thread.
+    pub(crate) fn go_alone(&mut self, alloc: Global) -> Result<(), NoMemory> {
+        let words = format!(in alloc; "replay {}", self.options.as_str())?;
+        self.run.go_alone(alloc, words.as_str())
+    }
 }

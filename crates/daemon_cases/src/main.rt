@@ -16,14 +16,23 @@
 //!   the ends of its sources, with ticks that were spent, with events, and with batches and nothing to read.
 #![tactic(auto)]
 
+mod alike;
 mod answer;
+mod entries;
 mod gate;
+mod given;
 mod left;
 mod list;
 mod made;
 mod many;
 mod means;
+mod numbers;
+mod outside;
+mod pair;
+mod rows;
 mod run;
+mod seen;
+mod texts;
 
 use case_text::print_answers;
 use osq_value::NoMemory;

@@ -1,16 +1,20 @@
 //! The rows that batches are to have: the queries are answered again, over tables that are made of the list.
 
-use case_text::push_rows;
+use crate::rows::are_same;
 use entry_model::entry::{Batch, Entry};
 use osq_value::{Copied, Event, NoMemory, Row, RowList, TableId, Tables};
 use query_answers::answer;
 use std::alloc::Global;
 
-/// A view with rows of `file_events` and of `users`.
+/// A view with rows of `users`, and of `file_events` those of events above a number.
 #[derive(Drop)]
 struct TwoTables {
     changes: RowList,
     users: RowList,
+    /// The number above which events are.
+    floor: u64,
+    /// The number of the last event.
+    last: u64,
 }
 
 impl Tables for TwoTables {
@@ -44,52 +48,75 @@ impl Tables for TwoTables {
 }
 
 impl TwoTables {
-    /// Adds the rows of those of these events, numbered behind `last`, whose number is above `lo`.
-    fn add_events(
-        &mut self,
-        alloc: Global,
-        events: &[Event],
-        last: u64,
-        lo: u64,
-    ) -> Result<(), NoMemory> {
-        let passed = lo.saturating_sub(last) as usize;
-        for event in events.iter().skip(passed) {
-            if event.table.0 == TableId::FILE_EVENTS.0 {
-                self.changes.push(event.row.copy(alloc)?)?;
-            }
+    /// A view without rows, for the events above `floor`.
+    fn above(alloc: Global, floor: u64) -> TwoTables {
+        TwoTables {
+            changes: RowList::new(alloc),
+            users: RowList::new(alloc),
+            floor,
+            last: 0,
+        }
+    }
+
+    /// Adds the next event.
+    fn add_event(&mut self, alloc: Global, event: &Event) -> Result<(), NoMemory> {
+        self.last = self.last.saturating_add(1);
+        if self.last > self.floor && event.table.0 == TableId::FILE_EVENTS.0 {
+            self.changes.push(event.row.copy(alloc)?)?;
         }
         Ok(())
     }
 
-    /// The tables behind these entries, with the events above `lo`.
-    fn of(alloc: Global, entries: &[Entry], lo: u64) -> Result<TwoTables, NoMemory> {
-        let mut tables = TwoTables {
-            changes: RowList::new(alloc),
-            users: RowList::new(alloc),
-        };
-        let mut last: u64 = 0;
-        for entry in entries {
-            match entry {
-                Entry::Appended {
-                    source: _,
-                    taken: _,
-                    events,
-                    skipped: _,
-                    moment: _,
-                } => {
-                    tables.add_events(alloc, events.as_slice(), last, lo)?;
-                    last = last.saturating_add(events.len() as u64);
-                }
-                Entry::TableSet {
-                    source: _,
-                    table,
-                    rows,
-                    taken: _,
-                } if table.0 == TableId::USERS.0 => tables.users = rows.copy(alloc)?,
-                _ => {}
-            }
+    /// Adds the next events.
+    fn add_events(&mut self, alloc: Global, events: &[Event]) -> Result<(), NoMemory> {
+        for event in events {
+            self.add_event(alloc, event)?;
         }
-        Ok(tables)
+        Ok(())
+    }
+
+    /// Sets the rows of a table.
+    fn set(&mut self, alloc: Global, table: TableId, rows: &RowList) -> Result<(), NoMemory> {
+        if table.0 == TableId::USERS.0 {
+            self.users = rows.copy(alloc)?;
+        }
+        Ok(())
+    }
+
+    /// Adds what an entry adds to the tables.
+    fn add(&mut self, alloc: Global, entry: &Entry) -> Result<(), NoMemory> {
+        match entry {
+            Entry::Appended {
+                source: _,
+                taken: _,
+                events,
+                skipped: _,
+                moment: _,
+            } => self.add_events(alloc, events.as_slice()),
+            Entry::TableSet {
+                source: _,
+                table,
+                rows,
+                taken: _,
+            } => self.set(alloc, *table, rows),
+            _ => Ok(()),
+        }
+    }
+
+    /// Adds what these entries add.
+    fn add_all(&mut self, alloc: Global, entries: &[Entry]) -> Result<(), NoMemory> {
+        for entry in entries {
+            self.add(alloc, entry)?;
+        }
+        Ok(())
+    }
+
+    /// The rows are those that the text means over the view.
+    fn means(&self, alloc: Global, text: &str, rows: &RowList) -> Result<bool, NoMemory> {
+        match answer(alloc, text, self)? {
+            Some(meant) => Ok(are_same(&meant, rows)),
+            None => Ok(false),
+        }
     }
 }
 
@@ -99,13 +126,7 @@ pub(crate) fn rows_meant(
     entries: &[Entry],
     batch: &Batch,
 ) -> Result<bool, NoMemory> {
-    let tables = TwoTables::of(alloc, entries, batch.lo)?;
-    let Some(rows) = answer(alloc, batch.query.text.as_str(), &tables)? else {
-        return Ok(false);
-    };
-    let mut meant = String::new(alloc);
-    push_rows(&mut meant, &rows)?;
-    let mut given = String::new(alloc);
-    push_rows(&mut given, &batch.rows)?;
-    Ok(meant.as_str() == given.as_str())
+    let mut tables = TwoTables::above(alloc, batch.lo);
+    tables.add_all(alloc, entries)?;
+    tables.means(alloc, batch.query.text.as_str(), &batch.rows)
 }
