@@ -14,6 +14,7 @@ use Rattle.program_words.specs.declared.command.ReplayWords.{ReplayWords}
 use Rattle.program_words.specs.Bounds.{SessionBounds}
 use Rattle.program_words.specs.Commands.{forwards}
 use Rattle.session_model.specs.Given.{Given}
+use Rattle.session_model.specs.Orders.{in_turn}
 use Rattle.replay_rounds.specs.declared.running.Ended.{Ended}
 use Rattle.forward_rounds.specs.Forwarding.{View}
 use Rattle.replay_rounds.specs.Called.{HasSealed, HasStopped}
@@ -25,7 +26,7 @@ use Rattle.osq_program.specs.declared.status.Status.{Status}
 use Rattle.osq_program.specs.declared.status.Status.TheVariants.{Ok as Done, SinkFault, OutOfMemory}
 use Rattle.osq_program.specs.Answers.{IsDoneStatus}
 use Rattle.osq_program.specs.Observed.{Observed}
-use Rattle.osq_program.specs.Replaying.{IsReplayGiven}
+use Rattle.osq_program.specs.Replaying.{IsReplay, IsReplayGiven, run_in}
 use Rattle.osq_program.specs.Report.{IsRefusedAs}
 use Rattle.osq_program.specs.SelfTesting.{HasGrownOver, HasRunOver, HasTested, IsSelfGiven, IsSelfTest, config_path, document, no_view, readings_from, self_fixed, self_key, self_link, self_run, self_words, ticks_for}
 use Rattle.osq_program.specs.Setups.{host_in, sources_named}
@@ -142,9 +143,13 @@ kept_over lines count start before kept after clock read link given is kept_is c
     in
     inr (given, is, subst (λ (k : List Entry). IsKept (self_run given start k) after) kept_is told)
 
-pub grown_over : (lines : List ℕ) (count start : ℕ) (before kept after : List Entry) (Begun : Type 0) (Grown : Given → Type 0) → ((after ≡ kept) × Begun) ⊎ ((given : Given) × Grown given) → kept ≡ before → ((given : Given) → Grown given → HasGrownOver lines count start before after) → HasGrownOver lines count start before after
-grown_over lines count start before kept after Begun Grown (inl (same, begun)) kept_is over = inl (same ∙ kept_is)
-grown_over lines count start before kept after Begun Grown (inr (given, grown)) kept_is over = over given grown
+pub grown_over : (lines : List ℕ) (count start : ℕ) (before : List Entry) (words : ReplayWords) (seen : Observed) (status : Status) → IsReplay in_turn words seen status → seen.keeper_tells → seen.kept_before ≡ before
+    → ((given : Given) → IsReplayGiven words seen given → IsKept (run_in in_turn words seen given) seen.kept_after → HasGrownOver lines count start before seen.kept_after) → HasGrownOver lines count start before seen.kept_after
+grown_over lines count start before words seen status does tells kept_is over = from (does.kept tells)
+  where
+    from : ((seen.kept_after ≡ seen.kept_before) × seen.has_read []) ⊎ ((given : Given) × IsReplayGiven words seen given × IsKept (run_in in_turn words seen given) seen.kept_after) → HasGrownOver lines count start before seen.kept_after
+    from (inl (same, unread)) = inl (same ∙ kept_is)
+    from (inr (given, is, kept)) = over given is kept
 
 -- the calls of its session on the keeper
 pub sealed_over : (count start : ℕ) (words : ReplayWords) (before own after : Calls) (list kept now : List Entry) → words ≡ self_words count start → own ≡ before → kept ≡ list → HasSealed (Unit {0}) own after kept now words.ticks → HasSealed (Unit {0}) before after list now (ticks_for count)

@@ -22,7 +22,7 @@ returns-clause-done c = λ done.
 pub returns-clause-kept : goal.returns-clause-kept
 returns-clause-kept c =
     let is = c.in_ok-words.ensures in
-    grown_over c.args.lines c.args.count c.args.start _ _ _ _ _ (c.run_in_turn-status.ensures.does.kept tt) c.in_ok-inside.ensures.kept
+    grown_over c.args.lines c.args.count c.args.start _ c.in_ok-words.words _ _ c.run_in_turn-status.ensures.does tt c.in_ok-inside.ensures.kept
     (λ given given_is grown. kept_over c.args.lines c.args.count c.args.start _ _ _ _ _ _ given
     (self_given c.args.lines c.args.count c.args.start c.in_ok-words.words _ given is tt c.in_ok-inside.ensures.file c.in_ok-inside.ensures.bytes given_is)
     c.in_ok-inside.ensures.kept c.in_ok-inside.ensures.clock (self_linked c.args.count c.args.start c.in_ok-words.words _ is c.in_ok-inside.ensures.link) grown)
