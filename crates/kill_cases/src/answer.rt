@@ -25,11 +25,7 @@ fn push_report(text: &mut String, report: &KillReport) -> Result<(), NoMemory> {
         report.second.number()
     )?;
     write!(text, " events {} batches {}", report.events, report.batches)?;
-    Ok(writeln!(
-        text,
-        " rows {} cursor {}",
-        report.rows, report.cursor
-    )?)
+    Ok(writeln!(text, " rows {} cursor {}", report.rows, report.cursor)?)
 }
 
 /// Runs the sessions of a row, and adds what they give.
