@@ -8,7 +8,7 @@ mod outside;
 mod parts;
 mod shown;
 
-pub use answered::print_answers;
+pub use answered::{Bench, print_answers, print_told};
 pub use given::{items_of, member_text, row_of, rows_of, value_of, values_of};
 pub use line::{LineKind, json_of_line, kind_of, kind_of_row, odd_member};
 pub use outside::{fails_of, files_of};
