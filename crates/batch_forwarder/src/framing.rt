@@ -4,11 +4,11 @@ ghost use Rattle.std.specs.Prelude.{◌≡◌, true, IfOk};
 ghost use Rattle.sql_texts.specs.Meaning.{is_accepted, names_of};
 ghost use Rattle.batch_forwarder.specs.Frames.{frame_for, names_in};
 
-use accepted_queries::{AcceptedQuery, QueryText};
 use batch_frames::{Frame, encode_frame};
 use entry_model::entry::Batch;
 use osq_value::{Bytes, Copied, NoMemory, Str, TextList};
 use sql_texts::text::TextError;
+use sql_texts::{AcceptedQuery, QueryText};
 use std::alloc::Global;
 
 /// The names of the columns of an accepted text's result.

@@ -11,11 +11,11 @@ ghost use Rattle.daemon_rounds.specs.declared.error.RoundError.{RoundError};
 ghost use Rattle.daemon_rounds.specs.Answering.{AnswersDue, AnswersFirst, IsTellable, SpendsBatches};
 
 use crate::error::RoundError;
-use accepted_queries::QueryText;
 use event_store::Steps;
 use osq_value::{NoMemory, RowList, Tables};
 use query_answers::answer_again;
 use session_state::{CommitRefusal, State};
+use sql_texts::QueryText;
 use std::alloc::Global;
 use std::marker::Brand;
 use std::sync::ledger::{Blank, Ledger};

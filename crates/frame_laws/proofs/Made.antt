@@ -9,7 +9,7 @@ use Rattle.pack_rules.specs.declared.schedule.Mode.{Mode}
 use Rattle.pack_rules.specs.declared.schedule.Mode.TheVariants.{Evented, Snapshot}
 use Rattle.pack_rules.specs.declared.schedule.QueryKey.{QueryKey}
 use Rattle.sql_texts.specs.Meaning.{names_of}
-use Rattle.sql_laws.proofs.Wide.{are_wide as meaning_is_wide}
+use Rattle.sql_texts.proofs.Wide.{are_wide as meaning_is_wide}
 use Rattle.entry_model.specs.declared.entry.Batch.{Batch}
 use Rattle.entry_model.specs.declared.entry.Entry.{Entry}
 use Rattle.entry_model.specs.declared.entry.Entry.TheVariants.{Committed}

@@ -7,11 +7,11 @@ ghost use Rattle.pack_rules.specs.Offers.{all_pack_queries, entries_in_pack, mod
 use crate::host::Host;
 use crate::rules::rules_hold;
 use crate::schedule::{Mode, QueryKey, Scheduled, ScheduledList};
-use accepted_queries::{AcceptedQuery, QueryText};
 use osq_config::{Config, Pack, QueryEntry, QueryEntryList};
 use osq_value::{Copied, NoMemory, Str};
 use sql_query::answers::is_evented;
 use sql_texts::text::TextError;
+use sql_texts::{AcceptedQuery, QueryText};
 use std::alloc::Global;
 
 /// The text of an entry that is taken, and the mode in which it runs.

@@ -3,8 +3,8 @@
 ghost use Rattle.std.specs.Prelude.{◌≡◌};
 ghost use Rattle.pack_rules.specs.Keys.{same_mode, same_key};
 
-use accepted_queries::QueryText;
 use osq_value::{Copied, NoMemory, Sequence, Str};
+use sql_texts::QueryText;
 use std::alloc::Global;
 
 /// How a query reads the evented tables.

@@ -7,11 +7,11 @@ ghost use Rattle.sql_query.specs.Resolved.{query_of};
 ghost use Rattle.sql_texts.specs.Texts.{query_in};
 ghost use Rattle.query_answers.specs.Texts.{answer_of, names_in};
 
-use accepted_queries::QueryText;
 use osq_value::{NoMemory, RowList, Tables, TextList};
 use sql_planner::{plan_of, run_plan};
 use sql_query::answers::names_of;
 use sql_query::query::Query;
+use sql_texts::QueryText;
 use sql_texts::text::{TextError, query_of_text};
 use std::alloc::Global;
 

@@ -7,8 +7,8 @@ use Rattle.entry_model.specs.declared.entry.Entry.{Entry}
 use Rattle.program_words.specs.declared.command.QueryWords.{QueryWords}
 use Rattle.program_words.specs.Bounds.{RunBounds}
 use Rattle.session_model.specs.Given.{Given, Source}
-use Rattle.session_laws.specs.Enough.{AreEnough}
-use Rattle.session_laws.proofs.Ended.{full_few}
+use Rattle.run_laws.specs.Enough.{AreEnough}
+use Rattle.run_laws.proofs.Ended.{full_few}
 use Rattle.query_rounds.specs.Asking.{opened_behind}
 use Rattle.query_rounds.specs.Rounds.{HasMore}
 use Rattle.osq_program.specs.declared.status.Status.{Status}
@@ -17,7 +17,7 @@ use Rattle.osq_program.specs.Answers.{IsSpentStatus, IsUsageStatus}
 use Rattle.osq_program.specs.Observed.{Observed}
 use Rattle.osq_program.specs.Querying.{HasAnswer, IsPosed, IsQuery, IsQueryGiven, QueryLeaves, causes_of}
 use Rattle.osq_program.specs.Setups.{sources_named}
-use Rattle.run_laws.specs.Laws.{IsComplete}
+use Rattle.run_laws.specs.Completeness.{IsComplete}
 use Rattle.run_laws.specs.Ready.{IsQueryReady, NoneFails}
 use Rattle.run_laws.proofs.Accepted.{no_text_fault, not_refused_in}
 use Rattle.run_laws.proofs.Replayed.{either}

@@ -8,7 +8,7 @@ use Rattle.osq_program.specs.declared.status.Status.TheVariants.{TicksSpent}
 use Rattle.osq_program.specs.Answers.{IsSpentStatus, IsUsageStatus}
 use Rattle.osq_program.specs.Collecting.{CollectLeaves, HasRun, IsCollect, causes_of, stream}
 use Rattle.osq_program.specs.Observed.{Observed}
-use Rattle.run_laws.specs.Laws.{IsComplete}
+use Rattle.run_laws.specs.Completeness.{IsComplete}
 use Rattle.run_laws.specs.Ready.{IsCollectReady, NoneFails}
 use Rattle.run_laws.proofs.Replayed.{either}
 use Rattle.run_laws.proofs.Settled.{NoCause, settled}

@@ -25,7 +25,7 @@ use Rattle.osq_program.specs.SelfTesting as testing
 use Rattle.osq_program.specs.SelfTesting.{IsSelfTest}
 use Rattle.sql_texts.specs.TextFaults.{text_fault}
 use Rattle.std.specs.Prelude.{None}
-use Rattle.run_laws.specs.Laws.{Completes, IsComplete}
+use Rattle.run_laws.specs.Completeness.{Completes, IsComplete}
 use Rattle.run_laws.specs.Ready.{IsAskReady, IsCheckReady, IsReady, IsReportReady, NoneFails}
 use Rattle.run_laws.proofs.Accepted.{no_text_fault, not_refused}
 use Rattle.run_laws.proofs.Asked.{asked}

@@ -2,6 +2,14 @@ mod Accepted
 mod Asked
 mod Collected
 mod Complete
+mod Documents
+mod Ended
+mod Generated
+mod Lines
+mod Names
 mod Replayed
+mod Same
+mod Schedules
+mod SelfTest
 mod Settled
 mod Sources

@@ -7,14 +7,14 @@ use Rattle.osq_value.specs.declared.moment.TheConstants.{LAST_MOMENT}
 use Rattle.program_words.specs.declared.command.ReplayWords.{ReplayWords}
 use Rattle.program_words.specs.Bounds.{RunBounds}
 use Rattle.session_model.specs.Orders.{Order}
-use Rattle.session_laws.specs.Enough.{AreEnough}
-use Rattle.session_laws.proofs.Ended.{is_end}
+use Rattle.run_laws.specs.Enough.{AreEnough}
+use Rattle.run_laws.proofs.Ended.{is_end}
 use Rattle.osq_program.specs.declared.status.Status.{Status}
 use Rattle.osq_program.specs.Answers.{IsUsageStatus}
 use Rattle.osq_program.specs.Observed.{Observed}
 use Rattle.osq_program.specs.Replaying.{IsReplay, Ran, causes_of, run_in}
 use Rattle.osq_program.specs.Setups.{sources_named}
-use Rattle.run_laws.specs.Laws.{IsComplete}
+use Rattle.run_laws.specs.Completeness.{IsComplete}
 use Rattle.run_laws.specs.Ready.{IsReplayReady, NoneFails}
 use Rattle.run_laws.proofs.Accepted.{not_refused}
 use Rattle.run_laws.proofs.Settled.{NoCause, settled}

@@ -3,7 +3,7 @@ use Rattle.std.proofs.Common.{ℕ, List}
 use Rattle.osq_program.specs.declared.status.Status.{Status}
 use Rattle.osq_program.specs.declared.status.Status.TheVariants.{Ok as Done, Usage, FilesFault, ConfigRefused, KeeperFault, KeeperRefused, MomentTooLarge, SourceFault, SourceShrank, NumbersSpent, SinkFault, TicksSpent, QueryRefused, OutOfMemory}
 use Rattle.osq_program.specs.Answers.{Causes, IsCaused, IsRefusal, IsSpentStatus, IsUsageStatus}
-use Rattle.run_laws.specs.Laws.{IsComplete}
+use Rattle.run_laws.specs.Completeness.{IsComplete}
 
 -- there is no cause
 pub record NoCause (c : Causes) : Type 0 where

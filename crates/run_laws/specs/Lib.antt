@@ -1,2 +1,6 @@
-pub mod Laws
+pub mod Completeness
+pub mod Enough
+pub mod OneList
 pub mod Ready
+pub mod SelfTest
+pub mod Ticks

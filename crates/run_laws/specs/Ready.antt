@@ -17,7 +17,7 @@ use Rattle.sql_texts.specs.TextFaults.{text_fault}
 use Rattle.session_model.specs.Given.{Given, Source}
 use Rattle.session_model.specs.Orders.{Order, in_turn, at_once}
 use Rattle.replay_rounds.specs.Spent.{RanOutOfNumbers}
-use Rattle.session_laws.specs.Enough.{AreEnough}
+use Rattle.run_laws.specs.Enough.{AreEnough}
 use Rattle.query_rounds.specs.Asking.{Spends}
 use Rattle.collect_rounds.specs.Runs.{STEP_BYTES}
 use Rattle.osq_program.specs.Collecting.{stream}

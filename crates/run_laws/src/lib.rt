@@ -1,4 +1,7 @@
-//! The law of completeness: where nothing of the outside stands in the way, a run answers Ok, or memory was wanting.
+//! The laws of whole runs: when a run answers Ok, how many ticks are enough, that the same session adds the same, and what a self test writes.
 #![tactic(auto)]
 
-pub mod laws;
+pub mod completeness;
+pub mod one_list;
+pub mod self_test;
+pub mod ticks;

@@ -9,13 +9,13 @@ ghost use Rattle.pack_rules.specs.Offers.{name_in_pack};
 ghost use Rattle.schedule_notes.specs.Listed.{IsInOrder, all_pack_judged, judged, judged_as, judged_in_pack, outcome_by, outcome_of, own_judged, pack_judged};
 ghost use Rattle.schedule_notes.specs.Notes.{has_same_name, is_taken};
 
-use accepted_queries::AcceptedQuery;
 use osq_config::{Config, Pack, QueryEntry};
 use osq_value::{Copied, NoMemory, Sequence, Str};
 use pack_rules::schedule::Scheduled;
 use pack_rules::{Host, rules_hold};
 use sql_query::answers::is_evented;
 use sql_query::query::Query;
+use sql_texts::AcceptedQuery;
 use sql_texts::text::{TextError, query_of_text};
 use std::alloc::Global;
 

@@ -6,7 +6,7 @@ use Rattle.std.proofs.lemmas.Bool.Decides.{nat_tests}
 use Rattle.std.proofs.lemmas.List.Elements.{All-contains}
 use Rattle.osq_value.specs.declared.value.Value.{Value}
 use Rattle.sql_texts.specs.Meaning.{meaning, is_accepted, names_of}
-use Rattle.sql_laws.proofs.Wide.{are_wide}
+use Rattle.sql_texts.proofs.Wide.{are_wide}
 use Rattle.entry_model.specs.declared.entry.Batch.{Batch}
 use Rattle.session_state.specs.Sealing.{IsSendable}
 use Rattle.session_state.specs.Computed.{schedule_shown}

@@ -1,5 +1,7 @@
 pub mod DerivedTree
-pub mod TextAnswers
-pub mod TextStands
 pub mod Known
 pub mod KnownMeaning
+pub mod Named
+pub mod TextAnswers
+pub mod TextStands
+pub mod Wide

@@ -1,10 +1,10 @@
 -- What of a store may go to another thread, or be seen by one. A query's text holds trees, of which a search doesn't see the end by itself.
 use denote.Param.Send.{IsSend, IsSync, sendable}
-use Rattle.accepted_queries.below.arrayvec.proofs.array_string.ArrayString.TheSendSync as arraystring
-use Rattle.accepted_queries.below.arrayvec.proofs.cells.Cells.TheSendSync as cells
-use Rattle.accepted_queries.below.sql_tree.proofs.functions.Fold.TheSendSync as fold
-use Rattle.accepted_queries.below.sql_tree.proofs.functions.Function.TheSendSync as function
-use Rattle.accepted_queries.below.sql_tree.proofs.tree.Operator.TheSendSync as operator
+use Rattle.sql_texts.below.arrayvec.proofs.array_string.ArrayString.TheSendSync as arraystring
+use Rattle.sql_texts.below.arrayvec.proofs.cells.Cells.TheSendSync as cells
+use Rattle.sql_texts.below.sql_tree.proofs.functions.Fold.TheSendSync as fold
+use Rattle.sql_texts.below.sql_tree.proofs.functions.Function.TheSendSync as function
+use Rattle.sql_texts.below.sql_tree.proofs.tree.Operator.TheSendSync as operator
 use Rattle.entry_model.proofs.restored.Live.TheSendSync as live
 use Rattle.entry_model.proofs.restored.SetTable.TheSendSync as settable
 use Rattle.entry_model.proofs.restored.Taken.TheSendSync as taken
@@ -62,7 +62,7 @@ use Rattle.turn_lock.proofs.lock.TurnSeat.TheSendSync as turnseat
 use Rattle.turn_lock.proofs.waiting.Sleepers.TheSendSync as sleepers
 use Rattle.std.proofs.Crossing
 use Rattle.sql_query.proofs.tree.Expr.TheLaws.TheKnot
-use Rattle.accepted_queries.specs.contracts.text.QueryText as QueryText
+use Rattle.sql_texts.specs.contracts.query_text.QueryText as QueryText
 use Rattle.pack_rules.specs.contracts.schedule.QueryKey as QueryKey
 use Rattle.pack_rules.specs.contracts.schedule.Scheduled as Scheduled
 use Rattle.pack_rules.specs.contracts.schedule.Schedule as Schedule

@@ -12,13 +12,13 @@ ghost use Rattle.thread_jobs.specs.Working.{AnswersOf, BatchesSpent};
 ghost use Rattle.thread_jobs.specs.declared.error.JobError.{JobError};
 
 use crate::error::JobError;
-use accepted_queries::QueryText;
 use event_store::Steps;
 use osq_outside::{Gate, Point};
 use osq_value::{NoMemory, RowList, Tables};
 use query_answers::answer_again;
 use session_state::{CommitRefusal, Cut};
 use shared_store::{Store, StoreSeat};
+use sql_texts::QueryText;
 use std::alloc::Global;
 use std::marker::Brand;
 use std::sync::Wait;

@@ -1,5 +1,0 @@
-use Rattle.session_laws.proofs.laws.few_ticks.Goals as goal
-use Rattle.session_laws.proofs.Ended as law
-
-pub returns : goal.returns
-returns g c = law.few_ticks g.S.Source.tells g.L.Link.tells

@@ -1,5 +1,0 @@
-use Rattle.sql_laws.proofs.laws.views.Goals as goal
-use Rattle.sql_laws.proofs.Named.{depend_on_named}
-
-pub returns : goal.returns
-returns c = depend_on_named
