@@ -1,3 +1,4 @@
 pub mod Cutting
+pub mod Held
 pub mod Lines
 pub mod Rests

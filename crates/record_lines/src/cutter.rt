@@ -1,5 +1,6 @@
 ghost use Rattle.std.specs.Prelude.{◌≡◌, ℕ, ◌+◌, ◌<◌, ◌≤◌, ◌^◌, List, [], ◌∷◌, ◌++◌, length, OnOk, OnErr, IfNone, IfSome};
 ghost use Rattle.std.specs.Option.{option_to_list};
+ghost use Rattle.record_lines.specs.Held.{text_size, texts_size};
 ghost use Rattle.record_lines.specs.Lines.{HasNoFeed};
 
 use crate::later::cut_all;
@@ -37,18 +38,20 @@ pub struct LineCutter {
 }
 
 impl Model for LineCutter {
-    ghost use Rattle.std.specs.Prelude.{ℕ, ◌+◌, ◌<◌, ◌^◌};
+    ghost use Rattle.std.specs.Prelude.{ℕ, ◌+◌, ◌<◌, ◌≤◌, ◌^◌, length};
     ghost use Rattle.record_lines.specs.Cutting.{Cutter};
+    ghost use Rattle.record_lines.specs.Held.{IsBounded};
 
     ghost Value = { Cutter };
 
     ghost view = { λ s. record { limit = s.limit; ready = s.ready.items; begun = s.begun; partial = s.partial } };
 
-    ghost invariant = { λ s. s.begun + s.partial.size < 2 ^ 64 };
+    ghost invariant = { λ s. (s.begun + s.partial.size < 2 ^ 64) × IsBounded s.limit s.begun s.ready.items s.partial };
 }
 
 impl LineCutter {
     ghost use Rattle.record_lines.specs.Cutting.{HasCut, TakesLine};
+    ghost use Rattle.record_lines.specs.Held.{held_by};
 
     /// A cutter of a stream that begins at this offset. It skips the lines that have more than `limit` bytes.
     pub fn new(alloc: Global, limit: u64, offset: u64) -> Self
@@ -110,7 +113,40 @@ impl LineCutter {
         ensures some { (start : ℕ) → (stream : List ℕ) → HasCut self.old start stream → IfSome result (λ cut. TakesLine self.old self.new start stream cut) }
         ensures same { IfNone result (self.new ≡ self.old) }
         ensures ready { self.old.ready ≡ option_to_list result ++ self.new.ready }
+        ensures bounded { IfNone result (held_by self.new ≤ self.new.limit) }
     {
         self.ready.pop_front()
+    }
+
+    /// How many bytes of text it keeps: those of the lines that are ready, and those of the line that was begun. Behind a `take_line` that gave none
+    /// it is at most the limit. It takes no memory.
+    pub fn held(&self) -> u64
+        ensures { result ≡ held_by self.now }
+    {
+        let (front, back) = self.ready.as_slices();
+        let size = with_texts(self.partial.bytes.len() as u64, front);
+        with_texts(size, back)
+    }
+}
+
+/// The size, with the bytes of these lines.
+fn with_texts(begun: u64, cuts: &[Cut]) -> u64
+    requires { begun + texts_size cuts.now < 2 ^ 64 }
+    ensures { result ≡ begun + texts_size cuts.now }
+{
+    let mut size = begun;
+    for cut in cuts {
+        size += text_len(cut);
+    }
+    size
+}
+
+/// How many bytes a line has; none where it was skipped.
+fn text_len(cut: &Cut) -> u64
+    ensures { result ≡ text_size cut.now }
+{
+    match cut {
+        Cut::Line(line) => line.text.len() as u64,
+        Cut::Skipped { .. } => 0,
     }
 }

@@ -1,6 +1,7 @@
 ghost use Rattle.std.specs.Prelude.{◌≡◌, ℕ, ◌+◌, ◌<◌, ◌≤◌, ◌^◌, List, [], ◌++◌, length, OnOk, OnErr, IfOk};
 ghost use Rattle.record_lines.specs.Lines.{cut_of};
 ghost use Rattle.record_lines.specs.Rests.{IsRest};
+ghost use Rattle.record_lines.specs.Held.{text_size};
 
 use crate::line::{Cut, Line};
 use osq_value::{Bytes, NoMemory};
@@ -32,6 +33,7 @@ impl Partial {
         requires { self.old.size + length piece.now < 2 ^ 64 }
         ensures ok { (rest : List ℕ) → IsRest limit rest self.old → OnOk result (IsRest limit (rest ++ piece.now) self.new) }
         ensures size { self.new.size ≤ self.old.size + length piece.now }
+        ensures kept { length self.old.bytes ≤ self.old.size → length self.old.bytes ≤ limit → (length self.new.bytes ≤ self.new.size) × (length self.new.bytes ≤ limit) }
         ensures err { OnErr result (self.new ≡ self.old) }
     {
         let size = self.size + piece.len() as u64;
@@ -46,7 +48,8 @@ impl Partial {
 
     /// The line is at its end.
     pub fn into_cut(self, limit: u64, end: u64) -> Cut
-        ensures { (line : List ℕ) → IsRest limit line self → result ≡ cut_of limit end line }
+        ensures cut { (line : List ℕ) → IsRest limit line self → result ≡ cut_of limit end line }
+        ensures text { text_size result ≤ length self.bytes }
     {
         if self.size <= limit {
             Cut::Line(Line {
