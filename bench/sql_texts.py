@@ -6,7 +6,7 @@ crates that it needs, proved and built by `rt run`, and run there. The folder is
 so that a second run need not prove again.
 
 COUNT texts (default 20000) of the SEED (default 1) are read twice: by the program, and by the reader of this file, which follows
-docs/SQL.md and shares nothing with the program. Some are right, and most have a fault of names or, by tokens that were dropped,
+docs/SQL.md and docs/SQL_MEANING.md and shares nothing with the program. Some are right, and most have a fault of names or, by tokens that were dropped,
 doubled or exchanged, of the grammar. Each answer is compared: the fault's kind and place, or the names of the result's columns and
 whether a table is one of events. A text for which they differ is printed, and the status is then 1.
 
