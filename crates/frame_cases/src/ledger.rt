@@ -3,34 +3,24 @@
 ghost use Rattle.std.specs.Prelude.{◌≡◌, true};
 ghost use Rattle.batch_frames.specs.Valid.{is_valid};
 
-use crate::frames::{one_row, query_of};
+use crate::made::frame_of;
+use crate::shown::push_digest;
 use batch_frames::{Frame, digest_of};
 use case_text::items_of;
 use collector_core::{Ledger, Receipt};
-use entry_model::entry::Batch;
-use osq_value::{NoMemory, Str, TextList};
-use pack_rules::schedule::Mode;
+use osq_value::NoMemory;
 use serde_json::Value as Json;
 use std::alloc::Global;
 
-/// The frame of a host with this number and one value.
-fn frame_of(alloc: Global, host: &str, number: u64, value: &str) -> Result<Frame, NoMemory> {
-    let mut names = TextList::new(alloc);
-    names.push(Str::of(alloc, "username")?)?;
-    let batch = Batch {
-        number,
-        query: query_of(alloc, "SELECT username FROM users", Mode::Evented)?,
-        lo: 0,
-        hi: 2,
-        cut: 4,
-        moment: 1000,
-        rows: one_row(alloc, value)?,
-    };
-    Ok(Frame {
-        host: Str::of(alloc, host)?,
-        batch,
-        names,
-    })
+/// Adds the digests of two frames of one number.
+fn push_digests(
+    alloc: Global,
+    text: &mut String,
+    kept: &[u8; 32],
+    found: &[u8; 32],
+) -> Result<(), NoMemory> {
+    push_digest(alloc, text, "kept ", kept)?;
+    push_digest(alloc, text, "found", found)
 }
 
 /// Adds a receipt.
@@ -45,10 +35,17 @@ fn push_receipt(alloc: Global, text: &mut String, receipt: Receipt) -> Result<()
             found,
         } => {
             writeln!(text, "conflict at {number}")?;
-            writeln!(text, "kept  {}", hex::encode(alloc, &kept)?)?;
-            Ok(writeln!(text, "found {}", hex::encode(alloc, &found)?)?)
+            push_digests(alloc, text, &kept, &found)
         }
     }
+}
+
+/// Gives a valid frame to the ledger.
+fn received(alloc: Global, ledger: &mut Ledger, frame: &Frame) -> Result<Receipt, NoMemory>
+    requires { is_valid frame.now ≡ true }
+{
+    let digest = digest_of(alloc, frame)?;
+    ledger.receive(alloc, frame, digest)
 }
 
 /// Gives a valid frame to the ledger, and adds the receipt.
@@ -60,15 +57,24 @@ fn push_received(
 ) -> Result<(), NoMemory>
     requires { is_valid frame.now ≡ true }
 {
-    let digest = digest_of(alloc, frame)?;
-    let receipt = ledger.receive(alloc, frame, digest)?;
+    let receipt = received(alloc, ledger, frame)?;
     push_receipt(alloc, text, receipt)?;
-    Ok(writeln!(
-        text,
-        "{} {}",
-        frame.host.as_str(),
-        ledger.recorded(&frame.host)
-    )?)
+    let (host, recorded) = (frame.host.as_str(), ledger.recorded(&frame.host));
+    Ok(writeln!(text, "{host} {recorded}")?)
+}
+
+/// Gives a frame to the ledger, and adds the receipt.
+fn push_frame(
+    alloc: Global,
+    text: &mut String,
+    ledger: &mut Ledger,
+    frame: &Frame,
+) -> Result<(), NoMemory> {
+    if frame.is_valid() {
+        push_received(alloc, text, ledger, frame)
+    } else {
+        Ok(text.push_str("not valid\n")?)
+    }
 }
 
 /// The text at a place of an array; the empty one where none is there.
@@ -86,22 +92,28 @@ fn push_item(
     let parts = items_of(Some(item));
     let number = parts.get(1).and_then(Json::as_u64).unwrap_or(0);
     let frame = frame_of(alloc, text_at(parts, 0), number, text_at(parts, 2))?;
-    if frame.is_valid() {
-        push_received(alloc, text, ledger, &frame)
-    } else {
-        Ok(text.push_str("not valid\n")?)
-    }
+    push_frame(alloc, text, ledger, &frame)
 }
 
-/// Adds what a ledger answers to frames, one after another.
+/// Gives the frames of items to the ledger, one after another.
+fn push_items(
+    alloc: Global,
+    text: &mut String,
+    ledger: &mut Ledger,
+    items: &[Json],
+) -> Result<(), NoMemory> {
+    for item in items {
+        push_item(alloc, text, ledger, item)?;
+    }
+    Ok(())
+}
+
+/// Adds what a ledger that had no frames answers to these, one after another.
 pub(crate) fn push_receipts(
     alloc: Global,
     text: &mut String,
     items: &[Json],
 ) -> Result<(), NoMemory> {
     let mut ledger = Ledger::empty(alloc);
-    for item in items {
-        push_item(alloc, text, &mut ledger, item)?;
-    }
-    Ok(())
+    push_items(alloc, text, &mut ledger, items)
 }

@@ -11,6 +11,8 @@
 mod answer;
 mod frames;
 mod ledger;
+mod made;
+mod shown;
 
 use case_text::print_answers;
 use std::io;
