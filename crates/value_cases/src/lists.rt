@@ -1,7 +1,7 @@
 //! Lists of values, lists as the keys of a map, and rows that share their values.
 
 use case_text::{items_of, push_row, push_value, push_values, row_of, value_of, values_of};
-use osq_value::{Copied, NoMemory, Sequence, Value};
+use osq_value::{Copied, NoMemory, Row, Sequence, Value};
 use serde_json::Value as Json;
 use std::alloc::Global;
 use std::collections::HashMap;
@@ -9,8 +9,16 @@ use std::collections::HashMap;
 /// Values, in order.
 type ValueList = Sequence<Value>;
 
+/// The places of lists.
+type Places = HashMap<ValueList, usize>;
+
 fn list_of(alloc: Global, given: &Json) -> Result<ValueList, NoMemory> {
     Ok(ValueList::from_vec(values_of(alloc, given)?))
+}
+
+/// A copy of the list of an array.
+fn copy_of(alloc: Global, given: &Json) -> Result<ValueList, NoMemory> {
+    list_of(alloc, given)?.copy(alloc)
 }
 
 /// Adds a list, the number of its values, and the end of the line.
@@ -27,20 +35,37 @@ fn push_maybe(text: &mut String, value: Option<&Value>) -> Result<(), NoMemory> 
         Some(value) => push_value(text, value)?,
         None => text.push_str(" none")?,
     }
-    text.push_str("\n")?;
-    Ok(())
+    Ok(text.push_str("\n")?)
 }
 
-fn push_answer(text: &mut String, is_so: bool) -> Result<(), NoMemory> {
-    text.push_str(if is_so { ": yes\n" } else { ": no\n" })?;
-    Ok(())
+/// Takes the first value off, and adds it.
+fn take_first(text: &mut String, list: &mut ValueList) -> Result<(), NoMemory> {
+    let first = list.take_first();
+    push_maybe(text, first.as_ref())
 }
 
 /// Takes the first value off, and adds it and what it leaves.
-fn take_first(text: &mut String, list: &mut ValueList) -> Result<(), NoMemory> {
-    push_maybe(text, list.take_first().as_ref())?;
+fn push_first(text: &mut String, list: &mut ValueList) -> Result<(), NoMemory> {
+    take_first(text, list)?;
     text.push_str("   leaves")?;
     push_whole(text, list)
+}
+
+/// Adds the value at a place.
+fn push_got(text: &mut String, list: &ValueList, at: u64) -> Result<(), NoMemory> {
+    push_maybe(text, list.get(usize::try_from(at).unwrap_or(usize::MAX)))
+}
+
+/// Adds whether the list is that of an array.
+fn push_alike(
+    alloc: Global,
+    text: &mut String,
+    list: &ValueList,
+    items: &Json,
+) -> Result<(), NoMemory> {
+    let other = list_of(alloc, items)?;
+    let answer = if *list == other { ": yes\n" } else { ": no\n" };
+    Ok(text.push_str(answer)?)
 }
 
 /// Adds the values of an array at the end of the list.
@@ -49,7 +74,7 @@ fn append(alloc: Global, list: &mut ValueList, items: &Json) -> Result<(), NoMem
     list.append(ValueList::from_vec(more))
 }
 
-/// Does a step that has a member, and adds its answer.
+/// Does a step that changes the list, and adds the list.
 fn push_changed(
     alloc: Global,
     text: &mut String,
@@ -74,16 +99,30 @@ fn push_step(
     step: &Json,
 ) -> Result<(), NoMemory> {
     if let Some(at) = step.get("get").and_then(Json::as_u64) {
-        return push_maybe(text, list.get(usize::try_from(at).unwrap_or(usize::MAX)));
+        return push_got(text, list, at);
     }
     if let Some(items) = step.get("is") {
-        let other = list_of(alloc, items)?;
-        return push_answer(text, *list == other);
+        return push_alike(alloc, text, list, items);
     }
     match step.as_str() {
-        Some("take_first") => take_first(text, list),
+        Some("take_first") => push_first(text, list),
         _ => push_changed(alloc, text, list, step),
     }
+}
+
+/// Adds a list, and a line for each step over it.
+fn push_steps(
+    alloc: Global,
+    text: &mut String,
+    list: &mut ValueList,
+    steps: &[Json],
+) -> Result<(), NoMemory> {
+    push_whole(text, list)?;
+    for step in steps {
+        write!(text, "  {step}")?;
+        push_step(alloc, text, list, step)?;
+    }
+    Ok(())
 }
 
 /// Adds a list, and a line for each step over a copy of it.
@@ -91,25 +130,54 @@ pub(crate) fn push_list(
     alloc: Global,
     text: &mut String,
     given: &Json,
-    steps: &Json,
+    steps: Option<&Json>,
 ) -> Result<(), NoMemory> {
-    let mut list = list_of(alloc, given)?.copy(alloc)?;
-    push_whole(text, &list)?;
-    for step in items_of(Some(steps)) {
-        let shown = step.to_string(alloc)?;
-        write!(text, "  {shown}")?;
-        push_step(alloc, text, &mut list, step)?;
+    let mut list = copy_of(alloc, given)?;
+    push_steps(alloc, text, &mut list, items_of(steps))
+}
+
+/// Puts each list under its place.
+fn put_places(alloc: Global, places: &mut Places, keys: &[Json]) -> Result<(), NoMemory> {
+    for (place, key) in keys.iter().enumerate() {
+        places.insert(list_of(alloc, key)?, place)?;
     }
     Ok(())
 }
 
 /// A map of lists to their places.
-fn places_of(alloc: Global, keys: &[Json]) -> Result<HashMap<ValueList, usize>, NoMemory> {
+fn places_of(alloc: Global, keys: &[Json]) -> Result<Places, NoMemory> {
     let mut places = HashMap::with_capacity(alloc, keys.len())?;
-    for (place, key) in keys.iter().enumerate() {
-        places.insert(list_of(alloc, key)?, place)?;
-    }
+    put_places(alloc, &mut places, keys)?;
     Ok(places)
+}
+
+/// The list that is asked for; the empty one where none is.
+fn asked_of(alloc: Global, asked: Option<&Json>) -> Result<ValueList, NoMemory> {
+    match asked {
+        Some(asked) => list_of(alloc, asked),
+        None => Ok(ValueList::new(alloc)),
+    }
+}
+
+/// Adds a list, and its place in a map.
+fn push_place(text: &mut String, places: &Places, key: &ValueList) -> Result<(), NoMemory> {
+    text.push_str(" asked ")?;
+    push_values(text, key.as_slice())?;
+    match places.get(key) {
+        Some(place) => Ok(writeln!(text, ": {place}")?),
+        None => Ok(text.push_str(": none\n")?),
+    }
+}
+
+/// Adds the list that is asked for, and its place in a map.
+fn push_found(
+    alloc: Global,
+    text: &mut String,
+    places: &Places,
+    asked: Option<&Json>,
+) -> Result<(), NoMemory> {
+    let key = asked_of(alloc, asked)?;
+    push_place(text, places, &key)
 }
 
 /// Adds the place of the list that is asked for.
@@ -117,16 +185,44 @@ pub(crate) fn push_asked(
     alloc: Global,
     text: &mut String,
     given: &Json,
-    asked: &Json,
+    asked: Option<&Json>,
 ) -> Result<(), NoMemory> {
     let places = places_of(alloc, items_of(Some(given)))?;
-    let key = list_of(alloc, asked)?;
-    text.push_str(" asked ")?;
-    push_values(text, key.as_slice())?;
-    match places.get(&key) {
-        Some(place) => Ok(writeln!(text, ": {place}")?),
-        None => Ok(text.push_str(": none\n")?),
-    }
+    push_found(alloc, text, &places, asked)
+}
+
+/// The row of an array, whose copies share its values.
+fn shared_row(alloc: Global, given: &Json) -> Result<Row, NoMemory> {
+    row_of(alloc, given)?.shared(alloc)
+}
+
+/// Adds what a copy of a row has gained, and the row.
+fn push_rows(text: &mut String, copy: &Row, row: &Row) -> Result<(), NoMemory> {
+    text.push_str(" gains ")?;
+    push_row(text, copy)?;
+    text.push_str(" leaves ")?;
+    push_row(text, row)?;
+    Ok(text.push_str("\n")?)
+}
+
+/// Adds a value to a row; Null where none is given.
+fn gain(alloc: Global, row: &mut Row, gains: Option<&Json>) -> Result<(), NoMemory> {
+    row.push(match gains {
+        Some(gains) => value_of(alloc, gains)?,
+        None => Value::Null,
+    })
+}
+
+/// Adds a copy of a row that gains a value, and the row.
+fn push_copy(
+    alloc: Global,
+    text: &mut String,
+    row: &Row,
+    gains: Option<&Json>,
+) -> Result<(), NoMemory> {
+    let mut copy = row.copy(alloc)?;
+    gain(alloc, &mut copy, gains)?;
+    push_rows(text, &copy, row)
 }
 
 /// Adds a copy of a row that shares its values and then gains one, and the row.
@@ -134,14 +230,8 @@ pub(crate) fn push_gained(
     alloc: Global,
     text: &mut String,
     given: &Json,
-    gains: &Json,
+    gains: Option<&Json>,
 ) -> Result<(), NoMemory> {
-    let row = row_of(alloc, given)?.shared(alloc)?;
-    let mut copy = row.copy(alloc)?;
-    copy.push(value_of(alloc, gains)?)?;
-    text.push_str(" gains ")?;
-    push_row(text, &copy)?;
-    text.push_str(" leaves ")?;
-    push_row(text, &row)?;
-    Ok(text.push_str("\n")?)
+    let row = shared_row(alloc, given)?;
+    push_copy(alloc, text, &row, gains)
 }

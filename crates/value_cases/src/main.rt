@@ -12,17 +12,10 @@ mod lists;
 mod tables;
 mod values;
 
-use answer::answer_of;
-use osq_value::NoMemory;
-use std::io::{self, ErrorKind};
+use answer::Answers;
+use case_text::print_told;
+use std::io;
 
 fn main(rt: HostRuntime) -> io::Result<()> {
-    let alloc = rt.alloc();
-    for line in rt.lines(alloc) {
-        match answer_of(alloc, line?.as_str()) {
-            Ok(text) => print!(rt; "{text}")?,
-            Err(NoMemory) => return Err(io::Error::from(ErrorKind::OutOfMemory)),
-        }
-    }
-    Ok(())
+    print_told(&rt, rt.alloc(), &mut Answers)
 }

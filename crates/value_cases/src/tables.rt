@@ -42,11 +42,8 @@ fn push_found(text: &mut String, found: Option<TableDesc>) -> Result<(), NoMemor
         return Ok(text.push_str(": none\n")?);
     };
     let kind = kind_name(table.kind);
-    write!(
-        text,
-        ": {} {} {kind} {}",
-        table.id.0, table.name, table.width
-    )?;
+    write!(text, ": {} {} ", table.id.0, table.name)?;
+    write!(text, "{kind} {}", table.width)?;
     push_columns(text, table.id)
 }
 

@@ -7,6 +7,11 @@ use std::alloc::Global;
 use std::cmp::Ordering;
 use std::str;
 
+/// The text of a value; the empty text where it is none.
+fn text_of(item: &Json) -> &str {
+    item.as_str().unwrap_or("")
+}
+
 fn sign_of(order: Ordering) -> &'static str {
     match order {
         Ordering::Less => "<",
@@ -25,21 +30,26 @@ fn push_signs(text: &mut String, left: &Value, values: &[Value]) -> Result<(), N
 }
 
 /// Adds a line for each value, which says how it stands to each of them.
-pub(crate) fn push_order(alloc: Global, text: &mut String, given: &Json) -> Result<(), NoMemory> {
-    let row = row_of(alloc, given)?;
+fn push_lines(text: &mut String, values: &[Value]) -> Result<(), NoMemory> {
     text.push_str("\n")?;
-    for value in row.as_slice() {
+    for value in values {
         text.push_str(" ")?;
         push_value(text, value)?;
         text.push_str(": ")?;
-        push_signs(text, value, row.as_slice())?;
+        push_signs(text, value, values)?;
     }
     Ok(())
 }
 
+/// Adds how the values of an array stand to one another.
+pub(crate) fn push_order(alloc: Global, text: &mut String, given: &Json) -> Result<(), NoMemory> {
+    let row = row_of(alloc, given)?;
+    push_lines(text, row.as_slice())
+}
+
 /// Adds the whole number that a text spells.
 pub(crate) fn push_spelling(text: &mut String, given: &Json) -> Result<(), NoMemory> {
-    match int_spelling(given.as_str().unwrap_or("").as_bytes()) {
+    match int_spelling(text_of(given).as_bytes()) {
         Some(number) => writeln!(text, ": {number}")?,
         None => text.push_str(": none\n")?,
     }
@@ -80,19 +90,40 @@ fn push_copy(alloc: Global, text: &mut String, given: &Str) -> Result<(), NoMemo
     Ok(())
 }
 
-/// Adds copies of two texts, and whether they are the same. The second is made of a text that takes memory, however short it is.
-pub(crate) fn push_same(alloc: Global, text: &mut String, given: &Json) -> Result<(), NoMemory> {
-    let (first, second) = match items_of(Some(given)) {
-        [first, second] => (first.as_str().unwrap_or(""), second.as_str().unwrap_or("")),
-        _ => return Ok(text.push_str(": not two texts\n")?),
-    };
-    let left = Str::of(alloc, first)?;
-    let right = Str::from_string(String::from_str(alloc, second)?);
+/// Adds copies of two texts, and whether they are the same.
+fn push_both(alloc: Global, text: &mut String, left: &Str, right: &Str) -> Result<(), NoMemory> {
     text.push_str(":")?;
-    push_copy(alloc, text, &left)?;
-    push_copy(alloc, text, &right)?;
-    let answer = if left == right { "yes" } else { "no" };
-    Ok(writeln!(text, " {answer}")?)
+    push_copy(alloc, text, left)?;
+    push_copy(alloc, text, right)?;
+    Ok(text.push_str(if left == right { " yes\n" } else { " no\n" })?)
+}
+
+/// A text that takes memory, however short it is.
+fn long_text(alloc: Global, text: &str) -> Result<Str, NoMemory> {
+    Ok(Str::from_string(String::from_str(alloc, text)?))
+}
+
+/// Adds copies of two texts, and whether they are the same. The second takes memory, however short it is.
+fn push_pair(alloc: Global, text: &mut String, first: &str, second: &str) -> Result<(), NoMemory> {
+    let left = Str::of(alloc, first)?;
+    let right = long_text(alloc, second)?;
+    push_both(alloc, text, &left, &right)
+}
+
+/// Adds copies of two texts, and whether they are the same.
+pub(crate) fn push_same(alloc: Global, text: &mut String, given: &Json) -> Result<(), NoMemory> {
+    match items_of(Some(given)) {
+        [first, second] => push_pair(alloc, text, text_of(first), text_of(second)),
+        _ => Ok(text.push_str(": not two texts\n")?),
+    }
+}
+
+/// Adds these texts, one behind another.
+fn join(bytes: &mut Bytes, parts: &[Json]) -> Result<(), NoMemory> {
+    for part in parts {
+        bytes.extend(text_of(part).as_bytes())?;
+    }
+    Ok(())
 }
 
 /// The bytes of these texts, one behind another.
@@ -100,16 +131,20 @@ fn joined(alloc: Global, parts: &[Json]) -> Result<Bytes, NoMemory> {
     let Some((first, rest)) = parts.split_first() else {
         return Ok(Bytes::new(alloc));
     };
-    let mut bytes = Bytes::of(alloc, first.as_str().unwrap_or("").as_bytes())?;
-    for part in rest {
-        bytes.extend(part.as_str().unwrap_or("").as_bytes())?;
-    }
+    let mut bytes = Bytes::of(alloc, text_of(first).as_bytes())?;
+    join(&mut bytes, rest)?;
     Ok(bytes)
+}
+
+/// Adds bytes, and how many there are.
+fn push_shown(text: &mut String, bytes: &Bytes) -> Result<(), NoMemory> {
+    let shown = str::from_utf8(bytes.as_slice()).unwrap_or("no UTF-8");
+    Ok(writeln!(text, ": '{shown}' of {}", bytes.len())?)
 }
 
 /// Adds a copy of the joined bytes.
 pub(crate) fn push_bytes(alloc: Global, text: &mut String, given: &Json) -> Result<(), NoMemory> {
-    let copy = joined(alloc, items_of(Some(given)))?.copy(alloc)?;
-    let shown = str::from_utf8(copy.as_slice()).unwrap_or("no UTF-8");
-    Ok(writeln!(text, ": '{shown}' of {}", copy.len())?)
+    let bytes = joined(alloc, items_of(Some(given)))?;
+    let copy = bytes.copy(alloc)?;
+    push_shown(text, &copy)
 }
