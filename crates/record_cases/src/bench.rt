@@ -8,41 +8,29 @@ use crate::gathering::{push_gathered, push_groups};
 use crate::given::Given;
 use crate::publishing::push_published;
 use crate::text::push_escaped;
+use case_text::{Bench, LineKind, json_of_line, kind_of, odd_member};
 use osq_value::NoMemory;
 use serde_json::Value as Json;
 use std::alloc::Global;
 
-/// The kinds of lines.
-const KINDS: [&str; 10] = [
-    "audit",
-    "groups",
-    "gathers",
-    "event",
-    "change",
-    "pattern",
-    "table",
-    "cut",
-    "publisher",
-    "feed",
-];
-
 /// The members that lines of some kind have beside that.
-const MEMBERS: [&str; 10] = [
+const MEMBERS: &[&str] = &[
     "paths", "limit", "offset", "by", "source", "kept", "most", "steps", "fails", "is_whole",
 ];
 
-fn kind_of(line: &Json) -> Option<&'static str> {
-    KINDS.iter().copied().find(|kind| line.get(*kind).is_some())
-}
-
-/// The first member that no line of this kind may have.
-fn odd_key<'a>(line: &'a Json, kind: &str) -> Option<&'a str> {
-    let members = line.as_object()?;
-    members
-        .iter()
-        .map(|(key, _)| key.as_str())
-        .find(|key| *key != kind && !MEMBERS.contains(key))
-}
+/// The kinds of lines.
+const KINDS: [LineKind; 10] = [
+    ("audit", MEMBERS),
+    ("groups", MEMBERS),
+    ("gathers", MEMBERS),
+    ("event", MEMBERS),
+    ("change", MEMBERS),
+    ("pattern", MEMBERS),
+    ("table", MEMBERS),
+    ("cut", MEMBERS),
+    ("publisher", MEMBERS),
+    ("feed", MEMBERS),
+];
 
 /// Adds what is made of a line of a log, or of lines.
 fn push_lines(
@@ -79,69 +67,93 @@ fn push_made(
 
 /// Adds what is made of a line, or what it has that no line may have.
 fn push_answer(alloc: Global, text: &mut String, given: Given<'_>) -> Result<(), NoMemory> {
-    let Some(kind) = kind_of(given.line) else {
+    let Some(kind) = kind_of(given.line, KINDS.as_slice()) else {
         return Ok(text.push_str("  no kind of line\n")?);
     };
-    match odd_key(given.line, kind) {
+    match odd_member(given.line, kind) {
         Some(key) => Ok(writeln!(text, "  no line has {key}")?),
-        None => push_made(alloc, text, given, kind),
+        None => push_made(alloc, text, given, kind.0),
     }
+}
+
+/// Adds what is made of a line's JSON, which is Null where the line is none.
+fn push_told(alloc: Global, text: &mut String, given: Given<'_>) -> Result<(), NoMemory> {
+    if given.line.is_null() {
+        return Ok(text.push_str("  not JSON\n")?);
+    }
+    push_answer(alloc, text, given)
+}
+
+/// Adds a line, and below it what is made of it.
+fn push_line(
+    alloc: Global,
+    text: &mut String,
+    line: &str,
+    given: Given<'_>,
+) -> Result<(), NoMemory> {
+    writeln!(text, "{line}")?;
+    let mut answer = String::new(alloc);
+    push_told(alloc, &mut answer, given)?;
+    push_escaped(text, answer.as_str())
 }
 
 /// The texts and the categories that lines gave.
 #[derive(Drop)]
-pub(crate) struct Bench {
+pub(crate) struct Common {
     texts: Json,
     categories: Json,
 }
 
-impl Bench {
-    pub(crate) fn new() -> Bench {
-        Bench {
+impl Common {
+    pub(crate) fn new() -> Common {
+        Common {
             texts: Json::Null,
             categories: Json::Null,
         }
     }
 
-    /// Keeps a line that gives texts or categories, and answers any other.
-    fn take(&mut self, alloc: Global, line: Json) -> Result<String, NoMemory> {
-        let mut text = String::new(alloc);
+    /// Keeps a line that gives texts or categories, and hands any other back.
+    fn keep(&mut self, line: Json) -> Option<Json> {
         if line.get("texts").is_some() {
             self.texts = line;
-            return Ok(text);
-        }
-        if line.get("categories").is_some() {
+            None
+        } else if line.get("categories").is_some() {
             self.categories = line;
-            return Ok(text);
+            None
+        } else {
+            Some(line)
         }
-        let given = Given {
-            line: &line,
+    }
+
+    /// A line with what those before it gave.
+    fn given<'a>(&'a self, line: &'a Json) -> Given<'a> {
+        Given {
+            line,
             texts: &self.texts,
             categories: &self.categories,
-        };
-        push_answer(alloc, &mut text, given)?;
-        Ok(text)
-    }
-
-    /// The answer to a line that is neither empty nor a remark.
-    fn answer(&mut self, alloc: Global, line: &str) -> Result<String, NoMemory> {
-        match Json::from_str(alloc, line) {
-            Ok(value) => self.take(alloc, value),
-            Err(error) if error.is_memory() => Err(NoMemory),
-            Err(_) => Ok(String::from_str(alloc, "  not JSON\n")?),
         }
     }
 
-    /// Takes a line, and answers what is to be printed.
-    pub(crate) fn take_line(&mut self, alloc: Global, line: &str) -> Result<String, NoMemory> {
+    /// Keeps a line that gives texts or categories, and answers any other.
+    fn take(
+        &mut self,
+        alloc: Global,
+        text: &mut String,
+        line: &str,
+        row: Json,
+    ) -> Result<(), NoMemory> {
+        match self.keep(row) {
+            Some(row) => push_line(alloc, text, line, self.given(&row)),
+            None => Ok(()),
+        }
+    }
+}
+
+impl Bench for Common {
+    fn take_line(&mut self, alloc: Global, line: &str) -> Result<String, NoMemory> {
         let mut text = String::new(alloc);
-        if line.is_empty() || line.starts_with('#') {
-            return Ok(text);
-        }
-        let answer = self.answer(alloc, line)?;
-        if !answer.is_empty() {
-            writeln!(text, "{line}")?;
-            push_escaped(&mut text, answer.as_str())?;
+        if let Some(row) = json_of_line(alloc, line)? {
+            self.take(alloc, &mut text, line, row)?;
         }
         Ok(text)
     }

@@ -4,7 +4,7 @@ use crate::given::Given;
 use crate::readings::push_maybe_event;
 use case_text::{member_text, push_row, push_rows, push_value};
 use change_records::{Change, JsonLineError, change_event, path_matches, read_change, read_table};
-use osq_value::{NoMemory, Reading};
+use osq_value::{CategoryList, NoMemory, Reading, RowList, TableId};
 use serde_json::Value as Json;
 use std::alloc::Global;
 
@@ -27,6 +27,42 @@ fn push_whole(text: &mut String, change: &Change) -> Result<(), NoMemory> {
     Ok(())
 }
 
+/// Adds the event of a change under these categories.
+fn push_event(
+    alloc: Global,
+    text: &mut String,
+    change: &Change,
+    categories: &CategoryList,
+) -> Result<(), NoMemory> {
+    let event = change_event(alloc, change, categories)?;
+    push_maybe_event(text, event.as_ref())
+}
+
+/// Adds a change, and its event under the categories that the line gives.
+fn push_both(
+    alloc: Global,
+    text: &mut String,
+    change: &Change,
+    given: Given<'_>,
+) -> Result<(), NoMemory> {
+    push_whole(text, change)?;
+    let categories = given.categories(alloc)?;
+    push_event(alloc, text, change, &categories)
+}
+
+/// Adds what bytes are read as, and the event.
+fn push_read(
+    alloc: Global,
+    text: &mut String,
+    bytes: &[u8],
+    given: Given<'_>,
+) -> Result<(), NoMemory> {
+    match read_change(alloc, bytes) {
+        Ok(change) => push_both(alloc, text, &change, given),
+        Err(error) => push_refused(text, error),
+    }
+}
+
 /// Adds what a line of a change is read as, and its event.
 pub(crate) fn push_change(
     alloc: Global,
@@ -34,14 +70,7 @@ pub(crate) fn push_change(
     given: Given<'_>,
 ) -> Result<(), NoMemory> {
     let bytes = given.text_at(alloc, "change")?;
-    match read_change(alloc, bytes.as_slice()) {
-        Err(error) => push_refused(text, error),
-        Ok(change) => {
-            push_whole(text, &change)?;
-            let event = change_event(alloc, &change, &given.categories(alloc)?)?;
-            push_maybe_event(text, event.as_ref())
-        }
-    }
+    push_read(alloc, text, bytes.as_slice(), given)
 }
 
 /// Adds for each path whether the pattern matches it.
@@ -58,14 +87,31 @@ pub(crate) fn push_matches(text: &mut String, given: Given<'_>) -> Result<(), No
     Ok(())
 }
 
+/// Adds the rows of a table, with the offset behind its line.
+fn push_rows_of(
+    text: &mut String,
+    taken: u64,
+    table: TableId,
+    rows: &RowList,
+) -> Result<(), NoMemory> {
+    write!(text, "  {taken}:{}", table.0)?;
+    write!(text, "x{}", rows.len())?;
+    push_rows(text, rows)?;
+    Ok(text.push_str("\n")?)
+}
+
 fn push_reading(text: &mut String, reading: &Reading) -> Result<(), NoMemory> {
     match reading {
-        Reading::Table { taken, table, rows } => {
-            write!(text, "  {taken}:{}x{}", table.0, rows.len())?;
-            push_rows(text, rows)?;
-            Ok(text.push_str("\n")?)
-        }
+        Reading::Table { taken, table, rows } => push_rows_of(text, *taken, *table, rows),
         Reading::Events { .. } => Ok(text.push_str("  no table\n")?),
+    }
+}
+
+/// Adds what bytes are read as.
+fn push_read_table(alloc: Global, text: &mut String, bytes: &[u8]) -> Result<(), NoMemory> {
+    match read_table(alloc, bytes) {
+        Ok(reading) => push_reading(text, &reading),
+        Err(error) => push_refused(text, error),
     }
 }
 
@@ -76,8 +122,5 @@ pub(crate) fn push_table(
     given: Given<'_>,
 ) -> Result<(), NoMemory> {
     let bytes = given.text_at(alloc, "table")?;
-    match read_table(alloc, bytes.as_slice()) {
-        Err(error) => push_refused(text, error),
-        Ok(reading) => push_reading(text, &reading),
-    }
+    push_read_table(alloc, text, bytes.as_slice())
 }

@@ -1,8 +1,9 @@
 //! A stream that is cut into lines.
 
 use crate::given::Given;
-use osq_value::{Bytes, NoMemory};
+use osq_value::NoMemory;
 use record_lines::{Cut, LineCutter};
+use serde_json::Value as Json;
 use std::alloc::Global;
 use std::str;
 
@@ -10,10 +11,10 @@ use std::str;
 fn feed(
     text: &mut String,
     cutter: &mut LineCutter,
-    bytes: &Bytes,
+    bytes: &[u8],
     width: usize,
 ) -> Result<(), NoMemory> {
-    for piece in bytes.as_slice().chunks(width.max(1)) {
+    for piece in bytes.chunks(width.max(1)) {
         match cutter.feed(piece) {
             Ok(()) => {}
             Err(NoMemory) => text.push_str(" refused")?,
@@ -27,7 +28,8 @@ fn push_one(text: &mut String, cut: &Cut) -> Result<(), NoMemory> {
     match cut {
         Cut::Line(line) => {
             let shown = str::from_utf8(line.text.as_slice()).unwrap_or("no UTF-8");
-            write!(text, " '{shown}'@{}", line.end)?;
+            write!(text, " '{shown}'")?;
+            write!(text, "@{}", line.end)?;
         }
         Cut::Skipped { end } => write!(text, " -@{end}")?,
     }
@@ -46,7 +48,36 @@ fn push_taken(text: &mut String, cutter: &mut LineCutter) -> Result<(), NoMemory
     Ok(())
 }
 
-/// Adds what a cutter gives behind each of the texts, which are fed by so many bytes.
+/// Feeds the text of an item by so many bytes, and adds the lines that are whole behind it.
+fn push_fed(
+    alloc: Global,
+    text: &mut String,
+    cutter: &mut LineCutter,
+    given: Given<'_>,
+    item: &Json,
+    width: usize,
+) -> Result<(), NoMemory> {
+    let bytes = given.text(alloc, item)?;
+    feed(text, cutter, bytes.as_slice(), width)?;
+    push_taken(text, cutter)
+}
+
+/// Adds what the cutter gives behind each of the texts, which are fed by so many bytes.
+fn push_texts(
+    alloc: Global,
+    text: &mut String,
+    cutter: &mut LineCutter,
+    given: Given<'_>,
+    width: usize,
+) -> Result<(), NoMemory> {
+    write!(text, "  by {width}:")?;
+    for item in given.items("cut") {
+        push_fed(alloc, text, cutter, given, item, width)?;
+    }
+    Ok(text.push_str("\n")?)
+}
+
+/// Adds what a cutter gives where it is fed by so many bytes.
 fn push_run(
     alloc: Global,
     text: &mut String,
@@ -56,14 +87,7 @@ fn push_run(
     let limit = given.number("limit").unwrap_or(0);
     let offset = given.number("offset").unwrap_or(0);
     let mut cutter = LineCutter::new(alloc, limit, offset);
-    write!(text, "  by {width}:")?;
-    for item in given.items("cut") {
-        let bytes = given.text(alloc, item)?;
-        feed(text, &mut cutter, &bytes, width)?;
-        push_taken(text, &mut cutter)?;
-    }
-    text.push_str("\n")?;
-    Ok(())
+    push_texts(alloc, text, &mut cutter, given, width)
 }
 
 /// Adds a line for each width.

@@ -14,9 +14,9 @@ use std::alloc::Global;
 fn opened(alloc: Global, given: Given<'_>, kind: SourceKind) -> Result<Feed, NoMemory>
     ensures { IfOk result (λ feed. IsOpen feed) }
 {
+    let paths = given.categories(alloc)?;
     let name = Str::of(alloc, "source")?;
     let kept = given.number("kept").unwrap_or(0);
-    let paths = given.categories(alloc)?;
     match Feed::open(alloc, name, kind, kept, paths) {
         Ok(feed) => Ok(feed),
         Err(NoMemory) => Err(NoMemory),
@@ -56,6 +56,37 @@ fn push_steps(
     Ok(())
 }
 
+/// Starts a feed, and adds what it gives.
+fn push_started(
+    alloc: Global,
+    text: &mut String,
+    feed: &mut Feed,
+    source: &mut Sips,
+    given: Given<'_>,
+) -> Result<(), NoMemory>
+    requires { IsOpen feed.old }
+{
+    match feed.start(source) {
+        Ok(()) => push_steps(alloc, text, feed, source, given),
+        Err(error) => {
+            text.push_str(" start")?;
+            push_refusal(text, error)
+        }
+    }
+}
+
+/// Opens a feed, and adds what it gives of the source.
+fn push_opened(
+    alloc: Global,
+    text: &mut String,
+    source: &mut Sips,
+    given: Given<'_>,
+    kind: SourceKind,
+) -> Result<(), NoMemory> {
+    let mut feed = opened(alloc, given, kind)?;
+    push_started(alloc, text, &mut feed, source, given)
+}
+
 /// Adds what a feed gives of the source by so many bytes.
 fn push_run(
     alloc: Global,
@@ -64,16 +95,10 @@ fn push_run(
     kind: SourceKind,
     width: usize,
 ) -> Result<(), NoMemory> {
-    let mut source = given.source(alloc, width)?;
-    let mut feed = opened(alloc, given, kind)?;
     write!(text, "  by {width}:")?;
-    match feed.start(&mut source) {
-        Ok(()) => push_steps(alloc, text, &mut feed, &mut source, given),
-        Err(error) => {
-            text.push_str(" start")?;
-            push_refusal(text, error)
-        }
-    }
+    let mut source = given.source(alloc, width)?;
+    push_opened(alloc, text, &mut source, given, kind)?;
+    Ok(text.push_str("\n")?)
 }
 
 /// Adds a line for each width.
@@ -88,7 +113,6 @@ pub(crate) fn push_feed(
     let widths = given.widths(alloc)?;
     for width in widths.as_slice() {
         push_run(alloc, text, given, kind, *width)?;
-        text.push_str("\n")?;
     }
     Ok(())
 }

@@ -26,8 +26,9 @@ fn line_of(alloc: Global, item: &Json) -> Result<Option<AuditLine>, NoMemory> {
     }))
 }
 
-/// Adds how many lines a group has, or a dash where there is none.
-fn push_size(text: &mut String, group: Option<&AuditGroup>) -> Result<(), NoMemory> {
+/// Adds a sign and how many lines a group has, or a dash where there is none.
+fn push_size(text: &mut String, sign: &str, group: Option<&AuditGroup>) -> Result<(), NoMemory> {
+    text.push_str(sign)?;
     match group {
         Some(group) => write!(text, "{}", group.len())?,
         None => text.push_str("-")?,
@@ -35,51 +36,98 @@ fn push_size(text: &mut String, group: Option<&AuditGroup>) -> Result<(), NoMemo
     Ok(())
 }
 
-/// Adds which groups a line ends.
-fn push_ended(
+/// Takes a line, and adds the group before it that it ends.
+fn push_before(
     text: &mut String,
     builder: &mut GroupBuilder,
     line: AuditLine,
 ) -> Result<(), NoMemory> {
     let before = builder.push(line)?;
-    text.push_str(" ")?;
-    push_size(text, before.as_ref())?;
-    text.push_str("+")?;
-    push_size(text, builder.finish_own().as_ref())
+    push_size(text, " ", before.as_ref())
+}
+
+/// Adds the group of the last line where that ends it.
+fn push_own(text: &mut String, builder: &mut GroupBuilder) -> Result<(), NoMemory> {
+    let own = builder.finish_own();
+    push_size(text, "+", own.as_ref())
+}
+
+/// Adds the group that the end of input ends.
+fn push_last(text: &mut String, builder: &mut GroupBuilder) -> Result<(), NoMemory> {
+    let last = builder.finish();
+    push_size(text, " ", last.as_ref())
+}
+
+/// Takes the line of an item, and adds which groups it ends.
+fn push_ended(
+    alloc: Global,
+    text: &mut String,
+    builder: &mut GroupBuilder,
+    item: &Json,
+) -> Result<(), NoMemory> {
+    if let Some(line) = line_of(alloc, item)? {
+        push_before(text, builder, line)?;
+        push_own(text, builder)?;
+    }
+    Ok(())
 }
 
 /// Adds which groups each line ends, and the groups that the end of input ends when it comes once and once more.
+fn push_all(
+    alloc: Global,
+    text: &mut String,
+    builder: &mut GroupBuilder,
+    items: &[Json],
+) -> Result<(), NoMemory> {
+    text.push_str(" ")?;
+    for item in items {
+        push_ended(alloc, text, builder, item)?;
+    }
+    text.push_str(" end")?;
+    push_last(text, builder)?;
+    push_last(text, builder)?;
+    Ok(text.push_str("\n")?)
+}
+
+/// Adds which groups lines end.
 pub(crate) fn push_groups(
     alloc: Global,
     text: &mut String,
     given: Given<'_>,
 ) -> Result<(), NoMemory> {
     let mut builder = GroupBuilder::new(alloc);
-    text.push_str(" ")?;
-    for item in given.items("groups") {
-        if let Some(line) = line_of(alloc, item)? {
-            push_ended(text, &mut builder, line)?;
-        }
+    push_all(alloc, text, &mut builder, given.items("groups"))
+}
+
+/// How many lines a record has.
+fn size_of(record: &AuditRecord) -> usize {
+    match &record.group {
+        Some(group) => group.len(),
+        None => 0,
     }
-    text.push_str(" end ")?;
-    push_size(text, builder.finish().as_ref())?;
-    text.push_str(" ")?;
-    push_size(text, builder.finish().as_ref())?;
-    text.push_str("\n")?;
-    Ok(())
 }
 
 /// Adds what records have: lines, skipped lines, and their end.
 fn push_records(text: &mut String, records: &VecDeque<AuditRecord>) -> Result<(), NoMemory> {
     for record in records.iter() {
-        let lines = match &record.group {
-            Some(group) => group.len(),
-            None => 0,
-        };
-        write!(text, " {lines}+{}@{}", record.skipped, record.end)?;
+        write!(text, " {}+{}", size_of(record), record.skipped)?;
+        write!(text, "@{}", record.end)?;
     }
-    text.push_str("\n")?;
-    Ok(())
+    Ok(text.push_str("\n")?)
+}
+
+/// Gathers an item.
+fn gather(
+    alloc: Global,
+    gathering: &mut Gathering,
+    records: &mut VecDeque<AuditRecord>,
+    item: &Json,
+    end: u64,
+) -> Result<(), NoMemory> {
+    if item.as_str() == Some("finish") {
+        return gathering.finish(records);
+    }
+    gathering.take(line_of(alloc, item)?, end, records)
 }
 
 /// Gathers an item, and adds the records that it completes.
@@ -90,30 +138,35 @@ fn push_item(
     item: &Json,
     end: u64,
 ) -> Result<(), NoMemory> {
+    write!(text, "  {item}:")?;
     let mut records = VecDeque::new(alloc);
-    if item.as_str() == Some("finish") {
-        gathering.finish(&mut records)?;
-    } else {
-        gathering.take(line_of(alloc, item)?, end, &mut records)?;
-    }
-    let shown = item.to_string(alloc)?;
-    write!(text, "  {shown}:")?;
+    gather(alloc, gathering, &mut records, item, end)?;
     push_records(text, &records)
 }
 
 /// Adds which records each item completes. The lines end at their numbers.
+fn push_items(
+    alloc: Global,
+    text: &mut String,
+    gathering: &mut Gathering,
+    items: &[Json],
+) -> Result<(), NoMemory> {
+    let mut end = 0u64;
+    for item in items {
+        if item.as_str().is_none() {
+            end = end.saturating_add(1);
+        }
+        push_item(alloc, text, gathering, item, end)?;
+    }
+    Ok(())
+}
+
+/// Adds which records items complete.
 pub(crate) fn push_gathered(
     alloc: Global,
     text: &mut String,
     given: Given<'_>,
 ) -> Result<(), NoMemory> {
     let mut gathering = Gathering::new(alloc);
-    let mut end = 0u64;
-    for item in given.items("gathers") {
-        if item.as_str().is_none() {
-            end = end.saturating_add(1);
-        }
-        push_item(alloc, text, &mut gathering, item, end)?;
-    }
-    Ok(())
+    push_items(alloc, text, &mut gathering, given.items("gathers"))
 }

@@ -19,23 +19,51 @@ pub(crate) struct Given<'a> {
     pub(crate) categories: &'a Json,
 }
 
+/// Adds a pattern, of excluded paths where a `!` stands before it.
+fn add_pattern(alloc: Global, category: &mut Category, text: &str) -> Result<(), NoMemory> {
+    match text.strip_prefix('!') {
+        Some(pattern) => category.excluded.push(Str::of(alloc, pattern)?),
+        None => category.patterns.push(Str::of(alloc, text)?),
+    }
+}
+
+/// Names the category by the first of these texts, and adds the others as patterns.
+fn fill_category(alloc: Global, category: &mut Category, items: &[Json]) -> Result<(), NoMemory> {
+    let mut texts = items.iter().filter_map(Json::as_str);
+    category.name = Str::of(alloc, texts.next().unwrap_or(""))?;
+    for text in texts {
+        add_pattern(alloc, category, text)?;
+    }
+    Ok(())
+}
+
 /// The category of an array of its name and its patterns.
 fn category_of(alloc: Global, item: &Json) -> Result<Category, NoMemory> {
-    let mut texts = items_of(Some(item)).iter().filter_map(Json::as_str);
-    let name = Str::of(alloc, texts.next().unwrap_or(""))?;
-    let mut patterns = TextList::new(alloc);
-    let mut excluded = TextList::new(alloc);
-    for text in texts {
-        match text.strip_prefix('!') {
-            Some(pattern) => excluded.push(Str::of(alloc, pattern)?)?,
-            None => patterns.push(Str::of(alloc, text)?)?,
-        }
+    let mut category = Category {
+        name: Str::empty(),
+        patterns: TextList::new(alloc),
+        excluded: TextList::new(alloc),
+    };
+    fill_category(alloc, &mut category, items_of(Some(item)))?;
+    Ok(category)
+}
+
+/// The categories of arrays.
+fn categories_of(alloc: Global, items: &[Json]) -> Result<CategoryList, NoMemory> {
+    let mut categories = CategoryList::new(alloc);
+    for item in items {
+        categories.push(category_of(alloc, item)?)?;
     }
-    Ok(Category {
-        name,
-        patterns,
-        excluded,
-    })
+    Ok(categories)
+}
+
+/// The call that is to fail, if any is.
+fn failing(alloc: Global, call: Option<u64>) -> Result<FailList, NoMemory> {
+    let mut fails = FailList::new(alloc);
+    if let Some(call) = call {
+        fails.push(Fail { call })?;
+    }
+    Ok(fails)
 }
 
 impl<'a> Given<'a> {
@@ -64,10 +92,7 @@ impl<'a> Given<'a> {
 
     /// A copy of the categories, so that copying them is tried too.
     pub(crate) fn categories(self, alloc: Global) -> Result<CategoryList, NoMemory> {
-        let mut categories = CategoryList::new(alloc);
-        for item in items_of(self.categories.get("categories")) {
-            categories.push(category_of(alloc, item)?)?;
-        }
+        let categories = categories_of(alloc, items_of(self.categories.get("categories")))?;
         categories.copy(alloc)
     }
 
@@ -95,10 +120,7 @@ impl<'a> Given<'a> {
 
     /// The source, which gives at most so many bytes at a time, and fails at the call that the line says.
     pub(crate) fn source(self, alloc: Global, most: usize) -> Result<Sips, NoMemory> {
-        let mut fails = FailList::new(alloc);
-        if let Some(call) = self.number("fails") {
-            fails.push(Fail { call })?;
-        }
+        let fails = failing(alloc, self.number("fails"))?;
         let text = self.text_at(alloc, "source")?;
         Ok(Sips {
             inner: MemorySource::new(text, fails),

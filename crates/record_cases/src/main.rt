@@ -29,18 +29,10 @@ mod readings;
 mod sips;
 mod text;
 
-use bench::Bench;
-use osq_value::NoMemory;
-use std::io::{self, ErrorKind};
+use bench::Common;
+use case_text::print_told;
+use std::io;
 
 fn main(rt: HostRuntime) -> io::Result<()> {
-    let alloc = rt.alloc();
-    let mut bench = Bench::new();
-    for line in rt.lines(alloc) {
-        match bench.take_line(alloc, line?.as_str()) {
-            Ok(text) => print!(rt; "{text}")?,
-            Err(NoMemory) => return Err(io::Error::from(ErrorKind::OutOfMemory)),
-        }
-    }
-    Ok(())
+    print_told(&rt, rt.alloc(), &mut Common::new())
 }

@@ -11,6 +11,11 @@ use publisher_core::publisher::Publisher;
 use publisher_core::subscription::{Recorded, Subscription};
 use std::alloc::Global;
 
+/// A subscription under the categories that the line gives.
+fn subscribed(alloc: Global, given: Given<'_>) -> Result<Subscription<Recorded>, NoMemory> {
+    Ok(Subscription::new(Recorded, given.categories(alloc)?))
+}
+
 /// A publisher that isn't begun, of the kept bytes and under the categories that the line gives.
 fn opened(
     alloc: Global,
@@ -19,9 +24,9 @@ fn opened(
 ) -> Result<Publisher<Recorded>, NoMemory>
     ensures { IfOk result (λ made. (made.is_begun ≡ false) × (made.is_spent ≡ false)) }
 {
+    let subscription = subscribed(alloc, given)?;
     let name = Str::of(alloc, "source")?;
     let kept = given.number("kept").unwrap_or(0);
-    let subscription = Subscription::new(Recorded, given.categories(alloc)?);
     match Publisher::new(alloc, name, kind, kept, subscription) {
         Ok(made) => Ok(made),
         Err(NoMemory) => Err(NoMemory),
@@ -79,6 +84,37 @@ fn push_steps(
     Ok(())
 }
 
+/// Starts a publisher, and adds what it gives.
+fn push_started(
+    alloc: Global,
+    text: &mut String,
+    publisher: &mut Publisher<Recorded>,
+    source: &mut Sips,
+    given: Given<'_>,
+) -> Result<(), NoMemory>
+    requires { (publisher.old.is_begun ≡ false) × (publisher.old.is_spent ≡ false) }
+{
+    match publisher.start(source) {
+        Ok(()) => push_steps(alloc, text, publisher, source, given),
+        Err(error) => {
+            text.push_str(" start")?;
+            push_spent(text, publisher, error)
+        }
+    }
+}
+
+/// Opens a publisher, and adds what it gives of the source.
+fn push_opened(
+    alloc: Global,
+    text: &mut String,
+    source: &mut Sips,
+    given: Given<'_>,
+    kind: SourceKind,
+) -> Result<(), NoMemory> {
+    let mut publisher = opened(alloc, given, kind)?;
+    push_started(alloc, text, &mut publisher, source, given)
+}
+
 /// Adds what a publisher gives of the source by so many bytes.
 fn push_run(
     alloc: Global,
@@ -87,16 +123,10 @@ fn push_run(
     kind: SourceKind,
     width: usize,
 ) -> Result<(), NoMemory> {
-    let mut source = given.source(alloc, width)?;
-    let mut publisher = opened(alloc, given, kind)?;
     write!(text, "  by {width}:")?;
-    match publisher.start(&mut source) {
-        Ok(()) => push_steps(alloc, text, &mut publisher, &mut source, given),
-        Err(error) => {
-            text.push_str(" start")?;
-            push_spent(text, &publisher, error)
-        }
-    }
+    let mut source = given.source(alloc, width)?;
+    push_opened(alloc, text, &mut source, given, kind)?;
+    Ok(text.push_str("\n")?)
 }
 
 /// Adds a line for each width.
@@ -111,7 +141,6 @@ pub(crate) fn push_published(
     let widths = given.widths(alloc)?;
     for width in widths.as_slice() {
         push_run(alloc, text, given, kind, *width)?;
-        text.push_str("\n")?;
     }
     Ok(())
 }

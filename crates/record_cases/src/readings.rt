@@ -49,9 +49,17 @@ fn push_reading(text: &mut String, reading: &Reading, is_whole: bool) -> Result<
             push_events(text, events.as_slice(), is_whole)
         }
         Reading::Table { taken, table, rows } => {
-            Ok(write!(text, " {taken}:{}x{}", table.0, rows.len())?)
+            write!(text, " {taken}:{}", table.0)?;
+            Ok(write!(text, "x{}", rows.len())?)
         }
     }
+}
+
+fn push_all(text: &mut String, readings: &[Reading], is_whole: bool) -> Result<(), NoMemory> {
+    for reading in readings {
+        push_reading(text, reading, is_whole)?;
+    }
+    Ok(())
 }
 
 /// Adds a copy of readings, so that copying them is tried too.
@@ -62,10 +70,7 @@ pub(crate) fn push_readings(
     is_whole: bool,
 ) -> Result<(), NoMemory> {
     let copy = readings.copy(alloc)?;
-    for reading in copy.as_slice() {
-        push_reading(text, reading, is_whole)?;
-    }
-    Ok(())
+    push_all(text, copy.as_slice(), is_whole)
 }
 
 /// Adds a mark where the source is at its end.
