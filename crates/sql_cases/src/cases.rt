@@ -1,9 +1,9 @@
 //! The kinds of lines, and what is told of each.
 
 use crate::steps::{push_cut, push_firsts, push_fold, push_ordered};
-use crate::texts::{push_expression, push_query_of, push_sql, text_of};
+use crate::texts::push_text;
 use crate::values::{push_applied, push_called, push_truth, push_worth};
-use case_text::{LineKind, json_of_line, kind_of, odd_member};
+use case_text::{Bench, LineKind, json_of_line, kind_of, odd_member};
 use osq_value::NoMemory;
 use serde_json::Value as Json;
 use std::alloc::Global;
@@ -16,36 +16,21 @@ const TEXT_KINDS: [LineKind; 5] = [
     ("names", &[]),
 ];
 
-const VALUE_KINDS: [LineKind; 8] = [
+const VALUE_KINDS: [LineKind; 4] = [
     ("op", &["of", "left", "right"]),
     ("function", &["of"]),
     ("truth", &[]),
     ("worth", &["from", "of"]),
+];
+
+const STEP_KINDS: [LineKind; 4] = [
     ("fold", &["of", "is_distinct", "rows"]),
     ("firsts", &["width"]),
     ("ordered", &["width", "descending"]),
     ("cut", &["limit", "offset"]),
 ];
 
-/// Adds what a text is.
-fn push_text_case(
-    alloc: Global,
-    shown: &mut String,
-    line: &Json,
-    name: &str,
-) -> Result<(), NoMemory> {
-    let Some(value) = line.get(name) else {
-        return Ok(());
-    };
-    let text = text_of(alloc, value)?;
-    match name {
-        "expression" => push_expression(alloc, shown, line, &text),
-        "sql" | "places" => push_sql(alloc, shown, line, &text),
-        _ => push_query_of(alloc, shown, line, &text),
-    }
-}
-
-/// Adds what an operator, a function, an expression or a step gives.
+/// Adds what an operator, a function or an expression gives.
 fn push_value_case(
     alloc: Global,
     shown: &mut String,
@@ -56,7 +41,18 @@ fn push_value_case(
         "op" => push_applied(alloc, shown, line),
         "function" => push_called(alloc, shown, line),
         "truth" => push_truth(alloc, shown, line),
-        "worth" => push_worth(alloc, shown, line),
+        _ => push_worth(alloc, shown, line),
+    }
+}
+
+/// Adds what a step of a query gives.
+fn push_step_case(
+    alloc: Global,
+    shown: &mut String,
+    line: &Json,
+    name: &str,
+) -> Result<(), NoMemory> {
+    match name {
         "fold" => push_fold(alloc, shown, line),
         "firsts" => push_firsts(alloc, shown, line),
         "ordered" => push_ordered(alloc, shown, line),
@@ -64,10 +60,18 @@ fn push_value_case(
     }
 }
 
+fn push_odd_name(shown: &mut String, kind: &str, name: &str) -> Result<(), NoMemory> {
+    shown.push_str(" (no line of ")?;
+    shown.push_str(kind)?;
+    shown.push_str(" has ")?;
+    shown.push_str(name)?;
+    Ok(shown.push_str(")")?)
+}
+
 fn push_odd(shown: &mut String, line: &Json, kind: LineKind) -> Result<(), NoMemory> {
     match odd_member(line, kind) {
         None => Ok(()),
-        Some(name) => Ok(write!(shown, " (no line of {} has {name})", kind.0)?),
+        Some(name) => push_odd_name(shown, kind.0, name),
     }
 }
 
@@ -75,24 +79,37 @@ fn push_odd(shown: &mut String, line: &Json, kind: LineKind) -> Result<(), NoMem
 fn push_case(alloc: Global, shown: &mut String, line: &Json) -> Result<(), NoMemory> {
     if let Some(kind) = kind_of(line, TEXT_KINDS.as_slice()) {
         push_odd(shown, line, kind)?;
-        return push_text_case(alloc, shown, line, kind.0);
+        return push_text(alloc, shown, line, kind.0);
     }
     if let Some(kind) = kind_of(line, VALUE_KINDS.as_slice()) {
         push_odd(shown, line, kind)?;
         return push_value_case(alloc, shown, line, kind.0);
     }
+    if let Some(kind) = kind_of(line, STEP_KINDS.as_slice()) {
+        push_odd(shown, line, kind)?;
+        return push_step_case(alloc, shown, line, kind.0);
+    }
     Ok(shown.push_str(" no kind of line")?)
 }
 
-/// Takes a line, and answers what is to be told of it: the line, and what it gives.
-pub(crate) fn told(alloc: Global, line: &str) -> Result<String, NoMemory> {
-    match json_of_line(alloc, line)? {
-        None => Ok(String::new(alloc)),
-        Some(case) => {
-            let mut shown = format!(in alloc; "{line}\n=>")?;
-            push_case(alloc, &mut shown, &case)?;
-            shown.push_str("\n")?;
-            Ok(shown)
+/// Adds the line, and what it gives.
+fn push_told(alloc: Global, shown: &mut String, line: &str, case: &Json) -> Result<(), NoMemory> {
+    shown.push_str(line)?;
+    shown.push_str("\n=>")?;
+    push_case(alloc, shown, case)?;
+    Ok(shown.push_str("\n")?)
+}
+
+/// What tells of lines. It keeps nothing from one to the next.
+#[derive(Drop)]
+pub(crate) struct Told;
+
+impl Bench for Told {
+    fn take_line(&mut self, alloc: Global, line: &str) -> Result<String, NoMemory> {
+        let mut shown = String::new(alloc);
+        if let Some(case) = json_of_line(alloc, line)? {
+            push_told(alloc, &mut shown, line, &case)?;
         }
+        Ok(shown)
     }
 }

@@ -1,16 +1,27 @@
 //! Expressions with resolved names as text: a column as `$`, the number of its table, its number there and its place in a joined row,
 //! and each operator in parentheses with its sides.
 
+use crate::numbers::{push_number, push_place};
 use crate::signs::{fold_name, function_name, operator_sign};
 use crate::sql::{Aggregate, Expr, ExprStep};
+use crate::words::push_words;
 use osq_value::{Affinity, NoMemory, Value};
 
 fn push_literal(shown: &mut String, value: &Value) -> Result<(), NoMemory> {
     match value {
         Value::Null => Ok(shown.push_str("NULL")?),
-        Value::Int(number) => Ok(write!(shown, "{number}")?),
-        Value::Text(text) => Ok(write!(shown, "'{}'", text.as_str())?),
+        Value::Int(number) => push_number(shown, *number),
+        Value::Text(text) => push_words(shown, &["'", text.as_str(), "'"]),
     }
+}
+
+fn push_column(shown: &mut String, source: u32, column: u32, at: u32) -> Result<(), NoMemory> {
+    shown.push_str("$")?;
+    push_place(shown, source as usize)?;
+    shown.push_str(".")?;
+    push_place(shown, column as usize)?;
+    shown.push_str("@")?;
+    push_place(shown, at as usize)
 }
 
 #[cycle(exprs)]
@@ -22,7 +33,7 @@ pub(crate) fn push_expr(shown: &mut String, expr: &Expr) -> Result<(), NoMemory>
             column,
             at,
             affinity: _,
-        } => Ok(write!(shown, "${source}.{column}@{at}")?),
+        } => push_column(shown, *source, *column, *at),
         Expr::Chain { first, steps } => {
             shown.push_str("(")?;
             push_expr(shown, first)?;
@@ -53,7 +64,7 @@ fn push_steps(shown: &mut String, steps: &[ExprStep]) -> Result<(), NoMemory> {
 fn push_step(shown: &mut String, step: &ExprStep) -> Result<(), NoMemory> {
     match step {
         ExprStep::Binary { op, right } => {
-            write!(shown, " {} ", operator_sign(*op))?;
+            push_words(shown, &[" ", operator_sign(*op), " "])?;
             push_expr(shown, right)
         }
         ExprStep::In { is_negated, items } => {
@@ -78,7 +89,7 @@ fn push_step(shown: &mut String, step: &ExprStep) -> Result<(), NoMemory> {
 
 #[cycle(exprs)]
 fn push_signed(shown: &mut String, sign: &str, inner: &Expr) -> Result<(), NoMemory> {
-    write!(shown, "({sign}")?;
+    push_words(shown, &["(", sign])?;
     push_expr(shown, inner)?;
     Ok(shown.push_str(")")?)
 }
@@ -96,7 +107,7 @@ fn push_cast(shown: &mut String, inner: &Expr, affinity: Affinity) -> Result<(),
 /// Adds a word, and expressions in parentheses behind it.
 #[cycle(exprs)]
 fn push_list(shown: &mut String, word: &str, items: &[Expr]) -> Result<(), NoMemory> {
-    write!(shown, "{word}(")?;
+    push_words(shown, &[word, "("])?;
     let mut mark = "";
     for item in items {
         shown.push_str(mark)?;
@@ -113,7 +124,7 @@ fn push_folded(shown: &mut String, aggregate: &Aggregate) -> Result<(), NoMemory
     } else {
         ""
     };
-    write!(shown, "{}({distinct}", fold_name(aggregate.fold))?;
+    push_words(shown, &[fold_name(aggregate.fold), "(", distinct])?;
     match &aggregate.argument {
         None => shown.push_str("*")?,
         Some(argument) => push_expr(shown, argument)?,

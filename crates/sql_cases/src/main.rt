@@ -15,6 +15,7 @@
 mod cases;
 mod exprs;
 mod nodes;
+mod numbers;
 mod queries;
 mod selects;
 mod signs;
@@ -22,17 +23,12 @@ mod sql;
 mod steps;
 mod texts;
 mod values;
+mod words;
 
-use osq_value::NoMemory;
-use std::io::{self, ErrorKind};
+use case_text::print_told;
+use cases::Told;
+use std::io;
 
 fn main(rt: HostRuntime) -> io::Result<()> {
-    let alloc = rt.alloc();
-    for line in rt.lines(alloc) {
-        match cases::told(alloc, line?.as_str()) {
-            Ok(text) => print!(rt; "{text}")?,
-            Err(NoMemory) => return Err(io::Error::from(ErrorKind::OutOfMemory)),
-        }
-    }
-    Ok(())
+    print_told(&rt, rt.alloc(), &mut Told)
 }

@@ -1,7 +1,9 @@
 //! Trees of expressions as text: names, numbers and texts as the text spells them, and each operator in parentheses with its sides.
 
+use crate::numbers::{push_number, push_reach};
 use crate::signs::{fold_name, function_name, operator_sign};
 use crate::sql::{Name, Node, Span, Step};
+use crate::words::push_words;
 use osq_value::NoMemory;
 use std::str;
 
@@ -12,7 +14,7 @@ fn push_span(shown: &mut String, text: &str, span: Span) -> Result<(), NoMemory>
     let start = span.start.min(end);
     match str::from_utf8(&bytes[start..end]) {
         Ok(part) => Ok(shown.push_str(part)?),
-        Err(_) => Ok(write!(shown, "{start}-{end}")?),
+        Err(_) => push_reach(shown, start, end),
     }
 }
 
@@ -36,7 +38,7 @@ fn push_column(
 #[cycle(nodes)]
 pub(crate) fn push_node(shown: &mut String, text: &str, node: &Node) -> Result<(), NoMemory> {
     match node {
-        Node::Number { value, .. } => Ok(write!(shown, "{value}")?),
+        Node::Number { value, .. } => push_number(shown, *value),
         Node::Text { span } => push_span(shown, text, *span),
         Node::Null => Ok(shown.push_str("NULL")?),
         Node::Column { table, column } => push_column(shown, text, *table, *column),
@@ -81,7 +83,7 @@ fn push_steps(shown: &mut String, text: &str, steps: &[Step]) -> Result<(), NoMe
 fn push_step(shown: &mut String, text: &str, step: &Step) -> Result<(), NoMemory> {
     match step {
         Step::Binary { op, right } => {
-            write!(shown, " {} ", operator_sign(*op))?;
+            push_words(shown, &[" ", operator_sign(*op), " "])?;
             push_node(shown, text, right)
         }
         Step::In { is_negated, items } => {
@@ -111,7 +113,7 @@ fn push_step(shown: &mut String, text: &str, step: &Step) -> Result<(), NoMemory
 
 #[cycle(nodes)]
 fn push_signed(shown: &mut String, text: &str, sign: &str, inner: &Node) -> Result<(), NoMemory> {
-    write!(shown, "({sign}")?;
+    push_words(shown, &["(", sign])?;
     push_node(shown, text, inner)?;
     Ok(shown.push_str(")")?)
 }
@@ -126,7 +128,7 @@ fn push_cast(shown: &mut String, text: &str, inner: &Node, is_text: bool) -> Res
 /// Adds a word, and expressions in parentheses behind it.
 #[cycle(nodes)]
 fn push_list(shown: &mut String, text: &str, word: &str, items: &[Node]) -> Result<(), NoMemory> {
-    write!(shown, "{word}(")?;
+    push_words(shown, &[word, "("])?;
     let mut mark = "";
     for item in items {
         shown.push_str(mark)?;

@@ -3,7 +3,8 @@
 use crate::exprs::push_expr;
 use crate::selects::push_count;
 use crate::sql::{Condition, Expr, Order, Query, QueryItem, QuerySource, is_evented, names_of};
-use osq_value::NoMemory;
+use crate::words::push_words;
+use osq_value::{NoMemory, Str};
 use std::alloc::Global;
 
 /// Adds expressions, a mark before the first and another between two.
@@ -31,7 +32,7 @@ fn push_items(shown: &mut String, word: &str, items: &[QueryItem]) -> Result<(),
     for item in items {
         shown.push_str(mark)?;
         push_expr(shown, &item.expr)?;
-        write!(shown, " AS {}", item.name.as_str())?;
+        push_words(shown, &[" AS ", item.name.as_str()])?;
         mark = ", ";
     }
     Ok(())
@@ -41,11 +42,9 @@ fn push_sources(shown: &mut String, sources: &[QuerySource]) -> Result<(), NoMem
     let mut mark = " FROM ";
     for source in sources {
         shown.push_str(if source.is_outer { " LEFT JOIN " } else { mark })?;
-        write!(
+        push_words(
             shown,
-            "{} AS {}",
-            source.name.as_str(),
-            source.alias.as_str()
+            &[source.name.as_str(), " AS ", source.alias.as_str()],
         )?;
         push_condition(shown, " ON ", &source.on)?;
         mark = " JOIN ";
@@ -87,11 +86,16 @@ pub(crate) fn push_query(shown: &mut String, query: &Query) -> Result<(), NoMemo
     push_count(shown, "OFFSET", query.skip)
 }
 
+fn push_each(shown: &mut String, names: &[Str]) -> Result<(), NoMemory> {
+    for name in names {
+        push_words(shown, &[" ", name.as_str(), ";"])?;
+    }
+    Ok(())
+}
+
 /// Adds the names of the columns of the result of a query, and whether it is evented.
 pub(crate) fn push_names(alloc: Global, shown: &mut String, query: &Query) -> Result<(), NoMemory> {
     let names = names_of(alloc, query)?;
-    for name in names.as_slice() {
-        write!(shown, " {};", name.as_str())?;
-    }
+    push_each(shown, names.as_slice())?;
     Ok(shown.push_str(if is_evented(query) { " evented" } else { "" })?)
 }

@@ -1,7 +1,9 @@
 //! Trees of selects as text.
 
 use crate::nodes::{push_name, push_node};
+use crate::numbers::{push_number, push_reach};
 use crate::sql::{Item, Name, Node, Select, Span, TableRef, Term};
+use crate::words::push_words;
 use osq_value::NoMemory;
 
 fn push_alias(shown: &mut String, text: &str, alias: Option<Name>) -> Result<(), NoMemory> {
@@ -101,7 +103,10 @@ pub(crate) fn push_count(
 ) -> Result<(), NoMemory> {
     match count {
         None => Ok(()),
-        Some(number) => Ok(write!(shown, " {word} {number}")?),
+        Some(number) => {
+            push_words(shown, &[" ", word, " "])?;
+            push_number(shown, number)
+        }
     }
 }
 
@@ -146,13 +151,19 @@ fn places(item: &Item) -> (Span, Option<Span>) {
     }
 }
 
+/// Adds a word, and the places of a span.
+fn push_span_places(shown: &mut String, word: &str, span: Span) -> Result<(), NoMemory> {
+    shown.push_str(word)?;
+    push_reach(shown, span.start, span.end)
+}
+
 /// Adds where each item of a select stands: from its first byte to behind its last one.
 pub(crate) fn push_places(shown: &mut String, select: &Select) -> Result<(), NoMemory> {
     for item in select.items.as_slice() {
         let (span, alias) = places(item);
-        write!(shown, " {}-{}", span.start, span.end)?;
+        push_span_places(shown, " ", span)?;
         if let Some(name) = alias {
-            write!(shown, " AS {}-{}", name.start, name.end)?;
+            push_span_places(shown, " AS ", name)?;
         }
         shown.push_str(";")?;
     }

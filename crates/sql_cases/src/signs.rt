@@ -2,107 +2,92 @@
 
 use crate::sql::{Fold, Function, Operator};
 
-const OPERATORS: [Operator; 18] = [
-    Operator::Or,
-    Operator::And,
-    Operator::Equal,
-    Operator::NotEqual,
-    Operator::Is,
-    Operator::IsNot,
-    Operator::Less,
-    Operator::LessEqual,
-    Operator::Greater,
-    Operator::GreaterEqual,
-    Operator::Like,
-    Operator::NotLike,
-    Operator::Add,
-    Operator::Subtract,
-    Operator::Multiply,
-    Operator::Divide,
-    Operator::Remainder,
-    Operator::Concat,
+/// A thing behind its name.
+pub(crate) type Named<T> = (&'static str, T);
+
+const OPERATORS: [Named<Operator>; 18] = [
+    ("OR", Operator::Or),
+    ("AND", Operator::And),
+    ("=", Operator::Equal),
+    ("<>", Operator::NotEqual),
+    ("IS", Operator::Is),
+    ("IS NOT", Operator::IsNot),
+    ("<", Operator::Less),
+    ("<=", Operator::LessEqual),
+    (">", Operator::Greater),
+    (">=", Operator::GreaterEqual),
+    ("LIKE", Operator::Like),
+    ("NOT LIKE", Operator::NotLike),
+    ("+", Operator::Add),
+    ("-", Operator::Subtract),
+    ("*", Operator::Multiply),
+    ("/", Operator::Divide),
+    ("%", Operator::Remainder),
+    ("||", Operator::Concat),
 ];
 
-const FUNCTIONS: [Function; 12] = [
-    Function::Length,
-    Function::Lower,
-    Function::Upper,
-    Function::Trim,
-    Function::Substr,
-    Function::Instr,
-    Function::Replace,
-    Function::Abs,
-    Function::Typeof,
-    Function::Coalesce,
-    Function::Ifnull,
-    Function::Nullif,
+const FUNCTIONS: [Named<Function>; 12] = [
+    ("length", Function::Length),
+    ("lower", Function::Lower),
+    ("upper", Function::Upper),
+    ("trim", Function::Trim),
+    ("substr", Function::Substr),
+    ("instr", Function::Instr),
+    ("replace", Function::Replace),
+    ("abs", Function::Abs),
+    ("typeof", Function::Typeof),
+    ("coalesce", Function::Coalesce),
+    ("ifnull", Function::Ifnull),
+    ("nullif", Function::Nullif),
 ];
 
-const FOLDS: [Fold; 4] = [Fold::Count, Fold::Sum, Fold::Min, Fold::Max];
+const FOLDS: [Named<Fold>; 4] = [
+    ("COUNT", Fold::Count),
+    ("SUM", Fold::Sum),
+    ("MIN", Fold::Min),
+    ("MAX", Fold::Max),
+];
+
+/// The thing of this name.
+pub(crate) fn named<T: Copy>(known: &[Named<T>], name: &str) -> Option<T> {
+    for thing in known {
+        if thing.0 == name {
+            return Some(thing.1);
+        }
+    }
+    None
+}
+
+/// The name of a thing; the empty text where none has one.
+fn name_of<T: Copy + PartialEq>(known: &[Named<T>], wanted: T) -> &'static str {
+    for thing in known {
+        if thing.1 == wanted {
+            return thing.0;
+        }
+    }
+    ""
+}
 
 pub(crate) fn operator_sign(op: Operator) -> &'static str {
-    match op {
-        Operator::Or => "OR",
-        Operator::And => "AND",
-        Operator::Equal => "=",
-        Operator::NotEqual => "<>",
-        Operator::Is => "IS",
-        Operator::IsNot => "IS NOT",
-        Operator::Less => "<",
-        Operator::LessEqual => "<=",
-        Operator::Greater => ">",
-        Operator::GreaterEqual => ">=",
-        Operator::Like => "LIKE",
-        Operator::NotLike => "NOT LIKE",
-        Operator::Add => "+",
-        Operator::Subtract => "-",
-        Operator::Multiply => "*",
-        Operator::Divide => "/",
-        Operator::Remainder => "%",
-        Operator::Concat => "||",
-    }
+    name_of(OPERATORS.as_slice(), op)
 }
 
 pub(crate) fn function_name(function: Function) -> &'static str {
-    match function {
-        Function::Length => "length",
-        Function::Lower => "lower",
-        Function::Upper => "upper",
-        Function::Trim => "trim",
-        Function::Substr => "substr",
-        Function::Instr => "instr",
-        Function::Replace => "replace",
-        Function::Abs => "abs",
-        Function::Typeof => "typeof",
-        Function::Coalesce => "coalesce",
-        Function::Ifnull => "ifnull",
-        Function::Nullif => "nullif",
-    }
+    name_of(FUNCTIONS.as_slice(), function)
 }
 
 pub(crate) fn fold_name(fold: Fold) -> &'static str {
-    match fold {
-        Fold::Count => "COUNT",
-        Fold::Sum => "SUM",
-        Fold::Min => "MIN",
-        Fold::Max => "MAX",
-    }
+    name_of(FOLDS.as_slice(), fold)
 }
 
 pub(crate) fn operator_of(sign: &str) -> Option<Operator> {
-    OPERATORS
-        .iter()
-        .copied()
-        .find(|op| operator_sign(*op) == sign)
+    named(OPERATORS.as_slice(), sign)
 }
 
 pub(crate) fn function_of(name: &str) -> Option<Function> {
-    FUNCTIONS
-        .iter()
-        .copied()
-        .find(|function| function_name(*function) == name)
+    named(FUNCTIONS.as_slice(), name)
 }
 
 pub(crate) fn fold_of(name: &str) -> Option<Fold> {
-    FOLDS.iter().copied().find(|fold| fold_name(*fold) == name)
+    named(FOLDS.as_slice(), name)
 }

@@ -85,17 +85,29 @@ pub(crate) fn push_firsts(alloc: Global, shown: &mut String, line: &Json) -> Res
     push_made_rows(shown, &firsts(alloc, made, count(line, "width"))?)
 }
 
-/// Adds the rows in the order of the values behind their first places.
-pub(crate) fn push_ordered(alloc: Global, shown: &mut String, line: &Json) -> Result<(), NoMemory> {
-    let made = made_rows(alloc, items_of(line.get("ordered")))?;
+/// Of each value that rows are sorted by, whether the greatest stands first.
+fn descending_of(alloc: Global, line: &Json) -> Result<Vec<bool>, NoMemory> {
     let mut descending = Vec::new(alloc);
     for item in items_of(line.get("descending")) {
         descending.push(item.as_bool().unwrap_or(false))?;
     }
-    push_made_rows(
-        shown,
-        &order(made, count(line, "width"), descending.as_slice())?,
-    )
+    Ok(descending)
+}
+
+fn push_sorted(
+    alloc: Global,
+    shown: &mut String,
+    line: &Json,
+    descending: &[bool],
+) -> Result<(), NoMemory> {
+    let made = made_rows(alloc, items_of(line.get("ordered")))?;
+    push_made_rows(shown, &order(made, count(line, "width"), descending)?)
+}
+
+/// Adds the rows in the order of the values behind their first places.
+pub(crate) fn push_ordered(alloc: Global, shown: &mut String, line: &Json) -> Result<(), NoMemory> {
+    let descending = descending_of(alloc, line)?;
+    push_sorted(alloc, shown, line, descending.as_slice())
 }
 
 /// Adds the rows that LIMIT and OFFSET leave.

@@ -1,14 +1,18 @@
 //! Lines with operators and functions on values.
 
-use crate::signs::{function_of, operator_of};
-use crate::sql::{Expr, Operator, apply, call, evaluate, minus, negation, query_of_text, truth};
+use crate::signs::{Named, function_of, named, operator_of};
+use crate::sql::{
+    Expr, Operator, Query, apply, call, evaluate, minus, negation, query_of_text, truth,
+};
+use crate::texts::push_fault;
+use crate::words::push_words;
 use case_text::{member_text, push_value, value_of, values_of};
 use osq_value::{Affinity, NoMemory, Row, Value};
 use serde_json::Value as Json;
 use std::alloc::Global;
 
 /// The affinity that a side may have.
-const AFFINITIES: [(&str, Option<Affinity>); 3] = [
+const AFFINITIES: [Named<Option<Affinity>>; 3] = [
     ("", None),
     ("INTEGER", Some(Affinity::Integer)),
     ("TEXT", Some(Affinity::Text)),
@@ -16,9 +20,7 @@ const AFFINITIES: [(&str, Option<Affinity>); 3] = [
 
 /// The affinity of the side of this name: nothing where the line names none that there is.
 fn side(line: &Json, name: &str) -> Option<Option<Affinity>> {
-    let wanted = member_text(line, name);
-    let found = AFFINITIES.iter().find(|known| known.0 == wanted)?;
-    Some(found.1)
+    named(AFFINITIES.as_slice(), member_text(line, name))
 }
 
 /// The operator, and the affinities of its sides.
@@ -37,10 +39,13 @@ pub(crate) fn given_values(alloc: Global, line: &Json) -> Result<Vec<Value>, NoM
     }
 }
 
-/// Adds what an operator gives.
-pub(crate) fn push_applied(alloc: Global, shown: &mut String, line: &Json) -> Result<(), NoMemory> {
-    let values = given_values(alloc, line)?;
-    match (operation(line), values.as_slice()) {
+fn push_operation(
+    alloc: Global,
+    shown: &mut String,
+    line: &Json,
+    values: &[Value],
+) -> Result<(), NoMemory> {
+    match (operation(line), values) {
         (Some((op, sides)), [left, right]) => {
             push_value(shown, &apply(alloc, op, left, right, sides)?)
         }
@@ -48,13 +53,28 @@ pub(crate) fn push_applied(alloc: Global, shown: &mut String, line: &Json) -> Re
     }
 }
 
+/// Adds what an operator gives.
+pub(crate) fn push_applied(alloc: Global, shown: &mut String, line: &Json) -> Result<(), NoMemory> {
+    let values = given_values(alloc, line)?;
+    push_operation(alloc, shown, line, values.as_slice())
+}
+
+fn push_call(
+    alloc: Global,
+    shown: &mut String,
+    line: &Json,
+    arguments: &Row,
+) -> Result<(), NoMemory> {
+    match function_of(member_text(line, "function")) {
+        None => Ok(shown.push_str(" no function")?),
+        Some(function) => push_value(shown, &call(alloc, function, arguments)?),
+    }
+}
+
 /// Adds what a function gives.
 pub(crate) fn push_called(alloc: Global, shown: &mut String, line: &Json) -> Result<(), NoMemory> {
     let arguments = Row::from_vec(given_values(alloc, line)?);
-    match function_of(member_text(line, "function")) {
-        None => Ok(shown.push_str(" no function")?),
-        Some(function) => push_value(shown, &call(alloc, function, &arguments)?),
-    }
+    push_call(alloc, shown, line, &arguments)
 }
 
 fn truth_word(value: &Value) -> &'static str {
@@ -65,19 +85,28 @@ fn truth_word(value: &Value) -> &'static str {
     }
 }
 
+/// Adds a word, and the value behind it.
+fn push_worded(shown: &mut String, word: &str, value: &Value) -> Result<(), NoMemory> {
+    shown.push_str(word)?;
+    push_value(shown, value)
+}
+
+fn push_turned(shown: &mut String, value: &Value) -> Result<(), NoMemory> {
+    push_words(shown, &[" ", truth_word(value)])?;
+    push_worded(shown, ", NOT", &negation(value))?;
+    push_worded(shown, ", minus", &minus(value))
+}
+
 /// Adds the truth of a value, its negation, and the value with its sign turned.
 pub(crate) fn push_truth(alloc: Global, shown: &mut String, line: &Json) -> Result<(), NoMemory> {
     let Some(item) = line.get("truth") else {
         return Ok(());
     };
     let value = value_of(alloc, item)?;
-    write!(shown, " {}, NOT", truth_word(&value))?;
-    push_value(shown, &negation(&value))?;
-    shown.push_str(", minus")?;
-    push_value(shown, &minus(&value))
+    push_turned(shown, &value)
 }
 
-/// Adds the value of the first item of a query over a row of the line.
+/// Adds the value of an expression over a row of the line.
 fn push_evaluated(
     alloc: Global,
     shown: &mut String,
@@ -88,15 +117,35 @@ fn push_evaluated(
     push_value(shown, &evaluate(alloc, expr, &row)?)
 }
 
+/// Adds the value of the first item of a query.
+fn push_first_item(
+    alloc: Global,
+    shown: &mut String,
+    line: &Json,
+    query: &Query,
+) -> Result<(), NoMemory> {
+    match query.items.get(0) {
+        None => Ok(shown.push_str(" no item")?),
+        Some(item) => push_evaluated(alloc, shown, line, &item.expr),
+    }
+}
+
+fn push_item_of(
+    alloc: Global,
+    shown: &mut String,
+    line: &Json,
+    text: &str,
+) -> Result<(), NoMemory> {
+    match query_of_text(alloc, text) {
+        Err(error) => push_fault(shown, error),
+        Ok(query) => push_first_item(alloc, shown, line, &query),
+    }
+}
+
 /// Adds the value of an expression over a row of a table.
 pub(crate) fn push_worth(alloc: Global, shown: &mut String, line: &Json) -> Result<(), NoMemory> {
     let (worth, from) = (member_text(line, "worth"), member_text(line, "from"));
-    let text = format!(in alloc; "SELECT {worth} FROM {from}")?;
-    match query_of_text(alloc, &text) {
-        Err(error) => Ok(write!(shown, " {} at {}", error.name(), error.place())?),
-        Ok(query) => match query.items.get(0) {
-            None => Ok(shown.push_str(" no item")?),
-            Some(item) => push_evaluated(alloc, shown, line, &item.expr),
-        },
-    }
+    let mut text = String::new(alloc);
+    push_words(&mut text, &["SELECT ", worth, " FROM ", from])?;
+    push_item_of(alloc, shown, line, &text)
 }
