@@ -9,9 +9,10 @@ use osq_value::NoMemory;
 use serde_json::Value as Json;
 use std::alloc::Global;
 
-fn push_error(text: &mut String, error: KeeperError) -> Result<(), NoMemory> {
+/// What is told of an error.
+fn told(error: KeeperError) -> Result<&'static str, NoMemory> {
     match error {
-        KeeperError::Fault => Ok(text.push_str("Fault\n")?),
+        KeeperError::Fault => Ok("Fault\n"),
         KeeperError::NoMemory => Err(NoMemory),
     }
 }
@@ -21,7 +22,7 @@ fn push_loaded(alloc: Global, text: &mut String, entries: EntryList) -> Result<(
     let mut keeper = MemoryKeeper::new(entries, FailList::new(alloc), false);
     match keeper.load(alloc) {
         Ok(restored) => push_restored(text, &restored),
-        Err(error) => push_error(text, error),
+        Err(error) => Ok(text.push_str(told(error)?)?),
     }
 }
 
@@ -33,15 +34,15 @@ pub(crate) fn push_load(alloc: Global, text: &mut String, words: &str) -> Result
     }
 }
 
-fn push_sealed(
+/// Seals entries, and answers what is told of it.
+fn sealed(
     alloc: Global,
-    text: &mut String,
     keeper: &mut MemoryKeeper,
     entries: &EntryList,
-) -> Result<(), NoMemory> {
+) -> Result<&'static str, NoMemory> {
     match keeper.seal(alloc, entries) {
-        Ok(()) => Ok(text.push_str("sealed\n")?),
-        Err(error) => push_error(text, error),
+        Ok(()) => Ok("sealed\n"),
+        Err(error) => told(error),
     }
 }
 
@@ -53,7 +54,7 @@ fn push_seal(
     item: &Json,
 ) -> Result<(), NoMemory> {
     match entries_of(alloc, item.as_str().unwrap_or(""))? {
-        Some(entries) => push_sealed(alloc, text, keeper, &entries),
+        Some(entries) => Ok(text.push_str(sealed(alloc, keeper, &entries)?)?),
         None => Ok(text.push_str("no such entry\n")?),
     }
 }

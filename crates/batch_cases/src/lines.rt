@@ -14,8 +14,10 @@ use std::alloc::Global;
 /// The texts of an array.
 fn names_of(alloc: Global, names: Option<&Json>) -> Result<TextList, NoMemory> {
     let mut list = TextList::new(alloc);
-    for name in items_of(names).iter().filter_map(Json::as_str) {
-        list.push(Str::of(alloc, name)?)?;
+    for item in items_of(names) {
+        if let Some(name) = item.as_str() {
+            list.push(Str::of(alloc, name)?)?;
+        }
     }
     Ok(list)
 }
