@@ -16,15 +16,28 @@ fn push_refused(text: &mut String, error: JsonLineError) -> Result<(), NoMemory>
     }
 }
 
-/// Adds a change: its path and action, its numbers, its mode and its time.
-fn push_whole(text: &mut String, change: &Change) -> Result<(), NoMemory> {
-    let (path, action) = (change.path.as_str(), change.action.as_str());
-    write!(text, "  '{path}' '{action}' ")?;
+/// Adds a blank, and a text in single quotes.
+fn push_quoted(text: &mut String, part: &str) -> Result<(), NoMemory> {
+    text.push_str(" '")?;
+    text.push_str(part)?;
+    Ok(text.push_str("'")?)
+}
+
+/// Adds the numbers of a change, its mode and its time.
+fn push_numbers(text: &mut String, change: &Change) -> Result<(), NoMemory> {
     push_row(text, &change.numbers)?;
     push_value(text, &change.mode)?;
-    push_value(text, &change.time)?;
-    text.push_str("\n")?;
-    Ok(())
+    push_value(text, &change.time)
+}
+
+/// Adds a change: its path and action, its numbers, its mode and its time.
+fn push_whole(text: &mut String, change: &Change) -> Result<(), NoMemory> {
+    text.push_str(" ")?;
+    push_quoted(text, change.path.as_str())?;
+    push_quoted(text, change.action.as_str())?;
+    text.push_str(" ")?;
+    push_numbers(text, change)?;
+    Ok(text.push_str("\n")?)
 }
 
 /// Adds the event of a change under these categories.
@@ -73,16 +86,23 @@ pub(crate) fn push_change(
     push_read(alloc, text, bytes.as_slice(), given)
 }
 
+/// Adds a path, and whether the pattern matches it.
+fn push_match(text: &mut String, pattern: &str, path: &str) -> Result<(), NoMemory> {
+    let answer = if path_matches(pattern, path) {
+        " yes\n"
+    } else {
+        " no\n"
+    };
+    text.push_str("  ")?;
+    text.push_str(path)?;
+    Ok(text.push_str(answer)?)
+}
+
 /// Adds for each path whether the pattern matches it.
 pub(crate) fn push_matches(text: &mut String, given: Given<'_>) -> Result<(), NoMemory> {
     let pattern = member_text(given.line, "pattern");
     for path in given.items("paths").iter().filter_map(Json::as_str) {
-        let answer = if path_matches(pattern, path) {
-            "yes"
-        } else {
-            "no"
-        };
-        writeln!(text, "  {path} {answer}")?;
+        push_match(text, pattern, path)?;
     }
     Ok(())
 }

@@ -19,12 +19,13 @@ pub(crate) fn push_maybe_event(text: &mut String, event: Option<&Event>) -> Resu
 
 /// Adds the first value of a row in parentheses: the path of a change, the process of a program that was run.
 fn push_first(text: &mut String, first: Option<&Value>) -> Result<(), NoMemory> {
+    text.push_str("(")?;
     match first {
-        Some(Value::Int(number)) => write!(text, "({number})")?,
-        Some(Value::Text(part)) => write!(text, "({})", part.as_str())?,
-        _ => text.push_str("(-)")?,
+        Some(Value::Int(number)) => write!(text, "{number}")?,
+        Some(Value::Text(part)) => text.push_str(part.as_str())?,
+        _ => text.push_str("-")?,
     }
-    Ok(())
+    Ok(text.push_str(")")?)
 }
 
 fn push_events(text: &mut String, events: &[Event], is_whole: bool) -> Result<(), NoMemory> {
