@@ -5,7 +5,7 @@ use crate::joins::push_join;
 use crate::queries::push_query;
 use crate::scans::push_scan;
 use crate::view::ThreeTables;
-use case_text::{LineKind, json_of_line, kind_of, member_text, odd_member};
+use case_text::{Bench, LineKind, json_of_line, kind_of, member_text, odd_member};
 use osq_value::NoMemory;
 use serde_json::Value as Json;
 use std::alloc::Global;
@@ -22,11 +22,19 @@ const KINDS: [LineKind; 7] = [
 
 const TABLES: LineKind = ("tables", &["users", "groups", "user_groups"]);
 
+fn push_odd_name(shown: &mut String, kind: &str, name: &str) -> Result<(), NoMemory> {
+    shown.push_str(" (no line of ")?;
+    shown.push_str(kind)?;
+    shown.push_str(" has ")?;
+    shown.push_str(name)?;
+    Ok(shown.push_str(")")?)
+}
+
 /// Adds a member that the line, or the tables that it gives, may not have.
 fn push_odd(shown: &mut String, line: &Json, kind: LineKind) -> Result<(), NoMemory> {
     match odd_member(line, kind) {
         None => Ok(()),
-        Some(name) => Ok(write!(shown, " (no line of {} has {name})", kind.0)?),
+        Some(name) => push_odd_name(shown, kind.0, name),
     }
 }
 
@@ -48,57 +56,60 @@ fn push_given(
     }
 }
 
-/// The tables that lines gave.
-#[derive(Drop)]
-pub(crate) struct Bench {
-    view: ThreeTables,
+/// Takes the tables that a line gives.
+fn take_tables(alloc: Global, view: &mut ThreeTables, tables: &Json) -> Result<(), NoMemory> {
+    *view = ThreeTables::of(alloc, tables)?;
+    Ok(())
 }
 
-impl Bench {
-    pub(crate) fn new(alloc: Global) -> Bench {
-        Bench {
-            view: ThreeTables::empty(alloc),
-        }
-    }
+fn push_taken(
+    alloc: Global,
+    shown: &mut String,
+    tables: &Json,
+    view: &mut ThreeTables,
+) -> Result<(), NoMemory> {
+    push_odd(shown, tables, TABLES)?;
+    take_tables(alloc, view, tables)?;
+    Ok(shown.push_str(" taken")?)
+}
 
-    /// Takes the tables that a line gives.
-    fn set_tables(
-        &mut self,
-        alloc: Global,
-        shown: &mut String,
-        tables: &Json,
-    ) -> Result<(), NoMemory> {
-        push_odd(shown, tables, TABLES)?;
-        self.view = ThreeTables::of(alloc, tables)?;
-        Ok(shown.push_str(" taken")?)
+fn push_case(
+    alloc: Global,
+    shown: &mut String,
+    line: &Json,
+    view: &mut ThreeTables,
+) -> Result<(), NoMemory> {
+    let Some(kind) = kind_of(line, KINDS.as_slice()) else {
+        return Ok(shown.push_str(" no kind of line")?);
+    };
+    push_odd(shown, line, kind)?;
+    match line.get("tables") {
+        Some(tables) => push_taken(alloc, shown, tables, view),
+        None => push_given(alloc, shown, line, kind.0, view),
     }
+}
 
-    fn push_case(
-        &mut self,
-        alloc: Global,
-        shown: &mut String,
-        line: &Json,
-    ) -> Result<(), NoMemory> {
-        let Some(kind) = kind_of(line, KINDS.as_slice()) else {
-            return Ok(shown.push_str(" no kind of line")?);
-        };
-        push_odd(shown, line, kind)?;
-        match line.get("tables") {
-            Some(tables) => self.set_tables(alloc, shown, tables),
-            None => push_given(alloc, shown, line, kind.0, &self.view),
-        }
-    }
+/// Adds the line, and what it gives.
+fn push_told(
+    alloc: Global,
+    shown: &mut String,
+    line: &str,
+    case: &Json,
+    view: &mut ThreeTables,
+) -> Result<(), NoMemory> {
+    shown.push_str(line)?;
+    shown.push_str("\n=>")?;
+    push_case(alloc, shown, case, view)?;
+    Ok(shown.push_str("\n")?)
+}
 
-    /// Takes a line, and answers what is to be told of it: the line, and what it gives.
-    pub(crate) fn told(&mut self, alloc: Global, line: &str) -> Result<String, NoMemory> {
-        match json_of_line(alloc, line)? {
-            None => Ok(String::new(alloc)),
-            Some(case) => {
-                let mut shown = format!(in alloc; "{line}\n=>")?;
-                self.push_case(alloc, &mut shown, &case)?;
-                shown.push_str("\n")?;
-                Ok(shown)
-            }
+/// Lines are over the tables that the last of them gave.
+impl Bench for ThreeTables {
+    fn take_line(&mut self, alloc: Global, line: &str) -> Result<String, NoMemory> {
+        let mut shown = String::new(alloc);
+        if let Some(case) = json_of_line(alloc, line)? {
+            push_told(alloc, &mut shown, line, &case, self)?;
         }
+        Ok(shown)
     }
 }

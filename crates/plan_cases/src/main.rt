@@ -21,18 +21,12 @@ mod scans;
 mod sql;
 mod view;
 
-use cases::Bench;
-use osq_value::NoMemory;
-use std::io::{self, ErrorKind};
+use case_text::print_told;
+use std::io;
+use view::ThreeTables;
 
 fn main(rt: HostRuntime) -> io::Result<()> {
     let alloc = rt.alloc();
-    let mut bench = Bench::new(alloc);
-    for line in rt.lines(alloc) {
-        match bench.told(alloc, line?.as_str()) {
-            Ok(text) => print!(rt; "{text}")?,
-            Err(NoMemory) => return Err(io::Error::from(ErrorKind::OutOfMemory)),
-        }
-    }
-    Ok(())
+    let mut given = ThreeTables::empty(alloc);
+    print_told(&rt, alloc, &mut given)
 }

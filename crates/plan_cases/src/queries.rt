@@ -8,19 +8,17 @@ use serde_json::Value as Json;
 use std::alloc::Global;
 use std::str;
 
-/// The query of a text; where it has a fault, adds the kind and the place of that.
-pub(crate) fn query_or_fault(
-    alloc: Global,
-    shown: &mut String,
-    text: &str,
-) -> Result<Option<Query>, NoMemory> {
-    match query_of_text(alloc, text) {
-        Ok(query) => Ok(Some(query)),
-        Err(TextError::NoMemory) => Err(NoMemory),
-        Err(error) => {
-            write!(shown, " {} at {}", error.name(), error.place())?;
-            Ok(None)
-        }
+fn push_place(shown: &mut String, kind: &str, place: usize) -> Result<(), NoMemory> {
+    shown.push_str(" ")?;
+    shown.push_str(kind)?;
+    Ok(write!(shown, " at {place}")?)
+}
+
+/// Adds the kind and the place of a fault.
+pub(crate) fn push_fault(shown: &mut String, error: TextError) -> Result<(), NoMemory> {
+    match error {
+        TextError::NoMemory => Err(NoMemory),
+        _ => push_place(shown, error.name(), error.place()),
     }
 }
 
@@ -32,6 +30,35 @@ pub(crate) fn push_all(shown: &mut String, rows: &RowList) -> Result<(), NoMemor
     push_rows(shown, rows)
 }
 
+fn text_of(alloc: Global, rows: &RowList) -> Result<String, NoMemory> {
+    let mut text = String::new(alloc);
+    push_all(&mut text, rows)?;
+    Ok(text)
+}
+
+/// Adds the texts of both ways, once where they are one.
+fn push_texts(shown: &mut String, one: &str, word: &str, other: &str) -> Result<(), NoMemory> {
+    if one == other {
+        shown.push_str(" both")?;
+        return Ok(shown.push_str(one)?);
+    }
+    shown.push_str(one)?;
+    shown.push_str("\n=> but ")?;
+    shown.push_str(word)?;
+    Ok(shown.push_str(other)?)
+}
+
+fn push_against(
+    alloc: Global,
+    shown: &mut String,
+    one: &str,
+    word: &str,
+    others: &RowList,
+) -> Result<(), NoMemory> {
+    let other = text_of(alloc, others)?;
+    push_texts(shown, one, word, &other)
+}
+
 /// Adds the rows that both ways give; where they give other ones, those of the first and behind a word those of the second.
 pub(crate) fn push_both_ways(
     alloc: Global,
@@ -41,17 +68,18 @@ pub(crate) fn push_both_ways(
     others: &RowList,
 ) -> Result<(), NoMemory> {
     let one = text_of(alloc, rows)?;
-    let other = text_of(alloc, others)?;
-    if one == other {
-        return Ok(write!(shown, " both{one}")?);
-    }
-    Ok(write!(shown, "{one}\n=> but {word}{other}")?)
+    push_against(alloc, shown, &one, word, others)
 }
 
-fn text_of(alloc: Global, rows: &RowList) -> Result<String, NoMemory> {
-    let mut text = String::new(alloc);
-    push_all(&mut text, rows)?;
-    Ok(text)
+fn push_with_plan(
+    alloc: Global,
+    shown: &mut String,
+    plain: &RowList,
+    plan: &Plan,
+    view: &ThreeTables,
+) -> Result<(), NoMemory> {
+    let planned = run_plan(alloc, plan, view)?;
+    push_both_ways(alloc, shown, plain, "by the plan", &planned)
 }
 
 /// Adds the rows of the meaning and of the plan.
@@ -62,8 +90,7 @@ fn push_both(
     view: &ThreeTables,
 ) -> Result<(), NoMemory> {
     let plain = plain_rows(alloc, &plan.query, view)?;
-    let planned = run_plan(alloc, plan, view)?;
-    push_both_ways(alloc, shown, &plain, "by the plan", &planned)
+    push_with_plan(alloc, shown, &plain, plan, view)
 }
 
 fn push_by_plan(
@@ -75,25 +102,57 @@ fn push_by_plan(
     push_all(shown, &run_plan(alloc, plan, view)?)
 }
 
-/// Adds the lines that show a plan.
-fn push_explained(alloc: Global, shown: &mut String, plan: &Plan) -> Result<(), NoMemory> {
-    let text = explain(alloc, plan)?;
-    match str::from_utf8(text.as_slice()) {
-        Err(_) => Ok(shown.push_str(" no text")?),
-        Ok("") => Ok(shown.push_str(" nothing")?),
-        Ok(lines) => push_lines(shown, lines),
-    }
-}
-
 fn push_lines(shown: &mut String, lines: &str) -> Result<(), NoMemory> {
     for line in lines.lines() {
-        write!(shown, "\n| {line}")?;
+        shown.push_str("\n| ")?;
+        shown.push_str(line)?;
     }
     Ok(shown.push_str(if lines.ends_with('\n') {
         ""
     } else {
         " (without a line feed)"
     })?)
+}
+
+fn push_shown(shown: &mut String, bytes: &[u8]) -> Result<(), NoMemory> {
+    match str::from_utf8(bytes) {
+        Err(_) => Ok(shown.push_str(" no text")?),
+        Ok("") => Ok(shown.push_str(" nothing")?),
+        Ok(lines) => push_lines(shown, lines),
+    }
+}
+
+/// Adds the lines that show a plan.
+fn push_explained(alloc: Global, shown: &mut String, plan: &Plan) -> Result<(), NoMemory> {
+    let text = explain(alloc, plan)?;
+    push_shown(shown, text.as_slice())
+}
+
+fn push_wanted(
+    alloc: Global,
+    shown: &mut String,
+    line: &Json,
+    plan: &Plan,
+    view: &ThreeTables,
+) -> Result<(), NoMemory> {
+    if line.get("explain").is_some() {
+        push_explained(alloc, shown, plan)
+    } else if line.get("by_plan").is_some() {
+        push_by_plan(alloc, shown, plan, view)
+    } else {
+        push_both(alloc, shown, plan, view)
+    }
+}
+
+fn push_planned(
+    alloc: Global,
+    shown: &mut String,
+    line: &Json,
+    query: &Query,
+    view: &ThreeTables,
+) -> Result<(), NoMemory> {
+    let plan = plan_of(alloc, query)?;
+    push_wanted(alloc, shown, line, &plan, view)
 }
 
 /// Adds what a line wants of the plan of a text.
@@ -104,15 +163,8 @@ pub(crate) fn push_query(
     text: &str,
     view: &ThreeTables,
 ) -> Result<(), NoMemory> {
-    let Some(query) = query_or_fault(alloc, shown, text)? else {
-        return Ok(());
-    };
-    let plan = plan_of(alloc, &query)?;
-    if line.get("explain").is_some() {
-        push_explained(alloc, shown, &plan)
-    } else if line.get("by_plan").is_some() {
-        push_by_plan(alloc, shown, &plan, view)
-    } else {
-        push_both(alloc, shown, &plan, view)
+    match query_of_text(alloc, text) {
+        Err(error) => push_fault(shown, error),
+        Ok(query) => push_planned(alloc, shown, line, &query, view),
     }
 }

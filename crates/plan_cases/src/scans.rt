@@ -3,21 +3,20 @@
 use crate::sql::{Constraint, ConstraintList, ConstraintOp, scan};
 use crate::view::ThreeTables;
 use case_text::{items_of, member_text, push_row, value_of};
-use osq_value::{NoMemory, TableId, table_of};
+use osq_value::{NoMemory, Row, TableId, table_of};
 use serde_json::Value as Json;
 use std::alloc::Global;
 
-const SIGNS: [(&str, ConstraintOp); 5] = [
-    ("=", ConstraintOp::Eq),
-    ("<", ConstraintOp::Lt),
-    ("<=", ConstraintOp::Le),
-    (">", ConstraintOp::Gt),
-    (">=", ConstraintOp::Ge),
-];
-
+/// The comparison that a sign stands for.
 fn sign_of(sign: &str) -> Option<ConstraintOp> {
-    let found = SIGNS.iter().find(|known| known.0 == sign)?;
-    Some(found.1)
+    match sign {
+        "=" => Some(ConstraintOp::Eq),
+        "<" => Some(ConstraintOp::Lt),
+        "<=" => Some(ConstraintOp::Le),
+        ">" => Some(ConstraintOp::Gt),
+        ">=" => Some(ConstraintOp::Ge),
+        _ => None,
+    }
 }
 
 fn place_of(item: &Json) -> Option<u32> {
@@ -48,6 +47,14 @@ fn constraints_of(alloc: Global, items: &[Json]) -> Result<Option<ConstraintList
     Ok(Some(list))
 }
 
+fn push_lent(shown: &mut String, rows: &[&Row]) -> Result<(), NoMemory> {
+    for row in rows {
+        shown.push_str(" ")?;
+        push_row(shown, *row)?;
+    }
+    Ok(shown.push_str(if rows.is_empty() { " no rows" } else { "" })?)
+}
+
 fn push_met(
     alloc: Global,
     shown: &mut String,
@@ -56,11 +63,20 @@ fn push_met(
     constraints: &ConstraintList,
 ) -> Result<(), NoMemory> {
     let met = scan(alloc, view, table, constraints)?;
-    for row in met.as_slice() {
-        shown.push_str(" ")?;
-        push_row(shown, *row)?;
+    push_lent(shown, met.as_slice())
+}
+
+fn push_found(
+    alloc: Global,
+    shown: &mut String,
+    view: &ThreeTables,
+    name: &str,
+    constraints: Option<&ConstraintList>,
+) -> Result<(), NoMemory> {
+    match (table_of(name), constraints) {
+        (Some(table), Some(list)) => push_met(alloc, shown, view, table.id, list),
+        _ => Ok(shown.push_str(" no table, or a constraint that is none")?),
     }
-    Ok(shown.push_str(if met.len() == 0 { " no rows" } else { "" })?)
 }
 
 /// Adds the rows of a table that meet constraints.
@@ -71,8 +87,6 @@ pub(crate) fn push_scan(
     view: &ThreeTables,
 ) -> Result<(), NoMemory> {
     let constraints = constraints_of(alloc, items_of(line.get("where")))?;
-    match (table_of(member_text(line, "scan")), constraints) {
-        (Some(table), Some(list)) => push_met(alloc, shown, view, table.id, &list),
-        _ => Ok(shown.push_str(" no table, or a constraint that is none")?),
-    }
+    let name = member_text(line, "scan");
+    push_found(alloc, shown, view, name, constraints.as_ref())
 }

@@ -2,7 +2,7 @@
 
 pub(crate) use query_answers::{answer, found_packs, names, schedule_for};
 pub(crate) use sql_joins::{
-    KeyColumns, LaidRows, hashed_join, laid_out, nested_join, parts, rule_of,
+    JoinRule, KeyColumns, LaidRows, hashed_join, laid_out, nested_join, parts, rule_of,
 };
 pub(crate) use sql_meaning::{Joined, plain_rows, singles};
 pub(crate) use sql_planner::{Plan, explain, plan_of, run_plan};
