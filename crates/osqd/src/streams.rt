@@ -1,5 +1,7 @@
 //! The machine's streams, each as one type.
 
+ghost use Rattle.osqd.specs.Opening.{IsNowhere};
+
 use std::fs::{File, OpenOptions};
 use std::io::{self, ErrorKind, Read, Stderr, Stdout, Write};
 
@@ -88,7 +90,9 @@ pub enum Output {
 
 impl Output {
     /// The end of the file of this path, which is made where there is none.
-    pub(crate) fn appended<R: std::rt::Files<File = File>>(rt: &R, path: &str) -> Output {
+    pub(crate) fn appended<R: std::rt::Files<File = File>>(rt: &R, path: &str) -> Output
+        ensures { ¬ IsNowhere result }
+    {
         match OpenOptions::new().append(true).create(true).open(rt, path) {
             Ok(file) => Output::Appended(file),
             Err(_) => Output::Unopened,
