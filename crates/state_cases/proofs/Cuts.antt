@@ -2,12 +2,14 @@
 use Rattle.std.proofs.Common.{◌≡◌, ℕ, Bool, true, false, List, [], ◌∷◌, Result, Ok, Err, sym, ap, subst, arith}
 use Rattle.std.specs.Prelude.{IfOk, OnOk, OnErr, MatchBool}
 use Rattle.osq_value.specs.declared.memory.NoMemory.{NoMemory}
+use Rattle.osq_value.specs.declared.value.Value.{Value}
 use Rattle.entry_model.specs.declared.entry.Entry.{Entry}
 use Rattle.entry_model.specs.declared.entry.Entry.TheVariants.{Acked}
 use Rattle.session_state.specs.Kept.{Counts, Kept}
 use Rattle.session_state.specs.Cut.{CutValue}
 use Rattle.session_state.specs.CutOf.{IsCutOf}
 use Rattle.session_state.specs.StateOf.{Adds}
+use Rattle.session_state.specs.Commits.{Commits}
 use Rattle.session_state.specs.Expiries.{expiries, AddsAll}
 use Rattle.session_state.proofs.Known.{known_alike}
 
@@ -27,6 +29,16 @@ all_known old new (entry ∷ rest) all cut of = all_known all.0 new rest all.2 c
 
 same_known : (old new : Kept) → new ≡ old → (cut : CutValue) → IsCutOf old cut → IsCutOf new cut
 same_known old new same cut of = subst (λ (state : Kept). IsCutOf state cut) (sym same) of
+
+-- where an entry was added, or nothing
+pub added_known : {A E : Type 0} (old new : Kept) (entry : Entry) (done : Result A E) → OnOk done (Adds old entry new) → OnErr done (new ≡ old) → (cut : CutValue) → IsCutOf old cut → IsCutOf new cut
+added_known old new entry (Ok value) added same cut of = added.cuts cut of
+added_known old new entry (Err error) added same cut of = same_known old new same cut of
+
+-- where a batch was added, or nothing
+pub committed_known : {A E : Type 0} (old new : Kept) (cut : CutValue) (rows : List (List Value)) (done : Result A E) → OnOk done (Commits old cut rows new) → OnErr done (new ≡ old) → (other : CutValue) → IsCutOf old other → IsCutOf new other
+committed_known old new cut rows (Ok value) committed same other of = committed.cuts other of
+committed_known old new cut rows (Err error) committed same other of = same_known old new same other of
 
 -- where the expiries were added, or nothing
 pub expired_known : (old new : Kept) (count : Result ℕ NoMemory) → OnOk count (AddsAll old (expiries old) new) → OnErr count (new ≡ old) → (cut : CutValue) → IsCutOf old cut → IsCutOf new cut

@@ -4,9 +4,10 @@ ghost use Rattle.std.specs.Prelude.{◌≡◌, ◌<◌, ◌^◌, ◌↔◌, All,
 ghost use Rattle.entry_model.specs.Reserved.{HaveOwnKeys, place_of};
 ghost use Rattle.query_cursors.specs.Places.{places_of};
 
-use crate::call::Call;
+use crate::line::{items_in, number_of};
 use crate::making::{files_key, runs, schedule};
-use crate::shown::{number_or_none, told, yes_or_no};
+use crate::shown::{push_number, push_number_or_none, tell, yes_or_no};
+use case_text::member_text;
 use entry_model::restored::{Run, RunList};
 use entry_summary::distinct::have_own_keys;
 use osq_value::{Copied, NoMemory};
@@ -34,25 +35,6 @@ fn may_grow(runs: &RunList) -> bool
     runs.as_slice().iter().all(|run| run.count < 1 << 63)
 }
 
-/// The place in the schedule of the query that comes next.
-fn next_due(
-    alloc: Global,
-    runs: RunList,
-    given: Call<'_>,
-    call: Call<'_>,
-) -> Result<String, NoMemory>
-    requires { HaveOwnKeys runs }
-{
-    let schedule = schedule(alloc, given)?;
-    let claimed = claims(alloc, call.text("claimed"))?;
-    if schedule.queries.len() > 10000 || claimed.len() != schedule.queries.len() {
-        return told(alloc, "no claims of the queries");
-    }
-    let cursors = placed(alloc, runs, &schedule)?;
-    let next = cursors.next_due(&schedule, claimed.as_slice(), 0, call.number("moment"));
-    number_or_none(alloc, next.map(u64::from))
-}
-
 /// Which queries are claimed, by a text of a character for each, `1` where it is.
 fn claims(alloc: Global, text: &str) -> Result<Vec<bool>, NoMemory> {
     let mut claims = Vec::new(alloc);
@@ -62,136 +44,251 @@ fn claims(alloc: Global, text: &str) -> Result<Vec<bool>, NoMemory> {
     Ok(claims)
 }
 
-/// The place in the schedule of the first query that is due.
-fn first_due(
-    alloc: Global,
-    runs: RunList,
-    given: Call<'_>,
-    call: Call<'_>,
-) -> Result<String, NoMemory>
-    requires { HaveOwnKeys runs }
+/// Adds the place in the schedule of the query that comes next.
+fn push_next_due(
+    text: &mut String,
+    cursors: &Cursors,
+    schedule: &Schedule,
+    claimed: &[bool],
+    moment: u64,
+) -> Result<(), NoMemory>
+    requires { cursors.now.places ≡ places_of cursors.now.runs schedule.now.queries }
 {
-    let schedule = schedule(alloc, given)?;
-    if schedule.queries.len() > 10000 {
-        return told(alloc, "too many queries");
+    if schedule.queries.len() > 10000 || claimed.len() != schedule.queries.len() {
+        return tell(text, "no claims of the queries");
     }
-    let cursors = placed(alloc, runs, &schedule)?;
-    let first = cursors.first_due(&schedule, call.number("moment"));
-    number_or_none(alloc, first.map(u64::from))
+    let next = cursors.next_due(schedule, claimed, 0, moment);
+    push_number_or_none(text, next.map(u64::from))
+}
+
+/// Adds the place in the schedule of the first query that is due.
+fn push_first_due(
+    text: &mut String,
+    cursors: &Cursors,
+    schedule: &Schedule,
+    moment: u64,
+) -> Result<(), NoMemory>
+    requires { cursors.now.places ≡ places_of cursors.now.runs schedule.now.queries }
+{
+    if schedule.queries.len() > 10000 {
+        return tell(text, "too many queries");
+    }
+    let first = cursors.first_due(schedule, moment);
+    push_number_or_none(text, first.map(u64::from))
+}
+
+fn push_batches(text: &mut String, run: &Run) -> Result<(), NoMemory> {
+    push_number(text, " run ", run.number)?;
+    push_number(text, " up to ", run.hi)?;
+    push_number(text, ", at ", run.moment)?;
+    push_number(text, ", ", run.count)?;
+    Ok(text.push_str(" batches")?)
 }
 
 fn push_run(text: &mut String, run: Option<&Run>) -> Result<(), NoMemory> {
     match run {
-        None => text.push_str(" no run")?,
-        Some(run) => write!(
-            text,
-            " run {} up to {}, at {}, {} batches",
-            run.number, run.hi, run.moment, run.count
-        )?,
+        None => tell(text, "no run"),
+        Some(run) => push_batches(text, run),
     }
-    Ok(())
 }
 
-/// What the cursors know of a query, and of the run of the query at a place.
-fn found(alloc: Global, cursors: &Cursors, key: &QueryKey, place: u64) -> Result<String, NoMemory> {
-    let cursor = cursors.cursor(key);
-    let mut text = format!(in alloc; " cursor {cursor}, number {},", cursors.number(key))?;
-    push_run(&mut text, cursors.run(key))?;
+/// Adds what the cursors know of a query, and of the run of the query at a place.
+fn push_known(
+    text: &mut String,
+    cursors: &Cursors,
+    key: &QueryKey,
+    place: usize,
+) -> Result<(), NoMemory> {
+    push_number(text, " cursor ", cursors.cursor(key))?;
+    push_number(text, ", number ", cursors.number(key))?;
+    text.push_str(",")?;
+    push_run(text, cursors.run(key))?;
     text.push_str("; placed:")?;
-    let place = usize::try_from(place).unwrap_or(usize::MAX);
-    push_run(&mut text, cursors.placed_run(place))?;
-    Ok(text)
+    push_run(text, cursors.placed_run(place))
 }
 
-fn find(alloc: Global, runs: RunList, given: Call<'_>, call: Call<'_>) -> Result<String, NoMemory>
-    requires { HaveOwnKeys runs }
-{
-    let schedule = schedule(alloc, given)?;
-    let cursors = placed(alloc, runs, &schedule)?;
-    let key = files_key(alloc, call.text("query"))?;
-    found(alloc, &cursors, &key, call.number("place"))
-}
-
-/// Notes one more batch of a query, and tells what the cursors then know of it.
-fn record_commit(
+fn next_due(
     alloc: Global,
-    runs: RunList,
-    given: Call<'_>,
-    call: Call<'_>,
-) -> Result<String, NoMemory>
-    requires { HaveOwnKeys runs }
+    text: &mut String,
+    cursors: &Cursors,
+    schedule: &Schedule,
+    line: &Json,
+) -> Result<(), NoMemory>
+    requires { cursors.now.places ≡ places_of cursors.now.runs schedule.now.queries }
 {
-    let Ok(place) = u32::try_from(call.number("place")) else {
-        return told(alloc, "no place");
-    };
-    if !may_grow(&runs) {
-        return told(alloc, "too many batches");
-    }
-    let schedule = schedule(alloc, given)?;
-    let key = files_key(alloc, call.text("query"))?;
-    let Some(scheduled) = schedule.queries.get(place as usize) else {
-        return told(alloc, "no query there");
-    };
-    if scheduled.key.is(&key) {
-        let mut cursors = placed(alloc, runs, &schedule)?;
-        record(alloc, &mut cursors, place, &key, call)?;
-        return found(alloc, &cursors, &key, u64::from(place));
-    }
-    told(alloc, "another query there")
+    let claimed = claims(alloc, member_text(line, "claimed"))?;
+    let moment = number_of(line, "moment");
+    push_next_due(text, cursors, schedule, claimed.as_slice(), moment)
 }
 
+fn find(alloc: Global, text: &mut String, cursors: &Cursors, line: &Json) -> Result<(), NoMemory> {
+    let key = files_key(alloc, member_text(line, "query"))?;
+    let place = usize::try_from(number_of(line, "place")).unwrap_or(usize::MAX);
+    push_known(text, cursors, &key, place)
+}
+
+/// Makes a call that notes nothing.
+fn ask(
+    alloc: Global,
+    text: &mut String,
+    cursors: &Cursors,
+    schedule: &Schedule,
+    line: &Json,
+) -> Result<(), NoMemory>
+    requires { cursors.now.places ≡ places_of cursors.now.runs schedule.now.queries }
+{
+    match member_text(line, "cursors") {
+        "next_due" => next_due(alloc, text, cursors, schedule, line),
+        "first_due" => push_first_due(text, cursors, schedule, number_of(line, "moment")),
+        "find" => find(alloc, text, cursors, line),
+        _ => tell(text, "no call"),
+    }
+}
+
+/// The same of cursors that are made of these runs.
+fn ask_placed(
+    alloc: Global,
+    text: &mut String,
+    runs: RunList,
+    schedule: &Schedule,
+    line: &Json,
+) -> Result<(), NoMemory>
+    requires { HaveOwnKeys runs }
+{
+    let cursors = placed(alloc, runs, schedule)?;
+    ask(alloc, text, &cursors, schedule, line)
+}
+
+/// Notes one more batch of the query of this key, which stands at this place of the schedule.
 fn record(
     alloc: Global,
     cursors: &mut Cursors,
     place: u32,
     key: &QueryKey,
-    call: Call<'_>,
+    line: &Json,
 ) -> Result<(), NoMemory>
     requires counts { All (λ run. run.count < 2 ^ 63) cursors.old.runs }
     requires place { slice_get cursors.old.places place ≡ Some (place_of cursors.old.runs key.now) }
 {
     let key = key.copy(alloc)?;
     cursors.reserve(1)?;
-    let (number, hi) = (call.number("number"), call.number("hi"));
-    cursors.record_commit(place, key, number, hi, call.number("moment"));
+    let (number, hi) = (number_of(line, "number"), number_of(line, "hi"));
+    cursors.record_commit(place, key, number, hi, number_of(line, "moment"));
     Ok(())
 }
 
-/// Whether a query of the line's interval is due, where it has a run at the line's last moment, if it has one.
-pub(crate) fn ask_due(alloc: Global, call: Call<'_>) -> Result<String, NoMemory> {
-    let scheduled = Scheduled {
-        key: files_key(alloc, "a")?,
-        interval: call.number("interval"),
+/// Notes one more batch of a query, where it stands at the line's place of the schedule. It answers that place, or what is wrong.
+fn record_at(
+    alloc: Global,
+    cursors: &mut Cursors,
+    schedule: &Schedule,
+    key: &QueryKey,
+    line: &Json,
+) -> Result<Result<u32, &'static str>, NoMemory>
+    requires counts { All (λ run. run.count < 2 ^ 63) cursors.old.runs }
+    requires places { cursors.old.places ≡ places_of cursors.old.runs schedule.now.queries }
+{
+    let Ok(place) = u32::try_from(number_of(line, "place")) else {
+        return Ok(Err("no place"));
     };
-    let moment = call.number("moment");
-    let Some(last) = call.line.get("last").and_then(Json::as_u64) else {
-        return yes_or_no(alloc, due(&scheduled, None, moment));
+    let Some(scheduled) = schedule.queries.get(place as usize) else {
+        return Ok(Err("no query there"));
     };
-    let run = Run {
+    if scheduled.key.is(key) {
+        record(alloc, cursors, place, key, line)?;
+        Ok(Ok(place))
+    } else {
+        Ok(Err("another query there"))
+    }
+}
+
+/// Notes one more batch of a query, and adds what the cursors then know of it.
+fn push_recorded(
+    alloc: Global,
+    text: &mut String,
+    cursors: &mut Cursors,
+    schedule: &Schedule,
+    line: &Json,
+) -> Result<(), NoMemory>
+    requires counts { All (λ run. run.count < 2 ^ 63) cursors.old.runs }
+    requires places { cursors.old.places ≡ places_of cursors.old.runs schedule.now.queries }
+{
+    let key = files_key(alloc, member_text(line, "query"))?;
+    match record_at(alloc, cursors, schedule, &key, line)? {
+        Ok(place) => push_known(text, cursors, &key, place as usize),
+        Err(words) => tell(text, words),
+    }
+}
+
+/// The same of cursors that are made of these runs.
+fn record_placed(
+    alloc: Global,
+    text: &mut String,
+    runs: RunList,
+    schedule: &Schedule,
+    line: &Json,
+) -> Result<(), NoMemory>
+    requires keys { HaveOwnKeys runs }
+    requires counts { All (λ run. run.count < 2 ^ 63) runs }
+{
+    let mut cursors = placed(alloc, runs, schedule)?;
+    push_recorded(alloc, text, &mut cursors, schedule, line)
+}
+
+/// Makes a call of the cursors that have these runs, placed for the queries of the schedule.
+fn call_placed(
+    alloc: Global,
+    text: &mut String,
+    runs: RunList,
+    schedule: &Schedule,
+    line: &Json,
+) -> Result<(), NoMemory> {
+    if !have_own_keys(runs.as_slice()) {
+        return tell(text, "two runs of a query");
+    }
+    if member_text(line, "cursors") != "record_commit" {
+        return ask_placed(alloc, text, runs, schedule, line);
+    }
+    if may_grow(&runs) {
+        record_placed(alloc, text, runs, schedule, line)
+    } else {
+        tell(text, "too many batches")
+    }
+}
+
+/// Makes a call of cursors with the runs and for the queries that a line gave, and adds what it says.
+pub(crate) fn call(
+    alloc: Global,
+    text: &mut String,
+    given: &Json,
+    line: &Json,
+) -> Result<(), NoMemory> {
+    let schedule = schedule(alloc, given)?;
+    let runs = runs(alloc, items_in(given, "runs"))?;
+    call_placed(alloc, text, runs, &schedule, line)
+}
+
+/// The run at the line's last moment, where it has one.
+fn last_run(alloc: Global, line: &Json) -> Result<Option<Run>, NoMemory> {
+    let Some(last) = line.get("last").and_then(Json::as_u64) else {
+        return Ok(None);
+    };
+    Ok(Some(Run {
         key: files_key(alloc, "a")?,
         number: 1,
         hi: 0,
         moment: last,
         count: 1,
-    };
-    yes_or_no(alloc, due(&scheduled, Some(&run), moment))
+    }))
 }
 
-/// Makes a call of cursors with the runs and for the queries that a line gave, and answers what it says.
-pub(crate) fn take(alloc: Global, given: &Json, call: Call<'_>) -> Result<String, NoMemory> {
-    let given = Call {
-        kind: "runs",
-        line: given,
+/// Adds whether a query of the line's interval is due, where it has a run at the line's last moment, if it has one.
+pub(crate) fn push_due(alloc: Global, text: &mut String, line: &Json) -> Result<(), NoMemory> {
+    let run = last_run(alloc, line)?;
+    let scheduled = Scheduled {
+        key: files_key(alloc, "a")?,
+        interval: number_of(line, "interval"),
     };
-    let runs = runs(alloc, given.items("runs"))?;
-    if !have_own_keys(runs.as_slice()) {
-        return told(alloc, "two runs of a query");
-    }
-    match call.name() {
-        "next_due" => next_due(alloc, runs, given, call),
-        "first_due" => first_due(alloc, runs, given, call),
-        "find" => find(alloc, runs, given, call),
-        "record_commit" => record_commit(alloc, runs, given, call),
-        _ => told(alloc, "no call"),
-    }
+    let is_due = due(&scheduled, run.as_ref(), number_of(line, "moment"));
+    tell(text, yes_or_no(is_due))
 }

@@ -1,116 +1,147 @@
 //! Entries as lines of text.
 
-use crate::shown::table_name;
+use crate::shown::{push_number, table_name, tell};
 use case_text::{push_row, push_rows};
 use entry_model::entry::{Batch, Entry, EntryList};
-use osq_value::{EventList, NoMemory};
+use osq_value::{EventList, NoMemory, TableId};
 use pack_rules::schedule::Schedule;
-use std::alloc::Global;
 
 /// Adds events, each as the name of its table and its row.
 fn push_events(text: &mut String, events: &EventList) -> Result<(), NoMemory> {
     for event in events.as_slice() {
-        write!(text, " {}", table_name(event.table))?;
+        tell(text, table_name(event.table))?;
         push_row(text, &event.row)?;
     }
     Ok(())
 }
 
-/// Adds the queries, each as its name and its seconds.
-fn push_queries(text: &mut String, schedule: &Schedule) -> Result<(), NoMemory> {
+/// Adds the moment of a schedule, and its queries, each as its name and its seconds.
+fn push_configured(text: &mut String, schedule: &Schedule, moment: u64) -> Result<(), NoMemory> {
+    push_number(text, "configured at ", moment)?;
+    text.push_str(":")?;
     for query in schedule.queries.as_slice() {
-        write!(text, " {}/{}", query.key.name.as_str(), query.interval)?;
+        tell(text, query.key.name.as_str())?;
+        push_number(text, "/", query.interval)?;
     }
     Ok(())
+}
+
+/// Adds up to which byte of which source something was taken.
+fn push_taken(text: &mut String, taken: u64, source: &str) -> Result<(), NoMemory> {
+    push_number(text, "", taken)?;
+    text.push_str(" of ")?;
+    Ok(text.push_str(source)?)
+}
+
+fn push_skipped(text: &mut String, skipped: u64, moment: u64) -> Result<(), NoMemory> {
+    push_number(text, ", skipped ", skipped)?;
+    push_number(text, ", at ", moment)?;
+    Ok(text.push_str(":")?)
+}
+
+fn push_expired(
+    text: &mut String,
+    table: TableId,
+    floor: u64,
+    moment: u64,
+) -> Result<(), NoMemory> {
+    text.push_str("expired ")?;
+    text.push_str(table_name(table))?;
+    push_number(text, " up to ", floor)?;
+    push_number(text, ", at ", moment)
+}
+
+/// Adds a slice: the numbers above which and up to which its events are.
+pub(crate) fn push_slice(text: &mut String, lo: u64, hi: u64) -> Result<(), NoMemory> {
+    push_number(text, "slice (", lo)?;
+    push_number(text, ",", hi)?;
+    Ok(text.push_str("], ")?)
+}
+
+/// Adds at how many entries and which moment a cut was made.
+pub(crate) fn push_place(text: &mut String, position: u64, moment: u64) -> Result<(), NoMemory> {
+    push_number(text, "cut ", position)?;
+    push_number(text, ", at ", moment)
 }
 
 fn push_batch(text: &mut String, batch: &Batch) -> Result<(), NoMemory> {
-    let name = batch.query.name.as_str();
-    write!(text, "committed {} of {name}, ", batch.number)?;
-    write!(text, "slice ({},{}], ", batch.lo, batch.hi)?;
-    write!(text, "cut {}, at {}:", batch.cut, batch.moment)?;
+    push_number(text, "committed ", batch.number)?;
+    text.push_str(" of ")?;
+    text.push_str(batch.query.name.as_str())?;
+    text.push_str(", ")?;
+    push_slice(text, batch.lo, batch.hi)?;
+    push_place(text, batch.cut, batch.moment)?;
+    text.push_str(":")?;
     push_rows(text, &batch.rows)
 }
 
-/// Adds what an entry has but for its events, rows and queries; or a batch.
-fn push_head(text: &mut String, entry: &Entry) -> Result<(), NoMemory> {
+/// Adds an entry that has a number alone, or any other.
+fn push_entry(text: &mut String, entry: &Entry) -> Result<(), NoMemory> {
     match entry {
-        Entry::Opened { session } => write!(text, "opened {session}")?,
-        Entry::Configured {
-            document: _,
-            schedule: _,
-            moment,
-        } => write!(text, "configured at {moment}:")?,
-        Entry::Ticked { moment } => write!(text, "ticked at {moment}")?,
-        Entry::Appended {
-            source,
-            taken,
-            events: _,
-            skipped,
-            moment,
-        } => write!(
-            text,
-            "appended {taken} of {}, skipped {skipped}, at {moment}:",
-            source.as_str()
-        )?,
-        Entry::TableSet {
-            source,
-            table,
-            rows: _,
-            taken,
-        } => write!(
-            text,
-            "set {} by {taken} of {}:",
-            table_name(*table),
-            source.as_str()
-        )?,
-        Entry::Expired {
-            table,
-            floor,
-            moment,
-        } => write!(
-            text,
-            "expired {} up to {floor}, at {moment}",
-            table_name(*table)
-        )?,
-        Entry::Committed { batch } => push_batch(text, batch)?,
-        Entry::Acked { upto } => write!(text, "acked {upto}")?,
+        Entry::Opened { session } => push_number(text, "opened ", *session),
+        Entry::Ticked { moment } => push_number(text, "ticked at ", *moment),
+        Entry::Acked { upto } => push_number(text, "acked ", *upto),
+        _ => push_change(text, entry),
     }
-    Ok(())
 }
 
-/// Adds its events, rows or queries.
-fn push_parts(text: &mut String, entry: &Entry) -> Result<(), NoMemory> {
+/// Adds an entry that has a schedule, a table's floor or a batch, or a reading.
+fn push_change(text: &mut String, entry: &Entry) -> Result<(), NoMemory> {
     match entry {
         Entry::Configured {
             document: _,
             schedule,
-            moment: _,
-        } => push_queries(text, schedule),
+            moment,
+        } => push_configured(text, schedule, *moment),
+        Entry::Expired {
+            table,
+            floor,
+            moment,
+        } => push_expired(text, *table, *floor, *moment),
+        Entry::Committed { batch } => push_batch(text, batch),
+        _ => push_reading(text, entry),
+    }
+}
+
+/// Adds an entry that has what was read.
+fn push_reading(text: &mut String, entry: &Entry) -> Result<(), NoMemory> {
+    match entry {
         Entry::Appended {
-            source: _,
-            taken: _,
+            source,
+            taken,
             events,
-            skipped: _,
-            moment: _,
-        } => push_events(text, events),
+            skipped,
+            moment,
+        } => {
+            text.push_str("appended ")?;
+            push_taken(text, *taken, source.as_str())?;
+            push_skipped(text, *skipped, *moment)?;
+            push_events(text, events)
+        }
         Entry::TableSet {
-            source: _,
-            table: _,
+            source,
+            table,
             rows,
-            taken: _,
-        } => push_rows(text, rows),
+            taken,
+        } => {
+            text.push_str("set ")?;
+            text.push_str(table_name(*table))?;
+            text.push_str(" by ")?;
+            push_taken(text, *taken, source.as_str())?;
+            text.push_str(":")?;
+            push_rows(text, rows)
+        }
         _ => Ok(()),
     }
 }
 
-/// How many entries there are, and each as a line behind `+ `.
-pub(crate) fn entries(alloc: Global, entries: &EntryList) -> Result<String, NoMemory> {
-    let mut text = format!(in alloc; " {} entries", entries.len())?;
+/// Adds how many entries there are, and each as a line behind `+ `.
+pub(crate) fn push_entries(text: &mut String, entries: &EntryList) -> Result<(), NoMemory> {
+    push_number(text, " ", entries.len() as u64)?;
+    text.push_str(" entries")?;
     for entry in entries.as_slice() {
         text.push_str("\n+ ")?;
-        push_head(&mut text, entry)?;
-        push_parts(&mut text, entry)?;
+        push_entry(text, entry)?;
     }
-    Ok(text)
+    Ok(())
 }

@@ -3,15 +3,16 @@
 ghost use Rattle.std.specs.Prelude.{◌≡◌, ◌<◌, All};
 ghost use Rattle.entry_model.specs.Legal.{IsEvent};
 
-use crate::call::Call;
+use crate::line::{items_in, number_of, table_in};
 use crate::making::events;
 use crate::ready::{are_events, are_wide, nothing};
-use crate::shown::{number_or_none, numbers, shown_tables, told};
-use case_text::rows_of;
+use crate::shown::{push_number, push_number_or_none, push_numbers, push_tables, tell};
+use case_text::{member_text, rows_of};
 use event_store::image::{Image, StoreError};
 use event_store::view::CutView;
 use event_store::{SharedRows, Steps};
-use osq_value::{EventList, NoMemory, TableId};
+use osq_value::{EventList, NoMemory, RowList, TableId};
+use serde_json::Value as Json;
 use std::alloc::Global;
 use std::marker::Brand;
 use std::sync::ledger::{Blank, Ledger};
@@ -45,69 +46,155 @@ fn slice_counted<L: Ledger>(
     image.slice(alloc, above, &mut Steps::<L>::new(blank))
 }
 
-/// Adds events, and answers the last number before and after.
-fn append(alloc: Global, image: &mut Image, call: Call<'_>) -> Result<String, NoMemory> {
-    let events = events(alloc, call.items("events"))?;
-    if !are_events(&events) {
-        return told(alloc, "no events");
-    }
-    match append_counted::<Brand>(image, events, call.number("moment"), Blank::new(1)) {
-        Ok(found) => numbers(alloc, found),
-        Err(StoreError::NumbersSpent) => told(alloc, "numbers spent"),
-        Err(StoreError::NoMemory) => Err(NoMemory),
+/// The slice above this number.
+fn slice_of(alloc: Global, image: &Image, above: u64) -> Result<CutView, NoMemory> {
+    slice_counted::<Brand>(alloc, image, above, Blank::new(1))
+}
+
+/// Adds events where each is one, and gives the last number before and after.
+fn append_events(
+    image: &mut Image,
+    events: EventList,
+    moment: u64,
+) -> Option<Result<(u64, u64), StoreError>> {
+    if are_events(&events) {
+        Some(append_counted::<Brand>(image, events, moment, Blank::new(1)))
+    } else {
+        None
     }
 }
 
-fn set_table(alloc: Global, image: &mut Image, call: Call<'_>) -> Result<String, NoMemory> {
-    let table = call.table();
-    let rows = rows_of(alloc, call.items("rows"))?;
+fn push_appended(
+    text: &mut String,
+    appended: Option<Result<(u64, u64), StoreError>>,
+) -> Result<(), NoMemory> {
+    match appended {
+        None => tell(text, "no events"),
+        Some(Ok((before, after))) => push_numbers(text, before, after),
+        Some(Err(StoreError::NumbersSpent)) => tell(text, "numbers spent"),
+        Some(Err(StoreError::NoMemory)) => Err(NoMemory),
+    }
+}
+
+fn append(
+    alloc: Global,
+    text: &mut String,
+    image: &mut Image,
+    line: &Json,
+) -> Result<(), NoMemory> {
+    let events = events(alloc, items_in(line, "events"))?;
+    push_appended(
+        text,
+        append_events(image, events, number_of(line, "moment")),
+    )
+}
+
+/// Gives a table these rows, where it is one that is set and they are as wide as it.
+fn set_rows(
+    alloc: Global,
+    image: &mut Image,
+    table: TableId,
+    rows: RowList,
+) -> Result<&'static str, NoMemory> {
     if table.0 < 3 || 12 <= table.0 || !are_wide(table, &rows) {
-        return told(alloc, "no rows of a table that is set");
+        return Ok("no rows of a table that is set");
     }
     image.set_table(alloc, table, rows)?;
-    told(alloc, "done")
+    Ok("done")
 }
 
-fn expire(alloc: Global, image: &mut Image, call: Call<'_>) -> Result<String, NoMemory> {
-    let table = call.table();
+fn set_table(
+    alloc: Global,
+    text: &mut String,
+    image: &mut Image,
+    line: &Json,
+) -> Result<(), NoMemory> {
+    let rows = rows_of(alloc, items_in(line, "rows"))?;
+    tell(text, set_rows(alloc, image, table_in(line), rows)?)
+}
+
+fn expire(image: &mut Image, table: TableId, floor: u64) -> &'static str {
     if 3 <= table.0 {
-        return told(alloc, "no table of events");
+        return "no table of events";
     }
-    let floor = call.number("floor");
     if floor <= image.floor(table) || image.last() < floor {
-        return told(alloc, "no floor above the last one");
+        return "no floor above the last one";
     }
     image.expire(table, floor);
-    told(alloc, "done")
+    "done"
 }
 
-fn floor_owed(alloc: Global, image: &Image, call: Call<'_>) -> Result<String, NoMemory> {
-    let table = call.table();
+fn push_floor_owed(text: &mut String, image: &Image, line: &Json) -> Result<(), NoMemory> {
+    let table = table_in(line);
     if 3 <= table.0 {
-        return told(alloc, "no table of events");
+        return tell(text, "no table of events");
     }
-    let (expiry, most) = (call.number("events_expiry"), call.number("events_max"));
-    let owed = image.floor_owed(table, expiry, most, call.number("moment"));
-    number_or_none(alloc, owed)
+    let (expiry, most) = (
+        number_of(line, "events_expiry"),
+        number_of(line, "events_max"),
+    );
+    let owed = image.floor_owed(table, expiry, most, number_of(line, "moment"));
+    push_number_or_none(text, owed)
 }
 
-/// The last number, and how many events of each table are live.
-fn show(alloc: Global, image: &Image) -> Result<String, NoMemory> {
-    let mut text = format!(in alloc; " last {}, live", image.last())?;
+/// Adds the last number, and how many events of each table are live.
+fn show(text: &mut String, image: &Image) -> Result<(), NoMemory> {
+    push_number(text, " last ", image.last())?;
+    text.push_str(", live")?;
     for place in 0..3u8 {
-        write!(text, " {}", image.live(TableId(place)))?;
+        push_number(text, " ", image.live(TableId(place)))?;
     }
-    Ok(text)
+    Ok(())
 }
 
-fn set_computed(alloc: Global, slice: &mut CutView, call: Call<'_>) -> Result<String, NoMemory> {
-    let table = call.table();
-    let rows = rows_of(alloc, call.items("rows"))?;
+/// Gives a table of the slice these rows, where it is one that is computed and they are as wide as it.
+fn compute_rows(
+    alloc: Global,
+    slice: &mut CutView,
+    table: TableId,
+    rows: RowList,
+) -> Result<&'static str, NoMemory> {
     if table.0 < 12 || 15 <= table.0 || !are_wide(table, &rows) {
-        return told(alloc, "no rows of a table that is computed");
+        return Ok("no rows of a table that is computed");
     }
     slice.set_computed(table, SharedRows::of(alloc, rows)?);
-    told(alloc, "done")
+    Ok("done")
+}
+
+fn set_computed(
+    alloc: Global,
+    text: &mut String,
+    slice: &mut CutView,
+    line: &Json,
+) -> Result<(), NoMemory> {
+    let rows = rows_of(alloc, items_in(line, "rows"))?;
+    tell(text, compute_rows(alloc, slice, table_in(line), rows)?)
+}
+
+/// Makes a call that changes the image, or one that looks at it.
+fn call_image(
+    alloc: Global,
+    text: &mut String,
+    image: &mut Image,
+    line: &Json,
+) -> Result<(), NoMemory> {
+    match member_text(line, "image") {
+        "append" => append(alloc, text, image, line),
+        "set_table" => set_table(alloc, text, image, line),
+        "expire" => tell(
+            text,
+            expire(image, table_in(line), number_of(line, "floor")),
+        ),
+        _ => look(text, image, line),
+    }
+}
+
+fn look(text: &mut String, image: &Image, line: &Json) -> Result<(), NoMemory> {
+    match member_text(line, "image") {
+        "floor_owed" => push_floor_owed(text, image, line),
+        "show" => show(text, image),
+        _ => tell(text, "no call"),
+    }
 }
 
 /// An image, and the slice of it that was cut last.
@@ -118,30 +205,34 @@ pub(crate) struct Sliced {
 }
 
 impl Sliced {
-    pub(crate) fn new(alloc: Global) -> Result<Sliced, NoMemory> {
-        let image = Image::restore(alloc, &nothing(alloc))?;
-        let slice = slice_counted::<Brand>(alloc, &image, 0, Blank::new(1))?;
+    /// This image, and its slice above 0.
+    fn of(alloc: Global, image: Image) -> Result<Sliced, NoMemory> {
+        let slice = slice_of(alloc, &image, 0)?;
         Ok(Sliced { image, slice })
     }
 
-    fn cut(&mut self, alloc: Global, call: Call<'_>) -> Result<String, NoMemory> {
-        let above = call.number("above");
-        self.slice = slice_counted::<Brand>(alloc, &self.image, above, Blank::new(1))?;
-        told(alloc, "done")
+    /// An empty image.
+    pub(crate) fn new(alloc: Global) -> Result<Sliced, NoMemory> {
+        Sliced::of(alloc, Image::restore(alloc, &nothing(alloc))?)
     }
 
-    /// Makes a call, and answers what it says.
-    pub(crate) fn take(&mut self, alloc: Global, call: Call<'_>) -> Result<String, NoMemory> {
-        match call.name() {
-            "append" => append(alloc, &mut self.image, call),
-            "set_table" => set_table(alloc, &mut self.image, call),
-            "expire" => expire(alloc, &mut self.image, call),
-            "floor_owed" => floor_owed(alloc, &self.image, call),
-            "show" => show(alloc, &self.image),
-            "slice" => self.cut(alloc, call),
-            "set_computed" => set_computed(alloc, &mut self.slice, call),
-            "view" => shown_tables(alloc, &self.slice, call.items("tables")),
-            _ => told(alloc, "no call"),
+    fn cut(&mut self, alloc: Global, text: &mut String, above: u64) -> Result<(), NoMemory> {
+        self.slice = slice_of(alloc, &self.image, above)?;
+        tell(text, "done")
+    }
+
+    /// Makes a call, and adds what it says.
+    pub(crate) fn call(
+        &mut self,
+        alloc: Global,
+        text: &mut String,
+        line: &Json,
+    ) -> Result<(), NoMemory> {
+        match member_text(line, "image") {
+            "slice" => self.cut(alloc, text, number_of(line, "above")),
+            "set_computed" => set_computed(alloc, text, &mut self.slice, line),
+            "view" => push_tables(text, &self.slice, items_in(line, "tables")),
+            _ => call_image(alloc, text, &mut self.image, line),
         }
     }
 }

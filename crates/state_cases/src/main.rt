@@ -29,26 +29,22 @@ mod call;
 mod cursors;
 mod entries;
 mod image;
+mod line;
 mod making;
 mod ready;
 mod session;
+mod session_calls;
 mod shown;
 mod values;
 
-use bench::Bench;
-use osq_value::NoMemory;
+use bench::CallBench;
+use case_text::print_told;
 use std::io::{self, ErrorKind};
 
 fn main(rt: HostRuntime) -> io::Result<()> {
     let alloc = rt.alloc();
-    let Ok(mut bench) = Bench::new(alloc) else {
+    let Ok(mut bench) = CallBench::new(alloc) else {
         return Err(io::Error::from(ErrorKind::OutOfMemory));
     };
-    for line in rt.lines(alloc) {
-        match bench.take_line(alloc, line?.as_str()) {
-            Ok(text) => print!(rt; "{text}")?,
-            Err(NoMemory) => return Err(io::Error::from(ErrorKind::OutOfMemory)),
-        }
-    }
-    Ok(())
+    print_told(&rt, alloc, &mut bench)
 }

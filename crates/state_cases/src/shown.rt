@@ -1,32 +1,39 @@
 //! Answers as text.
 
-use crate::call::table_of;
-use case_text::push_row;
+use crate::line::table_of;
+use case_text::{push_row, push_rows};
 use osq_value::catalogue::table_desc;
 use osq_value::{NoMemory, RowList, TableId, Tables};
 use serde_json::Value as Json;
-use std::alloc::Global;
 
-/// The text, behind a blank.
-pub(crate) fn told(alloc: Global, text: &str) -> Result<String, NoMemory> {
-    Ok(format!(in alloc; " {text}")?)
+/// Adds a blank and these words.
+pub(crate) fn tell(text: &mut String, words: &str) -> Result<(), NoMemory> {
+    text.push_str(" ")?;
+    Ok(text.push_str(words)?)
 }
 
-pub(crate) fn yes_or_no(alloc: Global, holds: bool) -> Result<String, NoMemory> {
-    told(alloc, if holds { "yes" } else { "no" })
+/// Adds these words and a number behind them. Numbers are shown here alone, since each place that shows one is proved anew.
+pub(crate) fn push_number(text: &mut String, words: &str, number: u64) -> Result<(), NoMemory> {
+    text.push_str(words)?;
+    Ok(write!(text, "{number}")?)
 }
 
-/// A number, or that there is none.
-pub(crate) fn number_or_none(alloc: Global, number: Option<u64>) -> Result<String, NoMemory> {
+pub(crate) fn yes_or_no(holds: bool) -> &'static str {
+    if holds { "yes" } else { "no" }
+}
+
+/// Adds a number, or that there is none.
+pub(crate) fn push_number_or_none(text: &mut String, number: Option<u64>) -> Result<(), NoMemory> {
     match number {
-        Some(number) => Ok(format!(in alloc; " {number}")?),
-        None => told(alloc, "none"),
+        Some(number) => push_number(text, " ", number),
+        None => tell(text, "none"),
     }
 }
 
-/// The numbers of the last event before and after.
-pub(crate) fn numbers(alloc: Global, numbers: (u64, u64)) -> Result<String, NoMemory> {
-    Ok(format!(in alloc; " {} to {}", numbers.0, numbers.1)?)
+/// Adds the numbers of the last event before and after.
+pub(crate) fn push_numbers(text: &mut String, before: u64, after: u64) -> Result<(), NoMemory> {
+    push_number(text, " ", before)?;
+    push_number(text, " to ", after)
 }
 
 pub(crate) fn table_name(table: TableId) -> &'static str {
@@ -36,19 +43,19 @@ pub(crate) fn table_name(table: TableId) -> &'static str {
     }
 }
 
-/// The rows, or that there are none.
-pub(crate) fn rows_or_none(alloc: Global, rows: &RowList) -> Result<String, NoMemory> {
-    let mut text = String::new(alloc);
-    case_text::push_rows(&mut text, rows)?;
+/// Adds the rows, or that there are none.
+pub(crate) fn push_rows_or_none(text: &mut String, rows: &RowList) -> Result<(), NoMemory> {
     if rows.len() == 0 {
-        text.push_str(" no rows")?;
+        tell(text, "no rows")
+    } else {
+        push_rows(text, rows)
     }
-    Ok(text)
 }
 
-/// Adds the name of a table and its rows.
+/// Adds the name of a table, how many rows it has, and these.
 fn push_table<V: Tables>(text: &mut String, view: &V, table: TableId) -> Result<(), NoMemory> {
-    write!(text, " {} {}", table_name(table), view.count(table))?;
+    tell(text, table_name(table))?;
+    push_number(text, " ", view.count(table) as u64)?;
     for at in 0..view.count(table) {
         if let Some(row) = view.row(table, at) {
             push_row(text, row)?;
@@ -57,15 +64,14 @@ fn push_table<V: Tables>(text: &mut String, view: &V, table: TableId) -> Result<
     Ok(())
 }
 
-/// The rows of these tables.
-pub(crate) fn shown_tables<V: Tables>(
-    alloc: Global,
+/// Adds these tables with their rows.
+pub(crate) fn push_tables<V: Tables>(
+    text: &mut String,
     view: &V,
     tables: &[Json],
-) -> Result<String, NoMemory> {
-    let mut text = String::new(alloc);
+) -> Result<(), NoMemory> {
     for table in tables {
-        push_table(&mut text, view, table_of(Some(table)))?;
+        push_table(text, view, table_of(Some(table)))?;
     }
-    Ok(text)
+    Ok(())
 }

@@ -1,6 +1,7 @@
 //! The values of a kept list, as lines give them.
 
-use crate::making::{number_at, row_or_nulls, runs};
+use crate::line::table_of;
+use crate::making::{number_at, push_runs, row_or_nulls};
 use case_text::items_of;
 use entry_model::restored::{Live, LiveList, Restored, SetTable, SetTableList, Taken, TakenList};
 use osq_value::{NoMemory, Row, RowList, Str};
@@ -14,53 +15,57 @@ pub(crate) struct Values<'a> {
     pub(crate) plain: &'a Json,
 }
 
+/// The row of an item; an empty one where there is none.
+fn row_in(alloc: Global, item: Option<&Json>) -> Result<Row, NoMemory> {
+    match item {
+        Some(item) => row_or_nulls(alloc, item),
+        None => Ok(Row::new(alloc)),
+    }
+}
+
 /// The event of an array of its number, table, moment and row.
-fn live_event(alloc: Global, item: &Json) -> Result<Live, NoMemory> {
-    let items = items_of(Some(item));
-    let row = match items.get(3) {
-        Some(row) => row_or_nulls(alloc, row)?,
-        None => Row::new(alloc),
-    };
+fn live_event(alloc: Global, items: &[Json]) -> Result<Live, NoMemory> {
     Ok(Live {
         number: number_at(items, 0),
-        table: crate::call::table_of(items.get(1)),
+        table: table_of(items.get(1)),
         moment: number_at(items, 2),
-        row,
+        row: row_in(alloc, items.get(3))?,
     })
 }
 
-fn live(alloc: Global, items: &[Json]) -> Result<LiveList, NoMemory> {
-    let mut live = LiveList::new(alloc);
+fn push_live(alloc: Global, live: &mut LiveList, items: &[Json]) -> Result<(), NoMemory> {
     for item in items {
-        live.push(live_event(alloc, item)?)?;
+        live.push(live_event(alloc, items_of(Some(item)))?)?;
     }
-    Ok(live)
+    Ok(())
 }
 
-/// The table of an array of its name and its rows.
-fn set_table(alloc: Global, item: &Json) -> Result<SetTable, NoMemory> {
-    let items = items_of(Some(item));
+/// The rows behind the first item.
+fn rows_behind_first(alloc: Global, items: &[Json]) -> Result<RowList, NoMemory> {
     let mut rows = RowList::new(alloc);
     for row in items.iter().skip(1) {
         rows.push(row_or_nulls(alloc, row)?)?;
     }
+    Ok(rows)
+}
+
+/// The table of an array of its name and its rows.
+fn set_table(alloc: Global, items: &[Json]) -> Result<SetTable, NoMemory> {
     Ok(SetTable {
-        table: crate::call::table_of(items.first()),
-        rows,
+        table: table_of(items.first()),
+        rows: rows_behind_first(alloc, items)?,
     })
 }
 
-fn tables(alloc: Global, items: &[Json]) -> Result<SetTableList, NoMemory> {
-    let mut tables = SetTableList::new(alloc);
+fn push_tables(alloc: Global, tables: &mut SetTableList, items: &[Json]) -> Result<(), NoMemory> {
     for item in items {
-        tables.push(set_table(alloc, item)?)?;
+        tables.push(set_table(alloc, items_of(Some(item)))?)?;
     }
-    Ok(tables)
+    Ok(())
 }
 
 /// The source of an array of its name and its offset.
-fn source(alloc: Global, item: &Json) -> Result<Taken, NoMemory> {
-    let items = items_of(Some(item));
+fn source(alloc: Global, items: &[Json]) -> Result<Taken, NoMemory> {
     let name = items.first().and_then(Json::as_str).unwrap_or("");
     Ok(Taken {
         source: Str::of(alloc, name)?,
@@ -68,12 +73,11 @@ fn source(alloc: Global, item: &Json) -> Result<Taken, NoMemory> {
     })
 }
 
-fn taken(alloc: Global, items: &[Json]) -> Result<TakenList, NoMemory> {
-    let mut taken = TakenList::new(alloc);
+fn push_taken(alloc: Global, taken: &mut TakenList, items: &[Json]) -> Result<(), NoMemory> {
     for item in items {
-        taken.push(source(alloc, item)?)?;
+        taken.push(source(alloc, items_of(Some(item)))?)?;
     }
-    Ok(taken)
+    Ok(())
 }
 
 impl<'a> Values<'a> {
@@ -101,24 +105,30 @@ impl<'a> Values<'a> {
         ]
     }
 
+    /// Gives values their numbers.
+    fn give_numbers(self, restored: &mut Restored) {
+        restored.position = self.number("position");
+        restored.sessions = self.number("sessions");
+        restored.moment = self.number("moment");
+        restored.last = self.number("last");
+        restored.floors = self.floors();
+        restored.batches = self.number("batches");
+        restored.acked = self.number("acked");
+    }
+
+    /// Gives values their lists, which are empty yet.
+    fn give_lists(self, alloc: Global, restored: &mut Restored) -> Result<(), NoMemory> {
+        push_live(alloc, &mut restored.live, self.items("live"))?;
+        push_taken(alloc, &mut restored.taken, self.items("taken"))?;
+        push_tables(alloc, &mut restored.tables, self.items("tables"))?;
+        push_runs(alloc, &mut restored.runs, self.items("runs"))
+    }
+
     /// The values.
     pub(crate) fn restored(self, alloc: Global) -> Result<Restored, NoMemory> {
-        let live = live(alloc, self.items("live"))?;
-        let taken = taken(alloc, self.items("taken"))?;
-        let tables = tables(alloc, self.items("tables"))?;
-        let runs = runs(alloc, self.items("runs"))?;
-        Ok(Restored {
-            position: self.number("position"),
-            sessions: self.number("sessions"),
-            moment: self.number("moment"),
-            last: self.number("last"),
-            floors: self.floors(),
-            live,
-            taken,
-            tables,
-            runs,
-            batches: self.number("batches"),
-            acked: self.number("acked"),
-        })
+        let mut restored = Restored::empty(alloc);
+        self.give_numbers(&mut restored);
+        self.give_lists(alloc, &mut restored)?;
+        Ok(restored)
     }
 }

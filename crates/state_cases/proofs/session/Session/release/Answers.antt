@@ -4,4 +4,6 @@ use Rattle.state_cases.proofs.session.Session.release.Goals as goal
 
 pub invariant_of-self : goal.invariant_of-self
 invariant_of-self c =
-    still_all (IsCutOf c.self.inside.state) (IsCutOf c.release.new.state) c.self.inside.cuts.items c.release.ensures c.self.invariant
+    let old = c.self.inside.state in
+    let new = c.release.new.self in
+    still_all (IsCutOf old) (IsCutOf new) c.self.inside.cuts.items c.release.ensures.cuts c.self.invariant

@@ -1,4 +1,4 @@
-use Rattle.state_cases.proofs.image.Sliced.new.Given as goal
+use Rattle.state_cases.proofs.image.slice_of.Given as goal
 
 abbrev pub ghosts-slice_counted : goal.ghosts-slice_counted
 ghosts-slice_counted a = record { name = a.blank.name; parts = a.blank.parts }

@@ -1,4 +1,4 @@
-use Rattle.state_cases.proofs.session.append.Given as goal
+use Rattle.state_cases.proofs.image.append_events.Given as goal
 
 abbrev pub ghosts-append_counted : goal.ghosts-append_counted
 ghosts-append_counted a = record { name = a.blank.name; parts = a.blank.parts }

@@ -1,0 +1,10 @@
+use Rattle.session_state.specs.CutOf.{IsCutOf}
+use Rattle.state_cases.proofs.Cuts.{expired_known}
+use Rattle.state_cases.proofs.Kept.{still_all}
+use Rattle.state_cases.proofs.session.Session.expire.Goals as goal
+
+pub invariant_of-self : goal.invariant_of-self
+invariant_of-self c =
+    let old = c.self.inside.state in
+    let new = c.expire.new.self in
+    still_all (IsCutOf old) (IsCutOf new) c.self.inside.cuts.items (expired_known old new c.expire.result c.expire.ensures.expired c.expire.ensures.err) c.self.invariant

@@ -1,0 +1,9 @@
+use Rattle.session_state.specs.CutOf.{IsCutOf}
+use Rattle.state_cases.proofs.Kept.{still_all}
+use Rattle.state_cases.proofs.session.Session.take_tail.Goals as goal
+
+pub invariant_of-self : goal.invariant_of-self
+invariant_of-self c =
+    let old = c.self.inside.state in
+    let new = c.take_tail.new.self in
+    still_all (IsCutOf old) (IsCutOf new) c.self.inside.cuts.items c.take_tail.ensures.cuts c.self.invariant
