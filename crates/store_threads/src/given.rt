@@ -1,10 +1,11 @@
 //! What the stories begin with: a store with one query that is due, and readings of one file.
 
-ghost use Rattle.std.specs.Prelude.{◌≡◌, ◌≤◌, IfOk};
+ghost use Rattle.std.specs.Prelude.{◌≡◌, ◌≤◌, true, IfOk, OnOk};
+ghost use Rattle.sql_texts.specs.Meaning.{is_accepted, names_evented};
 ghost use Rattle.entry_model.specs.Legal.{IsEvent};
 ghost use Rattle.pack_rules.specs.Sound.{IsRunnable, IsSound};
 ghost use Rattle.session_state.specs.Readings.{IsReading};
-ghost use Rattle.turn_lock.specs.Words.{seats_out, split_off, IsAtRest, IsFirst};
+ghost use Rattle.turn_lock.specs.Words.{seats_out, split_off, IsAtRest, IsFirst, IsSame};
 ghost use Rattle.shared_store.specs.Words.{most_seats, IsSeatOf};
 
 use entry_model::restored::Restored;
@@ -18,19 +19,30 @@ use std::sync::Wait;
 
 const PATHS: &str = "SELECT target_path FROM file_events";
 
-/// The query `fe`, which asks for the paths of new files each minute; want of memory stands for a text that is refused.
+/// The text is one that a session may ask for what new events add; want of memory stands for a text that is refused.
 #[tactic(auto, unfolding(sql_texts::specs::Meaning::is_accepted, sql_texts::specs::Meaning::names_evented))]
+fn accept(alloc: Global, text: &str) -> Result<(), NoMemory>
+    ensures accepted { OnOk result (is_accepted text.now ≡ true) }
+    ensures evented { OnOk result (names_evented text.now ≡ true) }
+{
+    let Ok(query) = query_of_text(alloc, text) else {
+        return Err(NoMemory);
+    };
+    if is_evented(&query) {
+        Ok(())
+    } else {
+        Err(NoMemory)
+    }
+}
+
+/// The query `fe`, which asks for the paths of new files each minute.
 fn paths(alloc: Global) -> Result<Scheduled, NoMemory>
     ensures { IfOk result IsRunnable }
 {
-    let Ok(query) = query_of_text(alloc, PATHS) else {
-        return Err(NoMemory);
-    };
-    if !is_evented(&query) {
-        return Err(NoMemory);
-    }
+    accept(alloc, PATHS)?;
+    let name = Str::of(alloc, "fe")?;
     Ok(Scheduled {
-        key: QueryKey::read(Str::of(alloc, "fe")?, Str::of(alloc, PATHS)?, Mode::Evented),
+        key: QueryKey::read(name, Str::of(alloc, PATHS)?, Mode::Evented),
         interval: 60,
     })
 }
@@ -49,7 +61,25 @@ fn schedule(alloc: Global) -> Result<Schedule, NoMemory>
     })
 }
 
-/// A store over an empty list, whose session runs that schedule at the tick of the moment 1000.
+/// Runs that schedule in the store, at the tick of the moment 1000.
+fn configure<R: Wait>(
+    rt: &R,
+    alloc: Global,
+    store: &Store,
+    first: &mut StoreSeat,
+) -> Result<(), NoMemory>
+    requires { IsSeatOf store.now first.old × IsAtRest first.old }
+    ensures { IsSame first.old first.new × IsAtRest first.new }
+{
+    let schedule = schedule(alloc)?;
+    store.configure(rt, alloc, first, TextList::new(alloc), schedule, 1000)?;
+    match store.tick(rt, first, 1000) {
+        Ok(()) => Ok(()),
+        Err(_) => Err(NoMemory),
+    }
+}
+
+/// A store over an empty list, whose session runs that schedule.
 pub(crate) fn opened<R: Wait>(
     rt: &R,
     alloc: Global,
@@ -60,12 +90,8 @@ pub(crate) fn opened<R: Wait>(
     ensures room { IfOk result (λ r. (most_seats r.0 ≡ seats) × (seats_out r.1 ≡ 1) × (split_off r.1 ≡ 0)) }
 {
     let (store, mut first) = Store::begin(alloc, Restored::empty(alloc), seats)?;
-    let schedule = schedule(alloc)?;
-    store.configure(rt, alloc, &mut first, TextList::new(alloc), schedule, 1000)?;
-    match store.tick(rt, &mut first, 1000) {
-        Ok(()) => Ok((store, first)),
-        Err(_) => Err(NoMemory),
-    }
+    configure(rt, alloc, &store, &mut first)?;
+    Ok((store, first))
 }
 
 /// A file whose `target_path` is this one.

@@ -1,9 +1,9 @@
 //! Turns of several threads.
 
-ghost use Rattle.std.specs.Prelude.{◌≡◌, ◌+◌, ◌<◌, ◌≤◌, ◌^◌, IfOk, length, map};
+ghost use Rattle.std.specs.Prelude.{◌≡◌, ◌≢◌, ◌+◌, ◌<◌, ◌≤◌, ◌^◌, IfOk, OnOk, length, map};
 ghost use Rattle.std.specs.List.{All, AllZip};
 ghost use Rattle.turn_lock.specs.Turns.{total};
-ghost use Rattle.turn_lock.specs.Words.{seen, seats_out, split_off, IsAtRest, IsFirst, IsSame};
+ghost use Rattle.turn_lock.specs.Words.{number, seen, seats_out, split_off, IsAtRest, IsFirst, IsSame};
 ghost use Rattle.shared_store.specs.Words.{most_seats, IsSeatOf};
 ghost use Rattle.shared_store.specs.Seats.{own_count, HasAdded};
 
@@ -74,6 +74,67 @@ fn add_by_two<R: Threads + Wait + Sync>(
     )
 }
 
+/// Two threads of two threads each.
+fn add_by_pairs<R: Threads + Wait + Sync>(
+    rt: &R,
+    alloc: Global,
+    store: &Store,
+    left: (StoreSeat, StoreSeat),
+    right: (StoreSeat, StoreSeat),
+    turns: u32,
+) -> ((StoreSeat, StoreSeat), (StoreSeat, StoreSeat))
+    requires left { IsSeatOf store.now left.0 × IsAtRest left.0 × IsSeatOf store.now left.1 × IsAtRest left.1 }
+    requires right { IsSeatOf store.now right.0 × IsAtRest right.0 × IsSeatOf store.now right.1 × IsAtRest right.1 }
+    ensures left { IsSame left.0 result.0.0 × IsAtRest result.0.0 × IsSame left.1 result.0.1 × IsAtRest result.0.1 }
+    ensures right { IsSame right.0 result.1.0 × IsAtRest result.1.0 × IsSame right.1 result.1.1 × IsAtRest result.1.1 }
+{
+    let (one, two) = left;
+    let (three, four) = right;
+    join(
+        rt,
+        || -> (StoreSeat, StoreSeat)
+            requires { IsSeatOf store.now one × IsAtRest one × IsSeatOf store.now two × IsAtRest two }
+            ensures { IsSame one result.0 × IsAtRest result.0 × IsSame two result.1 × IsAtRest result.1 }
+        { add_by_two(rt, alloc, store, one, two, ["a", "b"], turns) },
+        || -> (StoreSeat, StoreSeat)
+            requires { IsSeatOf store.now three × IsAtRest three × IsSeatOf store.now four × IsAtRest four }
+            ensures { IsSame three result.0 × IsAtRest result.0 × IsSame four result.1 × IsAtRest result.1 }
+        { add_by_two(rt, alloc, store, three, four, ["c", "d"], turns) },
+    )
+}
+
+/// Splits two seats off.
+fn split_two(store: &Store, first: &mut StoreSeat) -> Result<(StoreSeat, StoreSeat), NoMemory>
+    requires seat { IsSeatOf store.now first.old × IsAtRest first.old × IsFirst first.old }
+    requires room { seats_out first.old + 2 ≤ most_seats store.now }
+    ensures seat { IsSeatOf store.now first.new × IsAtRest first.new × IsFirst first.new }
+    ensures out { OnOk result (seats_out first.new ≡ seats_out first.old + 2) }
+    ensures one { IfOk result (λ r. IsSeatOf store.now r.0 × IsAtRest r.0 × (number r.0 ≢ 0)) }
+    ensures other { IfOk result (λ r. IsSeatOf store.now r.1 × IsAtRest r.1 × (number r.1 ≢ 0)) }
+{
+    let one = store.split(first)?;
+    let two = store.split(first)?;
+    Ok((one, two))
+}
+
+/// Splits two seats off, adds by each of them in a thread of its own, and joins them: the last number.
+fn last_by_two<R: Threads + Wait + Sync>(
+    rt: &R,
+    alloc: Global,
+    store: &Store,
+    first: &mut StoreSeat,
+    turns: u32,
+) -> Result<u64, NoMemory>
+    requires seat { IsSeatOf store.now first.old × IsAtRest first.old × IsFirst first.old }
+    requires room { seats_out first.old + 2 ≤ most_seats store.now }
+{
+    let (one, two) = split_two(store, first)?;
+    let (one, two) = add_by_two(rt, alloc, store, one, two, ["a", "b"], turns);
+    store.join(first, two);
+    store.join(first, one);
+    last_cut(rt, alloc, store, first)
+}
+
 /// The last number after two threads of that many turns each.
 pub(crate) fn two_threads<R: Threads + Wait + Sync>(
     rt: &R,
@@ -81,12 +142,28 @@ pub(crate) fn two_threads<R: Threads + Wait + Sync>(
     turns: u32,
 ) -> Result<u64, NoMemory> {
     let (store, mut first) = opened(rt, alloc, 3)?;
-    let one = store.split(&mut first)?;
-    let two = store.split(&mut first)?;
-    let (one, two) = add_by_two(rt, alloc, &store, one, two, ["a", "b"], turns);
-    store.join(&mut first, two);
-    store.join(&mut first, one);
-    last_cut(rt, alloc, &store, &mut first)
+    last_by_two(rt, alloc, &store, &mut first, turns)
+}
+
+/// Splits four seats off, adds by each of them in a thread of its own, and joins them out of order: the last number.
+fn last_by_four<R: Threads + Wait + Sync>(
+    rt: &R,
+    alloc: Global,
+    store: &Store,
+    first: &mut StoreSeat,
+    turns: u32,
+) -> Result<u64, NoMemory>
+    requires seat { IsSeatOf store.now first.old × IsAtRest first.old × IsFirst first.old }
+    requires room { seats_out first.old + 4 ≤ most_seats store.now }
+{
+    let left = split_two(store, first)?;
+    let right = split_two(store, first)?;
+    let ((one, two), (three, four)) = add_by_pairs(rt, alloc, store, left, right, turns);
+    store.join(first, four);
+    store.join(first, two);
+    store.join(first, three);
+    store.join(first, one);
+    last_cut(rt, alloc, store, first)
 }
 
 /// The last number after four threads of that many turns each, whose seats are joined out of order.
@@ -96,26 +173,7 @@ pub(crate) fn four_threads<R: Threads + Wait + Sync>(
     turns: u32,
 ) -> Result<u64, NoMemory> {
     let (store, mut first) = opened(rt, alloc, 5)?;
-    let one = store.split(&mut first)?;
-    let two = store.split(&mut first)?;
-    let three = store.split(&mut first)?;
-    let four = store.split(&mut first)?;
-    let ((one, two), (three, four)) = join(
-        rt,
-        || -> (StoreSeat, StoreSeat)
-            requires { IsSeatOf store one × IsAtRest one × IsSeatOf store two × IsAtRest two }
-            ensures { IsSame one result.0 × IsAtRest result.0 × IsSame two result.1 × IsAtRest result.1 }
-        { add_by_two(rt, alloc, &store, one, two, ["a", "b"], turns) },
-        || -> (StoreSeat, StoreSeat)
-            requires { IsSeatOf store three × IsAtRest three × IsSeatOf store four × IsAtRest four }
-            ensures { IsSame three result.0 × IsAtRest result.0 × IsSame four result.1 × IsAtRest result.1 }
-        { add_by_two(rt, alloc, &store, three, four, ["c", "d"], turns) },
-    );
-    store.join(&mut first, four);
-    store.join(&mut first, two);
-    store.join(&mut first, three);
-    store.join(&mut first, one);
-    last_cut(rt, alloc, &store, &mut first)
+    last_by_four(rt, alloc, &store, &mut first, turns)
 }
 
 /// Gives each seat a thread and a source, of which it adds that many events, one in each turn.
@@ -185,6 +243,24 @@ fn add_by_many<R: Threads + Wait + Sync>(
 }
 
 /// How much that many threads of that many turns each have added, and the last number behind them.
+fn last_by_many<R: Threads + Wait + Sync>(
+    rt: &R,
+    alloc: Global,
+    store: &Store,
+    first: &mut StoreSeat,
+    threads: u32,
+    turns: u32,
+) -> Result<(u64, u64), NoMemory>
+    requires seat { IsSeatOf store.now first.old × IsAtRest first.old × IsFirst first.old }
+    requires none { split_off first.old ≡ 0 }
+    requires some { 1 ≤ threads }
+    requires room { seats_out first.old + threads ≤ most_seats store.now }
+{
+    let added = add_by_many(rt, alloc, store, first, threads, turns)?;
+    Ok((added, last_cut(rt, alloc, store, first)?))
+}
+
+/// The same over a store of its own.
 pub(crate) fn many_threads<R: Threads + Wait + Sync>(
     rt: &R,
     alloc: Global,
@@ -194,6 +270,5 @@ pub(crate) fn many_threads<R: Threads + Wait + Sync>(
     requires { (1 ≤ threads) × (threads + 1 < 2 ^ 32) }
 {
     let (store, mut first) = opened(rt, alloc, threads + 1)?;
-    let added = add_by_many(rt, alloc, &store, &mut first, threads, turns)?;
-    Ok((added, last_cut(rt, alloc, &store, &mut first)?))
+    last_by_many(rt, alloc, &store, &mut first, threads, turns)
 }

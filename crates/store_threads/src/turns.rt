@@ -128,14 +128,22 @@ pub(crate) enum Outcome {
     Other,
 }
 
+/// Each arm takes the cut that came back, so that it's dropped there alone.
 fn refused(refusal: CommitRefusal) -> Outcome {
     match refusal {
-        CommitRefusal::Superseded { number, cut: _ } => Outcome::Superseded(number),
+        CommitRefusal::Superseded { number, cut: _cut } => Outcome::Superseded(number),
         CommitRefusal::Stale {
             position: _,
-            cut: _,
+            cut: _cut,
         } => Outcome::Other,
-        CommitRefusal::NumbersSpent { cut: _ } => Outcome::Other,
+        CommitRefusal::NumbersSpent { cut: _cut } => Outcome::Other,
+    }
+}
+
+fn outcome_of(committed: Result<u64, CommitRefusal>) -> Outcome {
+    match committed {
+        Ok(number) => Outcome::Committed(number),
+        Err(refusal) => refused(refusal),
     }
 }
 
@@ -152,10 +160,21 @@ pub(crate) fn commit<R: Wait>(
     ensures { IsSame seat.old seat.new × IsAtRest seat.new }
 {
     let rows = answer(alloc, &cut)?;
-    match store.commit(rt, seat, cut, rows) {
-        Ok(number) => Ok(Outcome::Committed(number)),
-        Err(refusal) => Ok(refused(refusal)),
-    }
+    Ok(outcome_of(store.commit(rt, seat, cut, rows)))
+}
+
+/// Answers the next cut at once, and says what becomes of it.
+pub(crate) fn answer_next<R: Wait>(
+    rt: &R,
+    alloc: Global,
+    store: &Store,
+    seat: &mut StoreSeat,
+) -> Result<Outcome, NoMemory>
+    requires { IsSeatOf store.now seat.old × IsAtRest seat.old }
+    ensures { IsSame seat.old seat.new × IsAtRest seat.new }
+{
+    let cut = claimed(rt, alloc, store, seat)?;
+    commit(rt, alloc, store, seat, cut)
 }
 
 /// The last number that a seat's cut has, which is then given back.
