@@ -20,32 +20,22 @@
 //! no line, run, story or link has is told in the place of what it should have printed, or before it.
 #![tactic(auto)]
 
-mod bench;
 mod given;
 mod left;
 mod link;
+mod made;
+mod outside;
+mod run;
 mod shown;
+mod stories;
 mod story;
 mod text;
 
-use bench::Bench;
-use osq_value::NoMemory;
-use std::alloc::Global;
-use std::io::{self, ErrorKind};
-
-/// Takes a line, and prints what is to be told of it.
-fn tell(rt: &impl Print, alloc: Global, bench: &mut Bench, line: &str) -> io::Result<()> {
-    match bench.take_line(alloc, line) {
-        Ok(text) => print!(rt; "{text}"),
-        Err(NoMemory) => Err(io::Error::from(ErrorKind::OutOfMemory)),
-    }
-}
+use case_text::print_told;
+use std::io;
+use stories::Stories;
 
 fn main(rt: HostRuntime) -> io::Result<()> {
     let alloc = rt.alloc();
-    let mut bench = Bench::new(alloc);
-    for line in rt.lines(alloc) {
-        tell(&rt, alloc, &mut bench, line?.as_str())?;
-    }
-    Ok(())
+    print_told(&rt, alloc, &mut Stories::new(alloc))
 }

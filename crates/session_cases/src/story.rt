@@ -1,10 +1,17 @@
-//! The kept list that a story begins over.
+//! The line of a story.
 
-use case_text::items_of;
+use crate::given::push_odd;
+use crate::outside::Memory;
+use batch_keeper::MemoryKeeper;
+use case_text::{LineKind, items_of};
 use entry_model::entry::{Entry, EntryList};
+use osq_outside::FailList;
 use osq_value::NoMemory;
 use serde_json::Value as Json;
 use std::alloc::Global;
+
+/// The line of a story.
+const STORY: LineKind = ("story", &["kept"]);
 
 fn number_of(item: &Json, key: &str) -> Option<u64> {
     item.get(key)?.as_u64()
@@ -23,17 +30,36 @@ fn entry_of(item: &Json) -> Option<Entry> {
 }
 
 /// The entries that the line of a story gives.
-pub(crate) fn kept_of(alloc: Global, line: &Json) -> Result<EntryList, NoMemory> {
+fn kept_of(alloc: Global, line: &Json) -> Result<EntryList, NoMemory> {
     let mut entries = EntryList::new(alloc);
-    for entry in items_of(line.get("kept")).iter().filter_map(entry_of) {
-        entries.push(entry)?;
+    for item in items_of(line.get("kept")) {
+        if let Some(entry) = entry_of(item) {
+            entries.push(entry)?;
+        }
     }
     Ok(entries)
 }
 
 /// Whether each item that the line gives is an entry.
-pub(crate) fn is_kept(line: &Json) -> bool {
+fn is_kept(line: &Json) -> bool {
     items_of(line.get("kept"))
         .iter()
         .all(|item| entry_of(item).is_some())
+}
+
+/// Gives the outside the kept list that the story begins over.
+pub(crate) fn give_kept(alloc: Global, outside: &mut Memory, line: &Json) -> Result<(), NoMemory> {
+    let entries = kept_of(alloc, line)?;
+    outside.keeper = MemoryKeeper::new(entries, FailList::new(alloc), false);
+    Ok(())
+}
+
+/// Adds the head of a story, and what its line has that no story may have.
+pub(crate) fn push_head(text: &mut String, name: &str, line: &Json) -> Result<(), NoMemory> {
+    writeln!(text, "\n== {name}")?;
+    push_odd(text, "story", line, STORY)?;
+    if !is_kept(line) {
+        text.push_str("no entry\n")?;
+    }
+    Ok(())
 }

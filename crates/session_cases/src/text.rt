@@ -5,11 +5,17 @@ use osq_value::NoMemory;
 use serde_json::Value as Json;
 use std::alloc::Global;
 
+/// Adds a value as JSON.
+fn push_json(alloc: Global, text: &mut String, value: &Json) -> Result<(), NoMemory> {
+    let json = value.to_string(alloc)?;
+    Ok(text.push_str(json.as_str())?)
+}
+
 /// Adds a line: a text as it is, and another value as JSON.
 fn push_line(alloc: Global, text: &mut String, line: &Json) -> Result<(), NoMemory> {
     match line.as_str() {
         Some(plain) => text.push_str(plain)?,
-        None => text.push_str(line.to_string(alloc)?.as_str())?,
+        None => push_json(alloc, text, line)?,
     }
     Ok(text.push_str("\n")?)
 }
@@ -43,7 +49,7 @@ fn push_own(alloc: Global, text: &mut String, part: &Json, at: u64) -> Result<()
         return push_counted(text, counted, at);
     }
     match part.get("json") {
-        Some(value) => Ok(text.push_str(value.to_string(alloc)?.as_str())?),
+        Some(value) => push_json(alloc, text, value),
         None => push_lines(alloc, text, part.get("lines")),
     }
 }
@@ -105,15 +111,25 @@ fn push_times(
     Ok(())
 }
 
+/// Adds a part, or parts of an array one behind another.
+fn push_parts(
+    alloc: Global,
+    text: &mut String,
+    texts: &[Json],
+    value: &Json,
+) -> Result<(), NoMemory> {
+    if !value.is_array() {
+        return push_times(alloc, text, texts, value);
+    }
+    for part in items_of(Some(value)) {
+        push_times(alloc, text, texts, part)?;
+    }
+    Ok(())
+}
+
 /// The text of a value: of a part, or of an array of them one behind another.
 pub(crate) fn text_of(alloc: Global, texts: &[Json], value: &Json) -> Result<String, NoMemory> {
     let mut text = String::new(alloc);
-    if value.is_array() {
-        for part in items_of(Some(value)) {
-            push_times(alloc, &mut text, texts, part)?;
-        }
-    } else {
-        push_times(alloc, &mut text, texts, value)?;
-    }
+    push_parts(alloc, &mut text, texts, value)?;
     Ok(text)
 }
