@@ -1,20 +1,29 @@
 #!/usr/bin/env python3
-"""Frames beside Python's json and hashlib, in one run: encoding, collecting, opening a ledger, and the memory of a collector.
+"""Frames beside Python's json and hashlib, in one run: encoding, collecting, opening a ledger, and the memory of a collector; and ledgers of one frame of
+each of many hosts, whose names somebody chose, beside one of as many that nobody chose.
 
 The program is written into a folder beside copies of the crates that it needs, and proved and built by `rt run`. Usage:
 bench/frames.py [ROUNDS [FOLDER [PROGRAM]]]. Each figure is the least processor time of ROUNDS runs (default 3), since other work on the
 machine only takes time away; that of memory is the greatest resident size. The folder is a temporary one unless FOLDER names one: that one
 stays, with its inputs of about 450 MB. PROGRAM names a program that was built from FOLDER's before; it isn't built then, and where FOLDER
 has none it is only written, and nothing is measured.
+
+The names are chosen in two ways. Those of one hash would share a place of a map by the kit's hash, whose first state is known: behind sixteen bytes it
+is known too, and a name whose next eight are that state makes the next product nought, whatever comes behind it. Those of one front are as long as a host's
+name may be and differ in their last bytes alone, which is the most that an order of names has to compare.
 """
 
 import hashlib
+import itertools
 import json
+import os
 import pathlib
 import shutil
 import subprocess
 import sys
 import tempfile
+
+import crafted_keys
 
 TOP = pathlib.Path(__file__).resolve().parent.parent
 NAME = "frames_bench"
@@ -22,6 +31,9 @@ USES = "osq_value osq_outside pack_rules entry_model batch_frames collector_core
 ENCODED = 100_000
 RECORDED = 1_000_000
 HOSTS = 1000
+NAMED = 20_000  # hosts of one frame each, whose names are chosen
+HASHED = 32  # bytes of a name that is chosen by its hash
+LONGEST = 255  # bytes of a host's name at most
 
 PROGRAM = """\
 //! Encodes frames of ten rows, `frames_bench encode COUNT`; collects a stream of them from a ledger without frames,
@@ -233,6 +245,40 @@ def write_inputs(folder: pathlib.Path) -> tuple[pathlib.Path, pathlib.Path]:
     return stream, ledger
 
 
+def state_behind(front: bytes) -> bytes:
+    """The state of the kit's hash behind the first sixteen bytes of a name, as the bytes that are that number."""
+    first, second = int.from_bytes(front[:8], "little"), int.from_bytes(front[8:], "little")
+    product = (first ^ (crafted_keys.FIRST + HASHED)) * (second ^ crafted_keys.MULTIPLIER ^ 16)
+    return ((product >> 64) ^ (product % crafted_keys.WORD)).to_bytes(8, "little")
+
+
+def of_one_hash(count: int) -> list[str]:
+    """So many names of one hash: behind some front that makes a state of ASCII, that state."""
+    front = next(it for it in (f"{at:016d}".encode() for at in itertools.count()) if state_behind(it).isascii())
+    return [(front + state_behind(front)).decode() + f"{at:08d}" for at in range(count)]
+
+
+def of_one_front(count: int) -> list[str]:
+    """So many of the longest names, which differ in their last bytes."""
+    return [f"{at:08d}".rjust(LONGEST, "h") for at in range(count)]
+
+
+def of_nobody(count: int, length: int) -> list[str]:
+    """So many names of this length that nobody chose."""
+    return [(hashlib.sha256(str(at).encode()).hexdigest() * 4)[:length] for at in range(count)]
+
+
+def tell_names(folder: pathlib.Path, rounds: int, program: str, what: str, chosen: list[str]) -> None:
+    """Opens the ledger of hosts of these names, and that of as many whose names are as long."""
+    each = []
+    for names in (chosen, of_nobody(len(chosen), len(chosen[0]))):
+        ledger = folder / "named"
+        with ledger.open("wb") as file:
+            file.writelines(line_of(name, 1, ["username"], [["root"]]) for name in names)
+        each.append(run(folder, [program, "open", str(ledger)], rounds)[0])
+    print(f"{what:28} {each[0] * 1e3:6.1f} ms, others {each[1] * 1e3:6.1f}: {each[0] / each[1]:.2f} (goal: at most 2.0)", flush=True)
+
+
 def crates_below(names: list[str]) -> list[str]:
     """The lines of crates.txt of these crates and of those below them, lowest first."""
     lines = [line for line in (TOP / "crates.txt").read_text().splitlines() if ":" in line]
@@ -274,10 +320,11 @@ def run(folder: pathlib.Path, command: list[str], rounds: int) -> tuple[float, f
     """The least processor time of some runs, and the greatest resident size in bytes."""
     told, least, most = folder / "time", float("inf"), 0.0
     for _ in range(rounds):
-        timed = ["/usr/bin/time", "-o", str(told), "-f", "%U %S %M", *command]
-        subprocess.run(timed, check=True, stdout=subprocess.DEVNULL)
-        user, system, size = (float(word) for word in told.read_text().split())
-        least, most = min(least, user + system), max(most, 1024 * size)
+        timed = subprocess.Popen(["/usr/bin/time", "-o", str(told), "-f", "%M", *command], stdout=subprocess.DEVNULL)
+        _, status, used = os.wait4(timed.pid, 0)
+        if status != 0:
+            sys.exit(f"{command} ended with {status}")
+        least, most = min(least, used.ru_utime + used.ru_stime), max(most, 1024 * float(told.read_text()))
     return least, most
 
 
@@ -295,6 +342,8 @@ def measure_all(folder: pathlib.Path, rounds: int, program: str) -> None:
     tell("decoded and recorded", ENCODED, ours, run(folder, [*python, RECORD, stream], rounds)[0], 0.25)
     ours, _ = run(folder, [program, "open", ledger], rounds)
     tell("a ledger's frame opened", RECORDED, ours, run(folder, [*python, RECORD, ledger], rounds)[0], 0.3)
+    tell_names(folder, rounds, program, f"{NAMED} names of one hash", of_one_hash(NAMED))
+    tell_names(folder, rounds, program, f"{NAMED} names of one front", of_one_front(NAMED))
     _, size = run(folder, [program, "collect", ledger], 1)
     print(f"memory of a recorded frame     {(size - small) / RECORDED:6.1f} bytes (goal: at most 120)")
 

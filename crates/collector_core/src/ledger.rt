@@ -1,41 +1,59 @@
 //! The digests of the recorded frames, host by host.
 
-ghost use Rattle.std.specs.Prelude.{◌≡◌, ◌≢◌, ◌+◌, ◌<◌, ◌++◌, ◌∷◌, [], ℕ, List, true, length, OnOk, OnErr, IfOk, IfErr};
+ghost use Rattle.std.specs.Prelude.{◌≡◌, ◌≢◌, ◌+◌, ◌≤◌, [], ℕ, List, true, length, OnOk, OnErr, IfOk, IfErr};
 ghost use Rattle.batch_frames.specs.Texts.{digest_of};
 ghost use Rattle.batch_frames.specs.Valid.{is_valid};
 ghost use Rattle.collector_core.specs.Ledgers.{digests_of};
 ghost use Rattle.collector_core.specs.Received.{received};
-ghost use Rattle.collector_core.specs.Receipts.{receipt_of};
+ghost use Rattle.collector_core.specs.Receipts.{kept_after, receipt_of};
 
 use crate::receipt::{Digest, Receipt, receipt_of};
 use batch_frames::Frame;
-use indexmap::IndexMap;
-use osq_value::{Copied, NoMemory, Sequence, Str};
+use osq_value::{NoMemory, Sequence, Str};
 use std::alloc::Global;
+use std::collections::BTreeMap;
 
 /// The digests of a host's frames, from number 1 on.
 type Digests = Sequence<Digest>;
 
-/// The digests of the recorded frames, host by host.
+/// The digests of the recorded frames, host by host. Strangers name the hosts, so they are looked up by the order of their names: a hash whose seed is
+/// known would let them choose names that share one.
 #[derive(Drop)]
 pub struct Ledger {
-    hosts: IndexMap<Str, Digests>,
+    hosts: BTreeMap<String, Digests>,
+}
+
+/// Takes a frame of a host of which these are recorded.
+fn take_next(digests: &mut Digests, number: u64, digest: Digest) -> Result<Receipt, NoMemory>
+    requires { 1 ≤ number }
+    ensures receipt { IfOk result (λ receipt. receipt ≡ receipt_of digests.old number digest) }
+    ensures kept { OnOk result (digests.new ≡ kept_after digests.old number digest) }
+    ensures unchanged { OnErr result (digests.new ≡ digests.old) }
+    ensures memory { IfErr result (λ _. number ≡ length digests.old + 1) }
+{
+    let receipt = receipt_of(digests.as_slice(), number, digest);
+    if let Receipt::Recorded = receipt {
+        digests.push(digest)?;
+    }
+    Ok(receipt)
 }
 
 impl Ledger {
     /// The ledger without frames. It takes no memory until a frame is recorded.
+    #[tactic(auto, unfolding(crate::specs::Ledgers::digests_of))]
     pub fn empty(alloc: Global) -> Ledger
         ensures { (host : List ℕ) → digests_of result host ≡ [] }
     {
         Ledger {
-            hosts: IndexMap::new(alloc),
+            hosts: BTreeMap::new(alloc),
         }
     }
 
+    #[tactic(auto, unfolding(crate::specs::Ledgers::digests_of))]
     fn kept(&self, host: &Str) -> &[Digest]
         ensures { result.now ≡ digests_of self.now host.now }
     {
-        match self.hosts.get(host) {
+        match self.hosts.get(host.as_str()) {
             Some(digests) => digests.as_slice(),
             None => &[],
         }
@@ -48,23 +66,51 @@ impl Ledger {
         self.kept(host).len() as u64
     }
 
-    /// Adds a digest to those of a host, or nothing where memory is wanting.
-    fn record(&mut self, alloc: Global, host: &Str, digest: Digest) -> Result<(), NoMemory>
-        ensures own { OnOk result (digests_of self.new host.now ≡ digests_of self.old host.now ++ digest ∷ []) }
+    /// Takes a frame of a host of which none is recorded.
+    #[tactic(auto, unfolding(crate::specs::Ledgers::digests_of))]
+    fn take_first(
+        &mut self,
+        alloc: Global,
+        host: &Str,
+        number: u64,
+        digest: Digest,
+    ) -> Result<Receipt, NoMemory>
+        requires number { 1 ≤ number }
+        requires none { digests_of self.old host.now ≡ [] }
+        ensures receipt { IfOk result (λ receipt. receipt ≡ receipt_of [] number digest) }
+        ensures own { OnOk result (digests_of self.new host.now ≡ kept_after [] number digest) }
         ensures others { (other : List ℕ) → other ≢ host.now → digests_of self.new other ≡ digests_of self.old other }
-        ensures err { OnErr result (digests_of self.new host.now ≡ digests_of self.old host.now) }
+        ensures unchanged { OnErr result (digests_of self.new host.now ≡ digests_of self.old host.now) }
+        ensures memory { IfErr result (λ _. number ≡ 1) }
     {
-        match self.hosts.get_index_of(host) {
-            Some(at) => {
-                let (_, digests) = self.hosts.pair_mut(at);
-                digests.push(digest)
-            }
-            None => {
-                let mut digests = Digests::new(alloc);
-                digests.push(digest)?;
-                self.hosts.insert(host.copy(alloc)?, digests)?;
-                Ok(())
-            }
+        let mut digests = Digests::new(alloc);
+        let receipt = take_next(&mut digests, number, digest)?;
+        if let Receipt::Recorded = receipt {
+            self.hosts
+                .insert(String::from_str(alloc, host.as_str())?, digests)?;
+        }
+        Ok(receipt)
+    }
+
+    /// Takes a frame of a host, which is looked up once.
+    #[tactic(auto, unfolding(crate::specs::Ledgers::digests_of))]
+    fn take(
+        &mut self,
+        alloc: Global,
+        host: &Str,
+        number: u64,
+        digest: Digest,
+    ) -> Result<Receipt, NoMemory>
+        requires { 1 ≤ number }
+        ensures receipt { IfOk result (λ receipt. receipt ≡ receipt_of (digests_of self.old host.now) number digest) }
+        ensures own { OnOk result (digests_of self.new host.now ≡ kept_after (digests_of self.old host.now) number digest) }
+        ensures others { (other : List ℕ) → other ≢ host.now → digests_of self.new other ≡ digests_of self.old other }
+        ensures unchanged { OnErr result (digests_of self.new host.now ≡ digests_of self.old host.now) }
+        ensures memory { IfErr result (λ _. number ≡ length (digests_of self.old host.now) + 1) }
+    {
+        match self.hosts.get_mut(host.as_str()) {
+            Some(digests) => take_next(digests, number, digest),
+            None => self.take_first(alloc, host, number, digest),
         }
     }
 
@@ -86,12 +132,6 @@ impl Ledger {
         ensures unchanged { OnErr result ((host : List ℕ) → digests_of self.new host ≡ digests_of self.old host) }
         ensures memory { IfErr result (λ _. frame.now.batch.number ≡ length (digests_of self.old frame.now.host) + 1) }
     {
-        match receipt_of(self.kept(&frame.host), frame.batch.number, digest) {
-            Receipt::Recorded => {
-                self.record(alloc, &frame.host, digest)?;
-                Ok(Receipt::Recorded)
-            }
-            other => Ok(other),
-        }
+        self.take(alloc, &frame.host, frame.batch.number, digest)
     }
 }

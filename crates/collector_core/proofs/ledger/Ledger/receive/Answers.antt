@@ -1,8 +1,10 @@
+use Rattle.std.proofs.lemmas.Result.{IfErr-weaker}
 use Rattle.collector_core.specs.Ledgers.{digests_of}
-use Rattle.collector_core.proofs.Changed.{everywhere, on-err}
+use Rattle.collector_core.proofs.Changed.{everywhere}
 use Rattle.collector_core.proofs.ledger.Ledger.receive.Goals as goal
 
-pub returns-in_err-record-in-Recorded-clause-unchanged : goal.returns-in_err-record-in-Recorded-clause-unchanged
-returns-in_err-record-in-Recorded-clause-unchanged c =
-    on-err c.from_residual.result
-    (everywhere (digests_of c.args.self.now) (digests_of c.record.new.self) c.args.frame.now.host c.in_err-record-in-Recorded.ensures.err c.in_err-record-in-Recorded.ensures.others)
+pub returns-clause-unchanged : goal.returns-clause-unchanged
+returns-clause-unchanged c =
+    IfErr-weaker c.take.result _ _
+    (λ error kept. everywhere (digests_of c.args.self.now) (digests_of c.take.new.self) c.args.frame.now.host kept c.take.ensures.others)
+    c.take.ensures.unchanged
