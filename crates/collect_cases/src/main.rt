@@ -10,6 +10,8 @@
 //! - `collect`, parts of a stream; `file`, parts of the ledger's file, where there is one; `rounds`, 1 where it isn't told; and the calls
 //!   that are to fail, of `files`, of the `source`, of the `ledger` and of the `answers`: how it ends, what was added to the file, and what
 //!   was answered.
+//! - `torn`, parts of a stream: the same where the ledger's file has some of the stream's first bytes, for each number of them, from 0 up to all. It is printed
+//!   where it isn't as with one byte less.
 #![tactic(auto)]
 
 mod answers;

@@ -1,14 +1,14 @@
 //! What rows give.
 
 use crate::answers::{push_answered, push_line};
-use crate::collecting::push_collected;
+use crate::collecting::{push_collected, push_torn};
 use case_text::kind_of_row;
 use osq_value::NoMemory;
 use serde_json::Value as Json;
 use std::alloc::Global;
 use std::str;
 
-const KINDS: [&[&str]; 3] = [
+const KINDS: [&[&str]; 4] = [
     &[
         "answer", "host", "number", "recorded", "kept", "found", "kind",
     ],
@@ -16,6 +16,7 @@ const KINDS: [&[&str]; 3] = [
     &[
         "collect", "file", "rounds", "files", "source", "ledger", "answers",
     ],
+    &["torn"],
 ];
 
 /// Adds bytes as text, with a line feed behind each line.
@@ -37,6 +38,7 @@ pub(crate) fn push_row(alloc: Global, text: &mut String, row: &Json) -> Result<(
         Some("answer") => push_answered(alloc, text, row),
         Some("line") => push_line(alloc, text, row),
         Some("collect") => push_collected(alloc, text, row),
+        Some("torn") => push_torn(alloc, text, row),
         _ => Ok(text.push_str("no such row\n")?),
     }
 }

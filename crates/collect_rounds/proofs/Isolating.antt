@@ -22,7 +22,7 @@ own-recorded recorded (Framed frame digest ∷ judged) host = own-recorded (rece
 own-recorded recorded (Bad kind ∷ judged) host = own-recorded recorded judged host
 
 -- the answer to a frame of a host with these digests
-abbrev own_answer : List (List ℕ) → Frame → Answer
+abbrev pub own_answer : List (List ℕ) → Frame → Answer
 own_answer digests frame =
     answer_by frame.host frame.batch.number (length (kept_after digests frame.batch.number (digest_of frame))) (receipt_of digests frame.batch.number (digest_of frame))
 
@@ -35,7 +35,7 @@ after-own : (recorded : HostDigests) (frame : Frame) (host : List ℕ) (b : Bool
     → received recorded frame host ≡ (if b then kept_after (recorded host) frame.batch.number (digest_of frame) else recorded host)
 after-own recorded frame host b e = ap (λ (t : Bool). if t then kept_after (recorded host) frame.batch.number (digest_of frame) else recorded host) e
 
-answered-own : (recorded : HostDigests) (frame : Frame) (host : List ℕ) → bytes_eq frame.host host ≡ true → answer_to recorded frame ≡ own_answer (recorded host) frame
+pub answered-own : (recorded : HostDigests) (frame : Frame) (host : List ℕ) → bytes_eq frame.host host ≡ true → answer_to recorded frame ≡ own_answer (recorded host) frame
 answered-own recorded frame host e =
     let same : frame.host ≡ host = (bytes_eq-Decides frame.host host).0 e in
     let own : received recorded frame frame.host ≡ kept_after (recorded frame.host) frame.batch.number (digest_of frame) =

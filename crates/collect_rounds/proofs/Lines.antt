@@ -5,7 +5,7 @@ use Rattle.std.proofs.lemmas.Bool.{true≢false}
 use Rattle.record_lines.specs.Lines.{HasNoFeed, lines_behind, lines_of, rest_behind, rest_of}
 use Rattle.record_lines.proofs.Cuts.{all_rest, no_cuts}
 
-lines-append : (begun bytes more : List ℕ) → lines_behind begun (bytes ++ more) ≡ lines_behind begun bytes ++ lines_behind (rest_behind begun bytes) more
+pub lines-append : (begun bytes more : List ℕ) → lines_behind begun (bytes ++ more) ≡ lines_behind begun bytes ++ lines_behind (rest_behind begun bytes) more
 lines-append begun [] more = refl
 lines-append begun (b ∷ bytes) more =
     elim (b == 10) as (λ t. cond t (begun ∷ lines_behind [] (bytes ++ more)) (lines_behind (begun ++ b ∷ []) (bytes ++ more)) ≡ cond t (begun ∷ lines_behind [] bytes) (lines_behind (begun ++ b ∷ []) bytes) ++ lines_behind (cond t (rest_behind [] bytes) (rest_behind (begun ++ b ∷ []) bytes)) more) [
@@ -13,7 +13,7 @@ lines-append begun (b ∷ bytes) more =
       | false ↦ lines-append (begun ++ b ∷ []) bytes more
     ]
 
-rest-append : (begun bytes more : List ℕ) → rest_behind begun (bytes ++ more) ≡ rest_behind (rest_behind begun bytes) more
+pub rest-append : (begun bytes more : List ℕ) → rest_behind begun (bytes ++ more) ≡ rest_behind (rest_behind begun bytes) more
 rest-append begun [] more = refl
 rest-append begun (b ∷ bytes) more =
     elim (b == 10) as (λ t. cond t (rest_behind [] (bytes ++ more)) (rest_behind (begun ++ b ∷ []) (bytes ++ more)) ≡ rest_behind (cond t (rest_behind [] bytes) (rest_behind (begun ++ b ∷ []) bytes)) more) [

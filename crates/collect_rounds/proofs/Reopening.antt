@@ -113,7 +113,7 @@ news-judged recorded (line ∷ lines) (Framed frame digest ∷ judged) plain are
     by : (b : Bool) → AreNews (news (received recorded frame) judged) → AreNews (if b then frame ∷ news (received recorded frame) judged else news (received recorded frame) judged)
     by true later = record {
       plain = (subst HasNoFeed is plain.0, later.plain);
-      judged = ((subst (λ (l : List ℕ). length l ≤ LIMIT) is whole.0, record { valid = whole.1.valid; is = refl }, refl), later.judged);
+      judged = ((subst (λ (l : List ℕ). length l ≤ LIMIT) is whole.0, record { valid = whole.1.valid; is = refl }, refl, whole.3), later.judged);
     }
     by false later = later
 

@@ -4,7 +4,7 @@ use Rattle.batch_frames.specs.declared.error.BadKind.{BadKind}
 use Rattle.batch_frames.specs.declared.error.BadKind.TheVariants as fault
 use Rattle.batch_frames.specs.declared.frame.Frame.{Frame}
 use Rattle.batch_frames.specs.Decodes.{IsBad, IsFrameOf, IsNoFrame}
-use Rattle.batch_frames.specs.Texts.{digest_of}
+use Rattle.batch_frames.specs.Texts.{IsHeld, digest_of}
 use Rattle.collector_answers.specs.declared.answer.BadAnswer.{BadAnswer}
 use Rattle.collector_answers.specs.declared.answer.BadAnswer.TheVariants.{TooLong, NotJson, WrongShape, BadDigest, NotCanonical}
 use Rattle.collector_answers.specs.declared.judging.Judged.{Judged}
@@ -22,9 +22,9 @@ bad_kind WrongShape = Some fault.WrongShape
 bad_kind BadDigest = Some fault.BadDigest
 bad_kind NotCanonical = Some fault.NotCanonical
 
--- the text of a valid frame with this digest; or too long; or the text of no valid frame, by the first that is wrong with it
+-- the text of a valid frame with this digest, which can be held; or too long; or the text of no valid frame, by the first that is wrong with it
 abbrev pub IsJudged : List ℕ → Judged → Type 0
-IsJudged line (Framed frame digest) = (length line ≤ LIMIT) × IsFrameOf line frame × (digest ≡ digest_of frame)
+IsJudged line (Framed frame digest) = (length line ≤ LIMIT) × IsFrameOf line frame × (digest ≡ digest_of frame) × IsHeld frame
 IsJudged line (Bad kind) = MatchOption (bad_kind kind) (LIMIT < length line) (λ k. (length line ≤ LIMIT) × IsNoFrame line × IsBad line k)
 
 -- each line is that to a collector

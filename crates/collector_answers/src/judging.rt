@@ -4,6 +4,7 @@ ghost use Rattle.std.specs.Prelude.{◌≡◌, Some, IfOk};
 ghost use Rattle.collector_answers.specs.Judging.{IsJudged, bad_kind};
 
 use crate::answer::{BadAnswer, Digest};
+use crate::held::held;
 use batch_frames::{BadKind, Frame, FrameError, decode_digested};
 use osq_value::NoMemory;
 use std::alloc::Global;
@@ -54,6 +55,7 @@ pub fn judge(alloc: Global, line: &[u8]) -> Result<Judged, NoMemory>
         Ok(found) => {
             let digest = found.digest;
             let frame = found.frame;
+            held(&frame);
             Ok(Judged::Framed { frame, digest })
         }
         Err(FrameError::BadFrame { kind }) => Ok(Judged::Bad {

@@ -2,6 +2,7 @@
 #![tactic(auto)]
 
 pub mod answer;
+mod held;
 pub mod judging;
 pub mod line;
 pub mod read;

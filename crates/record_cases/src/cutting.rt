@@ -36,7 +36,7 @@ fn push_one(text: &mut String, cut: &Cut) -> Result<(), NoMemory> {
     Ok(())
 }
 
-/// Adds each line that is whole, and a dot where there is no further one.
+/// Adds each line that is whole; where there is no further one a dot, and how many bytes of text the cutter keeps.
 fn push_taken(text: &mut String, cutter: &mut LineCutter) -> Result<(), NoMemory> {
     for _ in 0..u64::MAX {
         match cutter.take_line() {
@@ -44,7 +44,7 @@ fn push_taken(text: &mut String, cutter: &mut LineCutter) -> Result<(), NoMemory
             None => break,
         }
     }
-    text.push_str(" .")?;
+    write!(text, " .{}", cutter.held())?;
     Ok(())
 }
 

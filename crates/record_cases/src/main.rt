@@ -11,6 +11,7 @@
 //! the text of that name. Empty lines and lines that begin with `#` are passed over. Of each other line that isn't `texts` or
 //! `categories` it prints the line, and below it, indented, what is made of it:
 //! - of an audit line its moment, serial number, type and fields, `key=value` or, where it was quoted, `key~value`;
+//! - of a cutter each line with the offset behind it, or a dash, and behind each text a dot with how many bytes of text it keeps;
 //! - of a line of `groups` the lines of the group before it that it ends, and those of its own group that it ends;
 //! - of a line of `gathers` its records: their lines, their skipped lines, and the number of their last line, counted from 1;
 //! - of a step its readings: the offset behind a reading and either the skipped lines and the first value of each event, or the table

@@ -1,6 +1,10 @@
+pub mod Braces
+pub mod Isolating
+pub mod Judgings
 pub mod Lines
 pub mod Marks
 pub mod Numbers
 pub mod Prefixes
 pub mod Strings
 pub mod Texts
+pub mod Torn

@@ -1,5 +1,5 @@
 -- The laws of what hosts send and of what a collector records.
-use Rattle.std.specs.Prelude.{◌≡◌, ℕ, List, ◌++◌, length, Option}
+use Rattle.std.specs.Prelude.{◌≡◌, ℕ, List, ◌∷◌, ◌++◌, length, Option}
 use Rattle.std.specs.List.{AllByRecursion}
 use Rattle.entry_model.specs.declared.entry.Entry.{Entry}
 use Rattle.entry_model.specs.Legal.{Legal}
@@ -7,14 +7,16 @@ use Rattle.entry_model.specs.Values.{commits}
 use Rattle.session_model.specs.Working.{acks_of}
 use Rattle.batch_frames.specs.declared.frame.Frame.{Frame}
 use Rattle.batch_frames.specs.Decodes.{IsFrameOf as IsTextOf}
-use Rattle.batch_frames.specs.Texts.{digest_of}
+use Rattle.batch_frames.specs.Texts.{digest_of, text_of}
 use Rattle.batch_forwarder.specs.Polling.{AreMarks}
 use Rattle.collector_core.specs.Received.{HostDigests, all_received, none_recorded}
 use Rattle.collector_answers.specs.declared.judging.Judged.{Judged}
 use Rattle.collector_answers.specs.Judging.{AreJudged}
 use Rattle.collector_ledger.specs.Files.{IsLedgerOf, file_lines}
 use Rattle.collect_rounds.specs.Collecting.{after_lines}
+use Rattle.collect_rounds.specs.Laws.{answers_for}
 use Rattle.world_laws.specs.Answered.{AcksWithin, WasAnswered}
+use Rattle.world_laws.specs.Lines.{AreLinesOf, BeginsText}
 use Rattle.world_laws.specs.Prefixes.{IsPrefix}
 use Rattle.world_laws.specs.Sent.{AreSent, ComeFrom, WereSent}
 
@@ -65,3 +67,21 @@ MarksAreRecorded =
     (host : List ℕ) (entries : List Entry) (recorded : HostDigests) (judged : List Judged) (lines : List (List ℕ)) (polled : List (Option ℕ))
     → AllByRecursion (WasAnswered recorded judged) lines → AreMarks host lines polled
     → AllByRecursion (AcksWithin (length (after_lines recorded judged host))) (acks_of entries polled)
+
+-- no text of a frame begins another
+abbrev pub NoneBegins : Type 0
+NoneBegins = (one other : Frame) (byte : ℕ) (behind : List ℕ) → text_of one ++ byte ∷ behind ≡ text_of other → ⊥
+
+-- A file whose lines are texts of frames, or begin such texts, and that is cut anywhere, has of each host the first of the digests that it had.
+abbrev pub Torn : Type 0
+Torn =
+    (file behind : List ℕ) (some all : HostDigests) → AllByRecursion BeginsText (file_lines (file ++ behind)) → IsLedgerOf file some → IsLedgerOf (file ++ behind) all
+    → (host : List ℕ) → (added : List (List ℕ)) × (all host ≡ some host ++ added)
+
+-- What is recorded of a host and answered to it hangs on what was recorded of it before and on its own lines, in their order. The answer to a bad line names
+-- no host, and is none of these.
+abbrev pub LinesIsolate : Type 0
+LinesIsolate =
+    (host : List ℕ) (one other : HostDigests) (lines others mine : List (List ℕ)) (judged judged_others : List Judged) → one host ≡ other host
+    → AreLinesOf host lines mine → AreLinesOf host others mine → AreJudged lines judged → AreJudged others judged_others
+    → (after_lines one judged host ≡ after_lines other judged_others host) × (answers_for host one judged ≡ answers_for host other judged_others)

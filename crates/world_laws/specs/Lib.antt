@@ -1,4 +1,5 @@
 pub mod Answered
 pub mod Laws
+pub mod Lines
 pub mod Prefixes
 pub mod Sent

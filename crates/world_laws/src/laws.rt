@@ -1,6 +1,6 @@
 //! The laws of what hosts send and of what a collector records of it, which speak of the definitions alone.
 
-ghost use Rattle.world_laws.specs.Laws.{FileIsPrefix, HostsArePrefixes, LedgerIsPrefix, LinesArePrefix, MarksAreRecorded, StillPrefix, TextsTell};
+ghost use Rattle.world_laws.specs.Laws.{FileIsPrefix, HostsArePrefixes, LedgerIsPrefix, LinesArePrefix, LinesIsolate, MarksAreRecorded, NoneBegins, StillPrefix, TextsTell, Torn};
 
 /// Whatever frames a collector receives, in any order, some lost and some more than once: where those of a host are frames of batches of its legal
 /// list, the digests that are recorded of it are those of the first of its batches, in order. No batch is recorded twice, and none before one that
@@ -40,4 +40,21 @@ pub fn hosts_are_prefixes()
 /// of it.
 pub fn marks_are_recorded()
     ensures { MarksAreRecorded }
+{}
+
+/// No text of a frame begins another: so a line that was cut is the text of no frame.
+pub fn none_begins()
+    ensures { NoneBegins }
+{}
+
+/// A ledger's file that was cut anywhere gives of each host the first of the digests that it gave before, in their order: a torn line is passed over, and
+/// nothing else is lost but what stood behind it.
+pub fn torn()
+    ensures { Torn }
+{}
+
+/// What is recorded of a host and answered to it hangs on what was recorded of it before and on the lines that are texts of its frames: whatever else comes
+/// between them, malicious lines too, changes neither.
+pub fn lines_isolate()
+    ensures { LinesIsolate }
 {}
