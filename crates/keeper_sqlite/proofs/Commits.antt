@@ -1,6 +1,6 @@
 -- Calls that commit nothing, or one value, one after another.
 use Rattle.std.proofs.Common.{◌≡◌, Result, Ok, Err, false, refl, ap, inl, arith}
-use Rattle.std.specs.Prelude.{OnOk}
+use Rattle.std.specs.Prelude.{IfOk, OnOk}
 use Rattle.std.proofs.lemmas.Result.{on_ok_weaker}
 use Rattle.sqlite.specs.State.{State, HasCleanDisk, Shows, Survives}
 use Rattle.sqlite.proofs.StateLemmas.{survives_then, survives_weaker}
@@ -33,3 +33,15 @@ pub one_is_told : {T : Type 0} (a b : State) (answer : Result T Stop) → IsOneC
 one_is_told a b (Ok value) h = record { whole = h.whole; survives = h.survives; ok = h.ok }
 one_is_told a b (Err Fault) h = record { whole = h.whole; survives = h.survives; ok = λ _. tt }
 one_is_told a b (Err NoMemory) h = record { whole = h.whole; survives = h.survives; ok = λ _. tt }
+
+-- and what holds of its value
+pub value_is_told : {T : Type 0} (P : T → Type 0) (answer : Result T Stop) → IfOk answer P → IfOk (told_of answer) P
+value_is_told P (Ok value) holds = holds
+value_is_told P (Err Fault) holds = tt
+value_is_told P (Err NoMemory) holds = tt
+
+-- and of its success
+pub success_is_told : {T : Type 0} (P : Type 0) (answer : Result T Stop) → OnOk answer P → OnOk (told_of answer) P
+success_is_told P (Ok value) holds = holds
+success_is_told P (Err Fault) holds = tt
+success_is_told P (Err NoMemory) holds = tt

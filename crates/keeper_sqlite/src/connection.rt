@@ -1,9 +1,11 @@
 //! The keeper over an open connection.
 
-ghost use Rattle.std.specs.Prelude.{◌≡◌};
+ghost use Rattle.std.specs.Prelude.{◌≡◌, IfOk, OnOk};
 ghost use Rattle.osq_outside.specs.Causes.{FaultHasCause};
 ghost use Rattle.sqlite.specs.Held.{state};
+ghost use Rattle.sqlite.specs.State.{HasCleanDisk};
 ghost use Rattle.keeper_sqlite.specs.Commits.{CommitsNothing, IsOneCommit};
+ghost use Rattle.keeper_sqlite.specs.Asking.{Adds, AreFound, FindsCounts, HasLoaded, IsReady, IsSealed, Loads};
 
 use crate::database::{make_all, show, show_of};
 use crate::stop::{Stop, told};
@@ -11,7 +13,8 @@ use batch_keeper::{Keeper, KeeperError};
 use entry_model::entry::{Batch, EntryList};
 use entry_model::restored::Restored;
 use kept_tables::{
-    Found, FoundBatch, batch_of, changes_of, counts_of, has_layout, is_fetched, layout, restored_of,
+    Counts, Found, FoundBatch, batch_of, changes_of, counts_of, has_layout, is_fetched, layout,
+    restored_of,
 };
 use sqlite::{Alter, Connection, Transaction};
 use std::alloc::Global;
@@ -52,6 +55,7 @@ impl<S: Alter> ConnectionKeeper<S> {
 fn ready<S: Alter>(alloc: Global, tx: &mut Transaction<'_, S>) -> Result<(), Stop>
     ensures same_reference { tx.new.conn.ghost_name ≡ tx.old.conn.ghost_name }
     ensures survives { CommitsNothing (state S.Store tx.old.conn.now) (state S.Store tx.new.conn.now) }
+    ensures tables { HasCleanDisk (state S.Store tx.new.conn.now) → OnOk result (IsReady S.Store tx.old.conn.now tx.new.conn.now) }
 {
     let names = show(alloc, tx, layout::NAMES)?;
     if names.as_slice().is_empty() {
@@ -66,16 +70,39 @@ fn ready<S: Alter>(alloc: Global, tx: &mut Transaction<'_, S>) -> Result<(), Sto
     }
 }
 
-fn load_inside<S: Alter>(alloc: Global, tx: &mut Transaction<'_, S>) -> Result<Restored, Stop> {
+/// The counts of the list.
+fn counts<S: Alter>(alloc: Global, tx: &mut Transaction<'_, S>) -> Result<Counts, Stop>
+    ensures same_reference { tx.new.conn.ghost_name ≡ tx.old.conn.ghost_name }
+    ensures survives { CommitsNothing (state S.Store tx.old.conn.now) (state S.Store tx.new.conn.now) }
+    ensures found { HasCleanDisk (state S.Store tx.new.conn.now) → IfOk result (λ counts. FindsCounts S.Store counts tx.old.conn.now tx.new.conn.now) }
+{
+    let found = show(alloc, tx, layout::COUNTS)?;
+    Ok(counts_of(&found)?)
+}
+
+/// What the tables show to a load.
+#[tactic(auto, using(crate::proofs::Commits::nothing_then_nothing))]
+fn found<S: Alter>(alloc: Global, tx: &mut Transaction<'_, S>) -> Result<Found, Stop>
+    ensures same_reference { tx.new.conn.ghost_name ≡ tx.old.conn.ghost_name }
+    ensures survives { CommitsNothing (state S.Store tx.old.conn.now) (state S.Store tx.new.conn.now) }
+    ensures found { HasCleanDisk (state S.Store tx.new.conn.now) → IfOk result (λ found. AreFound S.Store found tx.old.conn.now tx.new.conn.now) }
+{
     ready(alloc, tx)?;
-    let counts = counts_of(&show(alloc, tx, layout::COUNTS)?)?;
-    let found = Found {
-        counts,
+    Ok(Found {
+        counts: counts(alloc, tx)?,
         live: show(alloc, tx, layout::LIVE)?,
         taken: show(alloc, tx, layout::TAKEN)?,
         set: show(alloc, tx, layout::SET)?,
         runs: show(alloc, tx, layout::RUNS)?,
-    };
+    })
+}
+
+fn load_inside<S: Alter>(alloc: Global, tx: &mut Transaction<'_, S>) -> Result<Restored, Stop>
+    ensures same_reference { tx.new.conn.ghost_name ≡ tx.old.conn.ghost_name }
+    ensures survives { CommitsNothing (state S.Store tx.old.conn.now) (state S.Store tx.new.conn.now) }
+    ensures loaded { HasCleanDisk (state S.Store tx.new.conn.now) → IfOk result (λ restored. Loads S.Store restored tx.old.conn.now tx.new.conn.now) }
+{
+    let found = found(alloc, tx)?;
     Ok(restored_of(alloc, &found)?)
 }
 
@@ -97,7 +124,7 @@ fn fetch_inside<S: Alter>(
     number: u64,
 ) -> Result<Option<Batch>, Stop> {
     ready(alloc, tx)?;
-    let counts = counts_of(&show(alloc, tx, layout::COUNTS)?)?;
+    let counts = counts(alloc, tx)?;
     if !is_fetched(&counts, number) {
         return Ok(None);
     }
@@ -114,14 +141,17 @@ fn seal_inside<S: Alter>(
 ) -> Result<(), Stop>
     ensures same_reference { tx.new.conn.ghost_name ≡ tx.old.conn.ghost_name }
     ensures survives { CommitsNothing (state S.Store tx.old.conn.now) (state S.Store tx.new.conn.now) }
+    ensures added { HasCleanDisk (state S.Store tx.new.conn.now) → OnOk result (Adds S.Store entries.now tx.old.conn.now tx.new.conn.now) }
 {
     ready(alloc, tx)?;
-    let found = show(alloc, tx, layout::COUNTS)?;
-    let changes = changes_of(alloc, counts_of(&found)?, entries)?;
+    let counts = counts(alloc, tx)?;
+    let changes = changes_of(alloc, counts, entries)?;
     make_all(alloc, tx, &changes)
 }
 
-fn load<S: Alter>(alloc: Global, conn: &mut Connection<S>) -> Result<Restored, Stop> {
+fn load<S: Alter>(alloc: Global, conn: &mut Connection<S>) -> Result<Restored, Stop>
+    ensures { HasCleanDisk (state S.Store conn.new) → IfOk result (λ restored. HasLoaded S.Store restored conn.old) }
+{
     if !conn.is_autocommit() {
         return Err(Stop::Fault);
     }
@@ -146,7 +176,8 @@ fn fetch<S: Alter>(
 }
 
 fn seal<S: Alter>(alloc: Global, conn: &mut Connection<S>, entries: &EntryList) -> Result<(), Stop>
-    ensures { IsOneCommit (state S.Store conn.old) (state S.Store conn.new) result }
+    ensures whole { IsOneCommit (state S.Store conn.old) (state S.Store conn.new) result }
+    ensures sealed { HasCleanDisk (state S.Store conn.new) → OnOk result (IsSealed S.Store entries.now conn.old conn.new) }
 {
     if !conn.is_autocommit() {
         return Err(Stop::Fault);
@@ -171,7 +202,9 @@ impl<S: Alter> Keeper for ConnectionKeeper<S> {
 
     ghost calls = { λ _. no_calls };
 
+    /// What is loaded are the values that the tables show, where the disk has failed nowhere and they show some.
     fn load(&mut self, alloc: Global) -> Result<Restored, KeeperError>
+        ensures loaded { HasCleanDisk (state S.Store self.new.conn) → IfOk result (λ restored. HasLoaded S.Store restored self.old.conn) }
         ensures cause { FaultHasCause KeeperError.Fault self.old.faults self.new.faults result }
     {
         let loaded = load(alloc, &mut self.conn);
@@ -185,9 +218,11 @@ impl<S: Alter> Keeper for ConnectionKeeper<S> {
         told(&mut self.faults, fetched)
     }
 
-    /// All that a call writes is one commit: a crash behind it leaves what it could leave before, or all of the entries.
+    /// All that a call writes is one commit: a crash behind it leaves what it could leave before, or all of the entries. What it
+    /// commits is what the statements of these entries leave, where the disk has failed nowhere.
     fn seal(&mut self, alloc: Global, entries: &EntryList) -> Result<(), KeeperError>
         ensures whole { IsOneCommit (state S.Store self.old.conn) (state S.Store self.new.conn) result }
+        ensures sealed { HasCleanDisk (state S.Store self.new.conn) → OnOk result (IsSealed S.Store entries.now self.old.conn self.new.conn) }
         ensures cause { FaultHasCause KeeperError.Fault self.old.faults self.new.faults result }
     {
         let sealed = seal(alloc, &mut self.conn, entries);

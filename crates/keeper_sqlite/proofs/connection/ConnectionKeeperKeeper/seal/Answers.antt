@@ -1,5 +1,8 @@
-use Rattle.keeper_sqlite.proofs.Commits.{one_is_told}
+use Rattle.keeper_sqlite.proofs.Commits.{one_is_told, success_is_told}
 use Rattle.keeper_sqlite.proofs.connection.ConnectionKeeperKeeper.seal.Goals as goal
 
 pub returns-clause-whole : goal.returns-clause-whole
-returns-clause-whole g c = rw c.told.ensures.value (one_is_told _ _ c.seal-sealed.result c.seal-sealed.ensures)
+returns-clause-whole g c = rw c.told.ensures.value (one_is_told _ _ c.seal-sealed.result c.seal-sealed.ensures.whole)
+
+pub returns-clause-sealed : goal.returns-clause-sealed
+returns-clause-sealed g c = λ clean. rw c.told.ensures.value (success_is_told _ c.seal-sealed.result (c.seal-sealed.ensures.sealed clean))
