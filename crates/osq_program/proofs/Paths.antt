@@ -6,16 +6,19 @@ use Rattle.program_words.specs.Commands.{words_of}
 use Rattle.program_words.specs.declared.command.CommandWords.{CommandWords}
 use Rattle.program_words.specs.declared.command.CommandWords.TheVariants.{Replay as AsksReplay, Daemon as AsksDaemon, Query as AsksQuery, Check as AsksCheck, Collect as AsksCollect, Generate as AsksGenerate, SelfTest as AsksSelfTest, Report as AsksReport}
 use Rattle.program_words.specs.declared.command.QueryWords.{QueryWords}
+use Rattle.program_words.specs.declared.error.WordsError.{WordsError}
+use Rattle.program_words.specs.declared.error.WordsError.TheVariants as faults
 use Rattle.session_model.specs.Orders.{in_turn, at_once}
 use Rattle.osq_program.specs.declared.status.Status.{Status}
 use Rattle.osq_program.specs.declared.status.Status.TheVariants.{OutOfMemory}
+use Rattle.osq_program.specs.Answers.{IsUsageStatus}
 use Rattle.osq_program.specs.Commands.{IsForwarding, is_forwarding}
 use Rattle.osq_program.specs.Doing.{MeetsCommand, DoesQuery, QueriesBy, TellsCommand, TellsOfQuery, TellsQueryBy}
 use Rattle.osq_program.specs.Explaining.{IsExplain}
 use Rattle.osq_program.specs.Querying.{IsQuery}
 use Rattle.osq_program.specs.Observed.{Observed}
-use Rattle.osq_program.specs.Report.{Tells, refusal_line}
-use Rattle.osq_program.specs.Telling.{MayReplayTell, TellsAlone, TellsQuery}
+use Rattle.osq_program.specs.Report.{Tells, refusal_line, status_of}
+use Rattle.osq_program.specs.Telling.{TellsAlone, TellsQuery}
 use Rattle.osq_program.proofs.Endings.{untold_replay}
 use Rattle.osq_program.proofs.Generations.{memory_wanting}
 use Rattle.osq_program.proofs.Listings.{wants_memory}
@@ -85,3 +88,8 @@ not_forwarding words command is quiet = by_test (is_forwarding command) refl whe
   by_test : (t : Bool) → is_forwarding command ≡ t → is_forwarding command ≡ false
   by_test true forwards = absurd (quiet (command, is, forwards))
   by_test false still = still
+
+-- a refusal of words that isn't their misuse is want of memory
+pub only_memory : (error : WordsError) → (IsUsageStatus (status_of error) → ⊥) → error ≡ faults.NoMemory
+only_memory faults.Usage not_usage = absurd (not_usage tt)
+only_memory faults.NoMemory not_usage = refl

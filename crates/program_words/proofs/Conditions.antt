@@ -1,5 +1,5 @@
--- Conditions joined by and, and by or.
-use Rattle.std.proofs.Common.{◌≡◌, ◌&&◌, ◌||◌, Bool, true, false, refl}
+-- Conditions joined by and, and by or, and those that don't hold.
+use Rattle.std.proofs.Common.{◌≡◌, ◌&&◌, ◌||◌, not, Bool, true, false, refl}
 
 pub first : (a b : Bool) → a && b ≡ true → a ≡ true
 first true b holds = refl
@@ -16,3 +16,7 @@ neither_first false b fails = refl
 pub neither_second : (a b : Bool) → a || b ≡ false → b ≡ false
 neither_second true b fails = absurd cc
 neither_second false b fails = fails
+
+pub not_true : (b : Bool) → not b ≡ true → b ≡ false
+not_true true fails = absurd cc
+not_true false fails = refl

@@ -1,7 +1,16 @@
+pub mod Apart
 pub mod Conditions
 pub mod Mapped
+pub mod Matched
 pub mod Orders
+pub mod Own
+pub mod Rows
 pub mod Sources
+pub mod Spelled
 pub mod Spellings
 pub mod Swaps
+pub mod Told
+pub mod Threads
+pub mod Turns
+pub mod Walks
 pub mod Within

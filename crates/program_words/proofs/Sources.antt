@@ -14,20 +14,16 @@ use Rattle.osq_value.specs.declared.source.SourceName.{SourceName}
 use Rattle.program_words.specs.Names.{is_source, place, same_name, takes}
 use Rattle.program_words.specs.Given.{Given, fits, is_named, none_repeats, repeats, same_value}
 use Rattle.program_words.specs.Commands.{has_option, is_right, sources_named, sources_of}
-use Rattle.program_words.proofs.Conditions.{first, second, neither_first, neither_second}
+use Rattle.program_words.proofs.Conditions.{first, second, neither_first, neither_second, not_true}
 use Rattle.program_words.proofs.Orders.{same_bytes}
 
 -- ---- lists of sources
-abbrev has_path : List ℕ → SourceName → Bool
+abbrev pub has_path : List ℕ → SourceName → Bool
 has_path path source = bytes_eq path source.name
 
-abbrev own_paths : List SourceName → Bool
+abbrev pub own_paths : List SourceName → Bool
 own_paths [] = true
 own_paths (source ∷ sources) = not (list_any (has_path source.name) sources) && own_paths sources
-
-not_true : (b : Bool) → not b ≡ true → b ≡ false
-not_true true holds = absurd cc
-not_true false holds = refl
 
 any-insert : {X : Type 0} (p : X → Bool) (front behind : List X) (x : X) → list_any p (front ++ behind) ≡ false → p x ≡ false → list_any p (front ++ x ∷ behind) ≡ false
 any-insert p [] behind x none fails = ap (λ b. b || list_any p behind) fails ∙ none
@@ -65,7 +61,7 @@ pairs_from (source ∷ sources) own =
     AllPairs-cons (λ a b. a.name ≢ b.name) source sources apart (pairs_from sources (second (not (list_any (has_path source.name) sources)) _ own))
 
 -- ---- the sources that options name
-abbrev source_by : SourceKind → Given → SourceName
+abbrev pub source_by : SourceKind → Given → SourceName
 source_by kind g = record { kind = kind; name = unwrap_or g.value [] }
 
 audit_is_source : (name : Name) → same_name Audit name ≡ true → is_source name ≡ true
@@ -105,7 +101,7 @@ source_apart g h one other apart =
     let right = ap (λ b. b && same_value g.value h.value) other in
     sym right ∙ sym left ∙ apart
 
-abbrev path_of : Given → List ℕ
+abbrev pub path_of : Given → List ℕ
 path_of g = unwrap_or g.value []
 
 path_fails : (command : CommandName) (g h : Given) → is_source g.name ≡ true → is_some g.value ≡ true → is_source h.name ≡ true → is_right command h ≡ true → repeats g h ≡ false → bytes_eq (path_of g) (path_of h) ≡ false
@@ -135,7 +131,7 @@ sources_apart command g one some gs right none =
     let all = list_any-append test (sources_named Audit AuditLog gs ++ sources_named Changes ChangeList gs) (sources_named Tables TableLines gs) in
     all ∙ ap (λ b. b || list_any test (sources_named Tables TableLines gs)) (front ∙ ap (λ b. b || list_any test (sources_named Changes ChangeList gs)) audit ∙ changes) ∙ tables
 
-abbrev by_kinds : List Given → List Given → List Given → List SourceName
+abbrev pub by_kinds : List Given → List Given → List Given → List SourceName
 by_kinds audit changes tables =
     map (source_by AuditLog) audit ++ map (source_by ChangeList) changes ++ map (source_by TableLines) tables
 
@@ -157,14 +153,14 @@ own_paths-more false false true g audit changes tables ac at ct own none =
     own_paths-insert (map (source_by AuditLog) audit ++ map (source_by ChangeList) changes) (map (source_by TableLines) tables) (source_by TableLines g) own (none refl)
 own_paths-more false false false g audit changes tables ac at ct own none = own
 
-kinds_apart : (name : Name) → (same_name Audit name && same_name Changes name ≡ false) × (same_name Audit name && same_name Tables name ≡ false) × (same_name Changes name && same_name Tables name ≡ false) × (same_name Audit name || same_name Changes name || same_name Tables name ≡ true → is_source name ≡ true)
+pub kinds_apart : (name : Name) → (same_name Audit name && same_name Changes name ≡ false) × (same_name Audit name && same_name Tables name ≡ false) × (same_name Changes name && same_name Tables name ≡ false) × (same_name Audit name || same_name Changes name || same_name Tables name ≡ true → is_source name ≡ true)
 unfolding place is_source
 kinds_apart Audit = (refl, refl, refl, λ e. refl)
 kinds_apart Changes = (refl, refl, refl, λ e. refl)
 kinds_apart Tables = (refl, refl, refl, λ e. refl)
 kinds_apart _ = (refl, refl, refl, λ e. absurd cc)
 
-own_paths-sources_of : (command : CommandName) (gs : List Given) → list_all (is_right command) gs ≡ true → none_repeats gs ≡ true → own_paths (sources_of gs) ≡ true
+pub own_paths-sources_of : (command : CommandName) (gs : List Given) → list_all (is_right command) gs ≡ true → none_repeats gs ≡ true → own_paths (sources_of gs) ≡ true
 unfolding sources_of sources_named none_repeats is_named is_right
 own_paths-sources_of command [] right none = refl
 own_paths-sources_of command (g ∷ gs) right none =

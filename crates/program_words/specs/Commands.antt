@@ -202,6 +202,11 @@ abbrev pub by_threads : CommandWords → Bool
 by_threads (Daemon words) = true
 by_threads _ = false
 
+-- the words begin with the word of a session by threads
+abbrev pub is_by_threads : List (List ℕ) → Bool
+is_by_threads [] = false
+is_by_threads (word ∷ words) = bytes_eq word (codes "daemon")
+
 -- the words are those of such a command
 abbrev pub are_by_threads : List (List ℕ) → Bool
 are_by_threads words = option_map_or by_threads (words_of words) false

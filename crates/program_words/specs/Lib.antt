@@ -4,4 +4,6 @@ pub mod Given
 pub mod Laws
 pub mod Left
 pub mod Names
+pub mod Reading
+pub mod Rules
 pub mod Texts

@@ -1,14 +1,9 @@
 //! The commands, and what their words ask.
 
-ghost use Rattle.std.specs.Prelude.{◌≡◌, List, length, true};
-ghost use Rattle.std.specs.List.{list_all};
-ghost use Rattle.program_words.specs.Commands.{are_options, asked_by, by_threads, command_named, has_few_sources, has_option, has_required, is_right, optional, paths_in, required, session_paths, sources_in, unsourced};
-ghost use Rattle.program_words.specs.Given.{Given};
-ghost use Rattle.program_words.specs.Left.{given, options_in};
+ghost use Rattle.std.specs.Prelude.{◌≡◌};
+ghost use Rattle.program_words.specs.Commands.{command_named, optional, paths_in, required, session_paths, sources_in, unsourced};
 
-use crate::given::GivenOption;
 use crate::name::Name;
-use crate::options::OptionWords;
 use osq_value::{Sequence, SourceNameList, Str};
 use std::alloc::Global;
 
@@ -46,7 +41,7 @@ impl CommandName {
 
     /// The options that the command must have.
     #[tactic(auto, unfolding(crate::specs::Commands::required))]
-    fn required(self) -> &'static [Name]
+    pub(crate) fn required(self) -> &'static [Name]
         ensures { result.now ≡ required self }
     {
         match self {
@@ -62,7 +57,7 @@ impl CommandName {
 
     /// Those that it may have.
     #[tactic(auto, unfolding(crate::specs::Commands::optional))]
-    fn optional(self) -> &'static [Name]
+    pub(crate) fn optional(self) -> &'static [Name]
         ensures { result.now ≡ optional self }
     {
         match self {
@@ -111,72 +106,6 @@ impl CommandName {
             CommandName::Collect => &[Name::Ticks],
             CommandName::Generate | CommandName::SelfTest | CommandName::Report => &[],
         }
-    }
-
-    #[tactic(auto, unfolding(crate::specs::Commands::has_option))]
-    fn has_option(self, name: Name) -> bool
-        ensures { result ≡ has_option self name }
-    {
-        name.is_one_of(self.required()) || name.is_one_of(self.optional())
-    }
-
-    /// The command has that option, and what stands behind the name is what it takes.
-    #[tactic(auto, unfolding(crate::specs::Commands::is_right))]
-    fn is_right(self, option: &GivenOption<'_>) -> bool
-        ensures { result ≡ is_right self (given option.now) }
-    {
-        self.has_option(option.name) && option.fits()
-    }
-
-    fn are_right(self, options: OptionWords<'_, '_>) -> bool
-        ensures { result ≡ list_all (is_right self) (options_in options.entry) }
-    {
-        options.options().all(|option| self.is_right(&option))
-    }
-
-    #[tactic(auto, unfolding(crate::specs::Commands::has_required))]
-    fn has_required(self, options: OptionWords<'_, '_>) -> bool
-        ensures { result ≡ has_required self (options_in options.entry) }
-    {
-        self.required().iter().all(|name| options.stands(*name))
-    }
-
-    /// How many sources the command reads with these options.
-    #[tactic(auto, unfolding(crate::specs::Commands::replay_of, crate::specs::Commands::daemon_of, crate::specs::Commands::query_of, crate::specs::Commands::collect_of))]
-    pub(crate) fn count_sources(self, options: OptionWords<'_, '_>) -> usize
-        requires few { has_few_sources (options_in options) ≡ true }
-        ensures { result ≡ sources_in (asked_by self (options_in options.entry)) }
-    {
-        match self {
-            CommandName::Replay | CommandName::Daemon | CommandName::Query => {
-                options.count_sources().unwrap_or(0)
-            }
-            CommandName::Check
-            | CommandName::Generate
-            | CommandName::SelfTest
-            | CommandName::Report => 0,
-            CommandName::Collect => 1,
-        }
-    }
-
-    /// The command is a session by threads.
-    pub(crate) fn is_by_threads(self) -> bool
-        ensures { (options : List Given) → by_threads (asked_by self options) ≡ result }
-    {
-        matches!(self, CommandName::Daemon)
-    }
-
-    /// The options are those of a run of the command.
-    #[tactic(auto, unfolding(crate::specs::Commands::are_options))]
-    pub(crate) fn are_options(self, options: OptionWords<'_, '_>) -> bool
-        ensures { result ≡ are_options self (options_in options.entry) }
-    {
-        self.are_right(options)
-            && self.has_required(options)
-            && options.has_few_sources()
-            && options.none_repeats()
-            && (options.stands(Name::Start) || !options.stands(Name::Step))
-            && options.has_whole_link()
     }
 }
 

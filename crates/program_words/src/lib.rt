@@ -3,7 +3,6 @@
 
 pub mod command;
 pub mod error;
-mod given;
 pub mod laws;
 mod name;
 mod number;
@@ -15,4 +14,4 @@ pub use command::{
     QueryWords, ReplayWords, ReportWords,
 };
 pub use error::WordsError;
-pub use read::{are_by_threads, count_sources, paths_of, read_words};
+pub use read::{is_by_threads, paths_of, read_words};

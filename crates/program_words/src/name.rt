@@ -1,8 +1,11 @@
 //! The names of options, and what each takes.
 
 ghost use Rattle.std.specs.Prelude.{◌≡◌};
-ghost use Rattle.std.specs.List.{list_any};
-ghost use Rattle.program_words.specs.Names.{is_source, name_of, place, same_name, takes};
+ghost use Rattle.program_words.specs.Given.{fits_value, number_taken, takes_word};
+ghost use Rattle.program_words.specs.Names.{is_source, takes};
+ghost use Rattle.program_words.specs.Rules.{spelling};
+
+use crate::number::{is_text, number_in};
 
 /// The name of an option.
 #[derive(Clone, Copy)]
@@ -48,34 +51,34 @@ pub(crate) enum Takes {
 }
 
 impl Name {
-    /// The name that is spelled so.
-    #[tactic(auto, unfolding(crate::specs::Names::name_of, crate::specs::Names::names))]
-    pub(crate) fn of(text: &str) -> Name
-        ensures { result ≡ name_of text.now }
+    /// How the name is spelled behind its dashes.
+    #[tactic(auto, unfolding(crate::specs::Rules::spelling, crate::specs::Names::names, crate::specs::Names::place))]
+    pub(crate) fn text(self) -> &'static str
+        ensures { result.now ≡ spelling self }
     {
-        match text {
-            "config" => Name::Config,
-            "host" => Name::Host,
-            "platform" => Name::Platform,
-            "agent" => Name::Agent,
-            "text" => Name::Text,
-            "audit" => Name::Audit,
-            "changes" => Name::Changes,
-            "tables" => Name::Tables,
-            "start" => Name::Start,
-            "step" => Name::Step,
-            "ticks" => Name::Ticks,
-            "records" => Name::Records,
-            "explain" => Name::Explain,
-            "frames" => Name::Frames,
-            "ledger" => Name::Ledger,
-            "store" => Name::Store,
-            "from" => Name::From,
-            "count" => Name::Count,
-            "workers" => Name::Workers,
-            "frames-out" => Name::FramesOut,
-            "answers-in" => Name::AnswersIn,
-            _ => Name::Other,
+        match self {
+            Name::Config => "config",
+            Name::Host => "host",
+            Name::Platform => "platform",
+            Name::Agent => "agent",
+            Name::Text => "text",
+            Name::Audit => "audit",
+            Name::Changes => "changes",
+            Name::Tables => "tables",
+            Name::Start => "start",
+            Name::Step => "step",
+            Name::Ticks => "ticks",
+            Name::Records => "records",
+            Name::Explain => "explain",
+            Name::Frames => "frames",
+            Name::Ledger => "ledger",
+            Name::Store => "store",
+            Name::From => "from",
+            Name::Count => "count",
+            Name::Workers => "workers",
+            Name::FramesOut => "frames-out",
+            Name::AnswersIn => "answers-in",
+            Name::Other => "",
         }
     }
 
@@ -113,23 +116,37 @@ impl Name {
     {
         matches!(self, Name::Audit | Name::Changes | Name::Tables)
     }
+}
 
-    #[tactic(auto, unfolding(crate::specs::Names::place))]
-    fn place(self) -> u8
-        ensures { result ≡ place self }
+impl Takes {
+    /// A value stands behind the name.
+    pub(crate) fn takes_word(self) -> bool
+        ensures { result ≡ takes_word self }
     {
-        self as u8
+        match self {
+            Takes::AnyText | Takes::ShortText | Takes::Number(_, _) => true,
+            Takes::Nothing | Takes::Unknown => false,
+        }
     }
 
-    pub(crate) fn is(self, other: Name) -> bool
-        ensures { result ≡ same_name self other }
+    /// The value is one that the name takes.
+    pub(crate) fn fits_value(self, text: &str) -> bool
+        ensures { result ≡ fits_value self text.now }
     {
-        self.place() == other.place()
+        match self {
+            Takes::AnyText => is_text(text),
+            Takes::ShortText => is_text(text) && text.len() <= 255,
+            Takes::Number(least, most) => number_in(least, most, text).is_some(),
+            Takes::Nothing | Takes::Unknown => false,
+        }
     }
 
-    pub(crate) fn is_one_of(self, names: &[Name]) -> bool
-        ensures { result ≡ list_any (same_name self) names.now }
+    pub(crate) fn number(self, text: &str) -> Option<u64>
+        ensures { result ≡ number_taken self text.now }
     {
-        names.iter().any(|name| self.is(*name))
+        match self {
+            Takes::Number(least, most) => number_in(least, most, text),
+            Takes::Nothing | Takes::AnyText | Takes::ShortText | Takes::Unknown => None,
+        }
     }
 }

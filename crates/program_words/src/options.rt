@@ -1,109 +1,168 @@
-//! The options that words spell.
+//! The options that words give to a command, as `clap` reads them.
 
-ghost use Rattle.std.specs.Prelude.{◌≡◌, ◌++◌, IfOk, IfSome, OnOk, is_some, length};
-ghost use Rattle.std.specs.Option.{option_copied};
-ghost use Rattle.std.specs.List.{list_any};
-ghost use Rattle.program_words.specs.Commands.{has_few_sources, has_whole_link, link_of, sources_named, sources_of};
-ghost use Rattle.program_words.specs.Given.{none_repeats, number_of, number_or, repeats, stands, value_of, value_or};
-ghost use Rattle.program_words.specs.Left.{given, left, options_in};
+ghost use Rattle.std.specs.Prelude.{◌≡◌, ◌≢◌, [], IfOk, OnOk, Err, drop, false, map};
+ghost use Rattle.clap.specs.Words.{app_of, fault_of, found_of, matches_of, rows_of, rule_of};
+ghost use Rattle.program_words.specs.Commands.{are_options, has_refused};
+ghost use Rattle.program_words.specs.Given.{options_of};
+ghost use Rattle.program_words.specs.Reading.{Tells, are_apart};
+ghost use Rattle.program_words.specs.Rules.{action_for, app_for, rule_for, with_options};
 
-use crate::command::LinkPaths;
-use crate::given::{GivenOption, option_of};
-use crate::name::Name;
+use crate::command::{CommandName, LinkPaths};
+use crate::error::WordsError;
+use crate::name::{Name, Takes};
+use clap::error::ErrorKind;
+use clap::{Arg, ArgAction, ArgMatches, Command};
 use osq_value::{NoMemory, SourceKind, SourceName, SourceNameList, Str};
 use std::alloc::Global;
-use std::slice::Iter;
+use std::collections::HashSet;
 
-/// The options that words spell, one by one.
-#[derive(Drop)]
-pub(crate) struct Options<'w, 'a> {
-    words: Iter<'w, &'a str>,
-}
-
-impl<'w, 'a> Iterator for Options<'w, 'a> {
-    ghost use Rattle.std.specs.Iterator.{YieldsFirstBy, item_count};
-    ghost use Rattle.program_words.specs.Left.{given, left};
-
-    type Item = GivenOption<'a>;
-
-    ghost next_gives = { YieldsFirstBy given left };
-
-    ghost remaining = { item_count left };
-
-    #[tactic(auto, unfolding(crate::specs::Left::left, crate::specs::Given::options_of))]
-    fn next(&mut self) -> Option<GivenOption<'a>> {
-        let word = *self.words.next()?;
-        let option = option_of(word);
-        if option.awaits() {
-            if let Some(value) = self.words.next() {
-                return Some(option.with_value(value));
-            }
-        }
-        Some(option)
+/// How often an option of that name may stand, and whether a value stands behind it.
+fn action_of(name: Name) -> ArgAction
+    ensures { result ≡ action_for name }
+{
+    match name.takes() {
+        Takes::Nothing => ArgAction::SetTrue,
+        _ if name.is_source() => ArgAction::Append,
+        _ => ArgAction::Set,
     }
 }
 
-impl<'w, 'a> Options<'w, 'a> {
-    /// The words of the options that are left.
-    #[tactic(auto, unfolding(crate::specs::Left::left, crate::specs::Left::options_in))]
-    fn behind(&self) -> OptionWords<'w, 'a>
-        ensures { options_in result ≡ left self.now }
-    {
-        OptionWords {
-            words: self.words.as_slice(),
-        }
+fn arg_of(alloc: Global, name: Name, required: bool) -> Arg<'static>
+    ensures rule { rule_of result ≡ rule_for required name }
+    ensures local { result.global ≡ false }
+{
+    let text = name.text();
+    Arg::new(alloc, text)
+        .long(text)
+        .action(action_of(name))
+        .required(required)
+}
+
+/// The command with options of these names behind those that it has.
+fn with_options<'a>(
+    alloc: Global,
+    command: Command<'a>,
+    names: &[Name],
+    required: bool,
+) -> Result<Command<'a>, NoMemory>
+    ensures { IfOk result (λ made. app_of made ≡ with_options (app_of command.entry) required names.now) }
+{
+    let mut command = command;
+    for name in names {
+        command = command.arg(arg_of(alloc, *name, required))?;
+    }
+    Ok(command)
+}
+
+/// What `clap` reads by; it has no flag for help.
+fn reader_of<'a>(alloc: Global, command: CommandName) -> Result<Command<'a>, NoMemory>
+    ensures { IfOk result (λ reader. app_of reader ≡ app_for command) }
+{
+    let reader = Command::new(alloc, "osqd").disable_help_flag(true);
+    let reader = with_options(alloc, reader, command.required(), true)?;
+    with_options(alloc, reader, command.optional(), false)
+}
+
+/// What `clap` reads of the words of a command, of which it drops the first.
+fn matches_of<'a>(
+    alloc: Global,
+    command: CommandName,
+    words: &'a [&'a str],
+) -> Result<ArgMatches<'a>, WordsError>
+    ensures rows { IfOk result (λ matches. rows_of (found_of matches) ≡ matches_of (app_for command) (map (λ w. w.now) words.entry.now)) }
+    ensures right { OnOk result (fault_of (app_for command) (map (λ w. w.now) words.entry.now) ≡ []) }
+    ensures usage { result ≡ Err WordsError.Usage → fault_of (app_for command) (map (λ w. w.now) words.entry.now) ≢ [] }
+{
+    match reader_of(alloc, command)?.try_get_matches_from(words) {
+        Ok(matches) => Ok(matches),
+        Err(error) => match error.kind() {
+            ErrorKind::OutOfMemory => Err(WordsError::NoMemory),
+            _ => Err(WordsError::Usage),
+        },
     }
 }
 
 /// The most sources that a command names.
 const MOST_SOURCES: usize = 1000;
 
-/// The words behind a command's word.
-#[derive(Clone, Copy)]
-pub(crate) struct OptionWords<'w, 'a> {
-    pub(crate) words: &'w [&'a str],
+/// The options that words give to a command, as `clap` read them.
+#[derive(Drop)]
+pub(crate) struct GivenOptions<'a> {
+    pub(crate) command: CommandName,
+    /// The words, with that of the command. Clauses speak of them alone.
+    words: &'a [&'a str],
+    matches: ArgMatches<'a>,
+    ghost told: { Tells command (rows_of (found_of matches)) (options_of (drop 1 (map (λ w. w.now) words.now))) },
 }
 
-impl<'w, 'a> OptionWords<'w, 'a> {
-    /// The options, from the first on.
-    #[tactic(auto, unfolding(crate::specs::Left::left, crate::specs::Left::options_in))]
-    pub(crate) fn options(self) -> Options<'w, 'a>
-        ensures { left result ≡ options_in self.entry }
-    {
-        Options {
-            words: self.words.iter(),
-        }
-    }
+impl<'a> GivenOptions<'a> {
+    ghost use Rattle.std.specs.Prelude.{◌++◌, ◌&&◌, length, nat_le, true};
+    ghost use Rattle.std.specs.List.{list_all};
+    ghost use Rattle.std.specs.Option.{option_copied};
+    ghost use Rattle.program_words.specs.declared.name.Takes.{Takes};
+    ghost use Rattle.program_words.specs.Commands.{link_of, sources_named};
+    ghost use Rattle.program_words.specs.Given.{number_of, number_or, stands, takes_word, value_of, value_or};
+    ghost use Rattle.program_words.specs.Left.{options_in};
+    ghost use Rattle.program_words.specs.Names.{takes};
+    ghost use Rattle.program_words.specs.Reading.{all_fit, are_paired, paths_named, values_fit, values_named};
 
-    /// An option of that name stands among them.
-    #[tactic(auto, unfolding(crate::specs::Given::stands))]
-    pub(crate) fn stands(self, name: Name) -> bool
-        ensures { result ≡ stands name (options_in self.entry) }
+    /// Reads words that begin with that of the command, and have none that is refused wherever it stands.
+    pub(crate) fn read(
+        alloc: Global,
+        command: CommandName,
+        words: &'a [&'a str],
+    ) -> Result<GivenOptions<'a>, WordsError>
+        requires clean { has_refused (map (λ w. w.now) words.now) ≡ false }
+        ensures command { IfOk result (λ options. options.command ≡ command) }
+        ensures options { IfOk result (λ options. options_in options ≡ options_of (drop 1 (map (λ w. w.now) words.entry.now))) }
+        ensures usage { result ≡ Err WordsError.Usage → are_options command (options_of (drop 1 (map (λ w. w.now) words.entry.now))) ≡ false }
     {
-        self.options().any(|option| option.is_named(name))
+        let matches = matches_of(alloc, command, words)?;
+        Ok(GivenOptions {
+            command,
+            words,
+            matches,
+        })
     }
 
     /// The value of the option of that name.
-    #[tactic(auto, unfolding(crate::specs::Given::value_of))]
-    pub(crate) fn value_of(self, name: Name) -> Option<&'a str>
-        ensures { option_copied result ≡ value_of name (options_in self.entry) }
+    pub(crate) fn value_of(&self, name: Name) -> Option<&'a str>
+        requires takes { takes_word (takes name) ≡ true }
+        ensures { option_copied result ≡ value_of name (options_in self.now) }
     {
-        let option = self.options().find(|option| option.is_named(name))?;
-        option.value
+        self.matches.get_str(name.text())
+    }
+
+    /// The values of the options of that name.
+    fn values_of(&self, name: Name) -> &[&str]
+        requires takes { takes_word (takes name) ≡ true }
+        ensures { map (λ value. value.now) result.now ≡ values_named name (options_in self.now) }
+    {
+        self.matches.get_strs(name.text()).unwrap_or(&[])
+    }
+
+    /// The flag of that name stands among the options.
+    pub(crate) fn has_flag(&self, name: Name) -> bool
+        requires takes { takes name ≡ Takes.Nothing }
+        ensures { result ≡ stands name (options_in self.now) }
+    {
+        self.matches.get_flag(name.text())
     }
 
     /// The number of the option of that name.
     #[tactic(auto, unfolding(crate::specs::Given::number_of))]
-    pub(crate) fn number_of(self, name: Name) -> Option<u64>
-        ensures { result ≡ number_of name (options_in self.entry) }
+    pub(crate) fn number_of(&self, name: Name) -> Option<u64>
+        requires takes { takes_word (takes name) ≡ true }
+        ensures { result ≡ number_of name (options_in self.now) }
     {
         let text = self.value_of(name)?;
         name.takes().number(text)
     }
 
     #[tactic(auto, unfolding(crate::specs::Given::number_or))]
-    pub(crate) fn number_or(self, default: u64, name: Name) -> u64
-        ensures { result ≡ number_or default name (options_in self.entry) }
+    pub(crate) fn number_or(&self, default: u64, name: Name) -> u64
+        requires takes { takes_word (takes name) ≡ true }
+        ensures { result ≡ number_or default name (options_in self.now) }
     {
         match self.number_of(name) {
             Some(number) => number,
@@ -112,8 +171,9 @@ impl<'w, 'a> OptionWords<'w, 'a> {
     }
 
     /// The text of the option of that name, which is copied.
-    pub(crate) fn text_of(self, alloc: Global, name: Name) -> Result<Option<Str>, NoMemory>
-        ensures { IfOk result (λ text. text ≡ value_of name (options_in self.entry)) }
+    pub(crate) fn text_of(&self, alloc: Global, name: Name) -> Result<Option<Str>, NoMemory>
+        requires takes { takes_word (takes name) ≡ true }
+        ensures { IfOk result (λ text. text ≡ value_of name (options_in self.now)) }
     {
         match self.value_of(name) {
             Some(text) => Ok(Some(Str::of(alloc, text)?)),
@@ -122,8 +182,9 @@ impl<'w, 'a> OptionWords<'w, 'a> {
     }
 
     #[tactic(auto, unfolding(crate::specs::Given::value_or))]
-    pub(crate) fn text_or(self, alloc: Global, default: &str, name: Name) -> Result<Str, NoMemory>
-        ensures { IfOk result (λ text. text ≡ value_or default.now name (options_in self.entry)) }
+    pub(crate) fn text_or(&self, alloc: Global, default: &str, name: Name) -> Result<Str, NoMemory>
+        requires takes { takes_word (takes name) ≡ true }
+        ensures { IfOk result (λ text. text ≡ value_or default.now name (options_in self.now)) }
     {
         match self.value_of(name) {
             Some(text) => Str::of(alloc, text),
@@ -131,44 +192,10 @@ impl<'w, 'a> OptionWords<'w, 'a> {
         }
     }
 
-    /// How many of the options name a source, where they are at most a thousand.
-    #[tactic(auto, unfolding(crate::specs::Commands::has_few_sources), using(crate::proofs::Within::sources_counted))]
-    pub(crate) fn count_sources(self) -> Option<usize>
-        ensures few { is_some result ≡ has_few_sources (options_in self.entry) }
-        ensures count { IfSome result (λ count. count ≡ length (sources_of (options_in self.entry))) }
-    {
-        let mut count = 0;
-        let mut options = self.options();
-        while let Some(option) = options.next() {
-            if option.name.is_source() {
-                if count == MOST_SOURCES {
-                    return None;
-                }
-                count += 1;
-            }
-        }
-        Some(count)
-    }
-
-    /// At most a thousand of the options name a source.
-    pub(crate) fn has_few_sources(self) -> bool
-        ensures { result ≡ has_few_sources (options_in self.entry) }
-    {
-        self.count_sources().is_some()
-    }
-
-    /// Both paths of a link stand among the options, or neither.
-    #[tactic(auto, unfolding(crate::specs::Commands::has_whole_link))]
-    pub(crate) fn has_whole_link(self) -> bool
-        ensures { result ≡ has_whole_link (options_in self.entry) }
-    {
-        self.stands(Name::FramesOut) == self.stands(Name::AnswersIn)
-    }
-
     /// The paths of the link, where the options name both.
-    #[tactic(auto, unfolding(crate::specs::Commands::link_of))]
-    pub(crate) fn link_of(self, alloc: Global) -> Result<Option<LinkPaths>, NoMemory>
-        ensures { IfOk result (λ link. link ≡ link_of (options_in self.entry)) }
+    #[tactic(auto, unfolding(crate::specs::Commands::link_of, crate::specs::Names::takes))]
+    pub(crate) fn link_of(&self, alloc: Global) -> Result<Option<LinkPaths>, NoMemory>
+        ensures { IfOk result (λ link. link ≡ link_of (options_in self.now)) }
     {
         let frames = self.text_of(alloc, Name::FramesOut)?;
         let answers = self.text_of(alloc, Name::AnswersIn)?;
@@ -178,46 +205,110 @@ impl<'w, 'a> OptionWords<'w, 'a> {
         }
     }
 
-    /// One of the options repeats that one.
-    fn is_repeated(self, option: &GivenOption<'_>) -> bool
-        ensures { result ≡ list_any (repeats (given option.now)) (options_in self.entry) }
-    {
-        self.options().any(|other| option.repeats(&other))
-    }
-
-    /// No option is repeated by one behind it. Each is compared with what stands behind it, which is a short way: there are at most a
-    /// thousand sources, and the first option that isn't a source and stands twice ends it.
-    #[tactic(auto, unfolding(crate::specs::Given::none_repeats))]
-    pub(crate) fn none_repeats(self) -> bool
-        ensures { result ≡ none_repeats (options_in self.entry) }
-    {
-        let mut options = self.options();
-        while let Some(option) = options.next() {
-            if options.behind().is_repeated(&option) {
-                return false;
-            }
-        }
-        true
-    }
-
     /// Adds the sources of one kind, in the order of the words.
-    #[tactic(auto, unfolding(crate::specs::Commands::sources_named))]
     pub(crate) fn add_sources(
-        self,
+        &self,
         alloc: Global,
         name: Name,
         kind: SourceKind,
         sources: &mut SourceNameList,
     ) -> Result<(), NoMemory>
-        ensures { OnOk result (sources.new ≡ sources.old ++ sources_named name kind (options_in self.entry)) }
+        requires takes { takes_word (takes name) ≡ true }
+        ensures { OnOk result (sources.new ≡ sources.old ++ sources_named name kind (options_in self.now)) }
     {
-        let mut options = self.options();
-        while let Some(option) = options.next() {
-            if option.is_named(name) {
-                let name = Str::of(alloc, option.value.unwrap_or(""))?;
-                sources.push(SourceName { kind, name })?;
-            }
+        for path in self.values_of(name) {
+            let name = Str::of(alloc, path)?;
+            sources.push(SourceName { kind, name })?;
         }
         Ok(())
     }
+
+    /// What stands behind the options of that name is what it takes.
+    fn values_fit(&self, name: Name) -> bool
+        ensures { result ≡ values_fit (options_in self.now) name }
+    {
+        let takes = name.takes();
+        !takes.takes_word()
+            || self
+                .values_of(name)
+                .iter()
+                .all(|value| takes.fits_value(value))
+    }
+
+    /// What stands behind the options of each of the names is what it takes.
+    fn each_fits(&self, names: &[Name]) -> bool
+        ensures { result ≡ list_all (values_fit (options_in self.now)) names.now }
+    {
+        names.iter().all(|name| self.values_fit(*name))
+    }
+
+    /// What stands behind each option is what its name takes.
+    fn all_fit(&self) -> bool
+        ensures { result ≡ all_fit (options_in self.now) }
+    {
+        self.each_fits(self.command.required()) && self.each_fits(self.command.optional())
+    }
+
+    /// The paths of the sources: of audit logs, then of lists of changes, then of table lines.
+    #[tactic(auto, unfolding(crate::specs::Names::takes))]
+    fn paths(&self, alloc: Global) -> Result<Vec<&str>, NoMemory>
+        ensures { IfOk result (λ paths. map (λ path. path.now) paths.items ≡ paths_named (options_in self.now)) }
+    {
+        let mut paths = Vec::new(alloc);
+        paths.extend_from_slice(self.values_of(Name::Audit))?;
+        paths.extend_from_slice(self.values_of(Name::Changes))?;
+        paths.extend_from_slice(self.values_of(Name::Tables))?;
+        Ok(paths)
+    }
+
+    /// There are at most a thousand sources, and no two of them have one path.
+    fn has_own_paths(&self, alloc: Global) -> Result<bool, NoMemory>
+        ensures { IfOk result (λ own. own ≡ nat_le (length (paths_named (options_in self.now))) 1000 && are_apart (paths_named (options_in self.now))) }
+    {
+        let paths = self.paths(alloc)?;
+        if MOST_SOURCES < paths.len() {
+            return Ok(false);
+        }
+        are_apart(alloc, paths.as_slice())
+    }
+
+    /// An option of that name stands among them.
+    fn stands(&self, name: Name) -> bool
+        requires takes { takes_word (takes name) ≡ true }
+        ensures { result ≡ stands name (options_in self.now) }
+    {
+        self.value_of(name).is_some()
+    }
+
+    /// A step stands beside a start alone, and both paths of a link stand or neither.
+    #[tactic(auto, unfolding(crate::specs::Names::takes, crate::specs::Commands::has_whole_link))]
+    fn are_paired(&self) -> bool
+        ensures { result ≡ are_paired (options_in self.now) }
+    {
+        (self.stands(Name::Start) || !self.stands(Name::Step))
+            && self.stands(Name::FramesOut) == self.stands(Name::AnswersIn)
+    }
+
+    /// The options are those of a run of the command.
+    pub(crate) fn are_right(&self, alloc: Global) -> Result<bool, NoMemory>
+        ensures { IfOk result (λ right. right ≡ are_options self.now.command (options_in self.now)) }
+    {
+        if !self.all_fit() || !self.are_paired() {
+            return Ok(false);
+        }
+        self.has_own_paths(alloc)
+    }
+}
+
+/// No two of the texts are the same.
+fn are_apart(alloc: Global, texts: &[&str]) -> Result<bool, NoMemory>
+    ensures { IfOk result (λ apart. apart ≡ are_apart (map (λ text. text.now) texts.now)) }
+{
+    let mut seen = HashSet::new(alloc);
+    for text in texts {
+        if !seen.insert(*text)? {
+            return Ok(false);
+        }
+    }
+    Ok(true)
 }

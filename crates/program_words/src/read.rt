@@ -1,9 +1,9 @@
 //! Reading the words of a command.
 
-ghost use Rattle.std.specs.Option.{option_map};
-ghost use Rattle.std.specs.Prelude.{◌≡◌, ◌↔◌, IfOk, IfSome, MatchOption, None, Some, Err, map, true};
+ghost use Rattle.std.specs.Prelude.{◌≡◌, ◌⊎◌, drop, IfOk, IsSome, MatchOption, None, Some, Err, false, map};
 ghost use Rattle.program_words.specs.Bounds.{ArePathsBounded, IsBounded};
-ghost use Rattle.program_words.specs.Commands.{are_by_threads, asked_by, check_of, collect_of, daemon_of, generate_of, has_few_sources, has_refused, is_refused, paths_of, query_of, replay_of, report_of, sources_in, sources_of, words_of};
+ghost use Rattle.program_words.specs.Commands.{asked_by, by_threads, check_of, collect_of, command_with, daemon_of, generate_of, has_refused, is_by_threads, is_refused, paths_of, query_of, replay_of, report_of, sources_of, words_of};
+ghost use Rattle.program_words.specs.Given.{options_of};
 ghost use Rattle.program_words.specs.Left.{options_in};
 
 use crate::command::{
@@ -12,7 +12,7 @@ use crate::command::{
 };
 use crate::error::WordsError;
 use crate::name::Name;
-use crate::options::OptionWords;
+use crate::options::GivenOptions;
 use osq_value::{NoMemory, Sequence, SourceKind, SourceName, SourceNameList};
 use std::alloc::Global;
 
@@ -49,28 +49,23 @@ fn has_refused(words: &[&str]) -> bool
     words.iter().any(|word| is_refused(word))
 }
 
-/// The command that the words begin with, and its options, where the words are those of a command.
-#[tactic(auto, unfolding(crate::specs::Commands::words_of, crate::specs::Commands::are_options, crate::specs::Left::options_in))]
-fn command_in<'w, 'a>(words: &'w [&'a str]) -> Option<(CommandName, OptionWords<'w, 'a>)>
-    ensures command { MatchOption result (words_of (map (λ w. w.now) words.now) ≡ None) (λ found. words_of (map (λ w. w.now) words.now) ≡ Some (asked_by found.0 (options_in found.1))) }
-    ensures few { IfSome result (λ found. has_few_sources (options_in found.1) ≡ true) }
+/// The command that the words begin with, where none of them is refused wherever it stands.
+#[tactic(auto, unfolding(crate::specs::Commands::words_of))]
+fn command_in(words: &[&str]) -> Option<CommandName>
+    ensures command { MatchOption result (words_of (map (λ w. w.now) words.now) ≡ None) (λ command. words_of (map (λ w. w.now) words.now) ≡ command_with (options_of (drop 1 (map (λ w. w.now) words.now))) command) }
+    ensures clean { IsSome result → has_refused (map (λ w. w.now) words.now) ≡ false }
 {
-    let (word, behind) = words.split_first()?;
+    let word = words.first()?;
     if has_refused(words) {
         return None;
     }
-    let command = CommandName::of(word)?;
-    let options = OptionWords { words: behind };
-    if !command.are_options(options) {
-        return None;
-    }
-    Some((command, options))
+    CommandName::of(word)
 }
 
 /// Audit logs, then lists of changes, then table lines.
-#[tactic(auto, unfolding(crate::specs::Commands::sources_of))]
-fn sources_of(alloc: Global, options: OptionWords<'_, '_>) -> Result<SourceNameList, NoMemory>
-    ensures { IfOk result (λ sources. sources ≡ sources_of (options_in options.entry)) }
+#[tactic(auto, unfolding(crate::specs::Commands::sources_of, crate::specs::Names::takes))]
+fn sources_of(alloc: Global, options: &GivenOptions<'_>) -> Result<SourceNameList, NoMemory>
+    ensures { IfOk result (λ sources. sources ≡ sources_of (options_in options.now)) }
 {
     let mut sources = Sequence::new(alloc);
     options.add_sources(alloc, Name::Audit, SourceKind::Audit, &mut sources)?;
@@ -79,9 +74,9 @@ fn sources_of(alloc: Global, options: OptionWords<'_, '_>) -> Result<SourceNameL
     Ok(sources)
 }
 
-#[tactic(auto, unfolding(crate::specs::Commands::replay_of))]
-fn replay_of(alloc: Global, options: OptionWords<'_, '_>) -> Result<ReplayWords, NoMemory>
-    ensures { IfOk result (λ words. words ≡ replay_of (options_in options.entry)) }
+#[tactic(auto, unfolding(crate::specs::Commands::replay_of, crate::specs::Names::takes))]
+fn replay_of(alloc: Global, options: &GivenOptions<'_>) -> Result<ReplayWords, NoMemory>
+    ensures { IfOk result (λ words. words ≡ replay_of (options_in options.now)) }
 {
     Ok(ReplayWords {
         config: options.text_or(alloc, "", Name::Config)?,
@@ -98,9 +93,9 @@ fn replay_of(alloc: Global, options: OptionWords<'_, '_>) -> Result<ReplayWords,
     })
 }
 
-#[tactic(auto, unfolding(crate::specs::Commands::daemon_of), using(crate::proofs::Within::few_workers))]
-fn daemon_of(alloc: Global, options: OptionWords<'_, '_>) -> Result<DaemonWords, NoMemory>
-    ensures { IfOk result (λ words. words ≡ daemon_of (options_in options.entry)) }
+#[tactic(auto, unfolding(crate::specs::Commands::daemon_of, crate::specs::Names::takes), using(crate::proofs::Within::few_workers))]
+fn daemon_of(alloc: Global, options: &GivenOptions<'_>) -> Result<DaemonWords, NoMemory>
+    ensures { IfOk result (λ words. words ≡ daemon_of (options_in options.now)) }
 {
     Ok(DaemonWords {
         run: replay_of(alloc, options)?,
@@ -108,9 +103,9 @@ fn daemon_of(alloc: Global, options: OptionWords<'_, '_>) -> Result<DaemonWords,
     })
 }
 
-#[tactic(auto, unfolding(crate::specs::Commands::query_of))]
-fn query_of(alloc: Global, options: OptionWords<'_, '_>) -> Result<QueryWords, NoMemory>
-    ensures { IfOk result (λ words. words ≡ query_of (options_in options.entry)) }
+#[tactic(auto, unfolding(crate::specs::Commands::query_of, crate::specs::Names::takes))]
+fn query_of(alloc: Global, options: &GivenOptions<'_>) -> Result<QueryWords, NoMemory>
+    ensures { IfOk result (λ words. words ≡ query_of (options_in options.now)) }
 {
     Ok(QueryWords {
         text: options.text_or(alloc, "", Name::Text)?,
@@ -121,13 +116,13 @@ fn query_of(alloc: Global, options: OptionWords<'_, '_>) -> Result<QueryWords, N
         step: options.number_or(STEP, Name::Step),
         ticks: options.number_or(ROUNDS, Name::Ticks),
         records: options.number_or(RECORDS, Name::Records),
-        explain: options.stands(Name::Explain),
+        explain: options.has_flag(Name::Explain),
     })
 }
 
-#[tactic(auto, unfolding(crate::specs::Commands::check_of))]
-fn check_of(alloc: Global, options: OptionWords<'_, '_>) -> Result<CheckWords, NoMemory>
-    ensures { IfOk result (λ words. words ≡ check_of (options_in options.entry)) }
+#[tactic(auto, unfolding(crate::specs::Commands::check_of, crate::specs::Names::takes))]
+fn check_of(alloc: Global, options: &GivenOptions<'_>) -> Result<CheckWords, NoMemory>
+    ensures { IfOk result (λ words. words ≡ check_of (options_in options.now)) }
 {
     Ok(CheckWords {
         config: options.text_or(alloc, "", Name::Config)?,
@@ -137,9 +132,9 @@ fn check_of(alloc: Global, options: OptionWords<'_, '_>) -> Result<CheckWords, N
     })
 }
 
-#[tactic(auto, unfolding(crate::specs::Commands::collect_of))]
-fn collect_of(alloc: Global, options: OptionWords<'_, '_>) -> Result<CollectWords, NoMemory>
-    ensures { IfOk result (λ words. words ≡ collect_of (options_in options.entry)) }
+#[tactic(auto, unfolding(crate::specs::Commands::collect_of, crate::specs::Names::takes))]
+fn collect_of(alloc: Global, options: &GivenOptions<'_>) -> Result<CollectWords, NoMemory>
+    ensures { IfOk result (λ words. words ≡ collect_of (options_in options.now)) }
 {
     let mut sources = Sequence::new(alloc);
     sources.push(SourceName {
@@ -153,9 +148,9 @@ fn collect_of(alloc: Global, options: OptionWords<'_, '_>) -> Result<CollectWord
     })
 }
 
-#[tactic(auto, unfolding(crate::specs::Commands::generate_of))]
-fn generate_of(options: OptionWords<'_, '_>) -> GenerateWords
-    ensures { result ≡ generate_of (options_in options.entry) }
+#[tactic(auto, unfolding(crate::specs::Commands::generate_of, crate::specs::Names::takes))]
+fn generate_of(options: &GivenOptions<'_>) -> GenerateWords
+    ensures { result ≡ generate_of (options_in options.now) }
 {
     GenerateWords {
         from: options.number_or(0, Name::From),
@@ -163,23 +158,19 @@ fn generate_of(options: OptionWords<'_, '_>) -> GenerateWords
     }
 }
 
-#[tactic(auto, unfolding(crate::specs::Commands::report_of))]
-fn report_of(alloc: Global, options: OptionWords<'_, '_>) -> Result<ReportWords, NoMemory>
-    ensures { IfOk result (λ words. words ≡ report_of (options_in options.entry)) }
+#[tactic(auto, unfolding(crate::specs::Commands::report_of, crate::specs::Names::takes))]
+fn report_of(alloc: Global, options: &GivenOptions<'_>) -> Result<ReportWords, NoMemory>
+    ensures { IfOk result (λ words. words ≡ report_of (options_in options.now)) }
 {
     Ok(ReportWords {
         store: options.text_or(alloc, "", Name::Store)?,
     })
 }
 
-fn asked_by(
-    alloc: Global,
-    command: CommandName,
-    options: OptionWords<'_, '_>,
-) -> Result<CommandWords, NoMemory>
-    ensures { IfOk result (λ words. words ≡ asked_by command (options_in options.entry)) }
+fn asked_by(alloc: Global, options: &GivenOptions<'_>) -> Result<CommandWords, NoMemory>
+    ensures { IfOk result (λ words. words ≡ asked_by options.now.command (options_in options.now)) }
 {
-    match command {
+    match options.command {
         CommandName::Replay => Ok(CommandWords::Replay(replay_of(alloc, options)?)),
         CommandName::Daemon => Ok(CommandWords::Daemon(daemon_of(alloc, options)?)),
         CommandName::Query => Ok(CommandWords::Query(query_of(alloc, options)?)),
@@ -191,39 +182,45 @@ fn asked_by(
     }
 }
 
-/// Reads the words of a command. The answer is Usage exactly where they are those of no command, so that memory is wanting only where they
-/// are right.
+/// What the options ask of their command; Usage where they aren't those of a run of it.
+fn command_by(alloc: Global, options: &GivenOptions<'_>) -> Result<CommandWords, WordsError>
+    ensures command { IfOk result (λ words. command_with (options_in options.now) options.now.command ≡ Some words) }
+    ensures usage { result ≡ Err WordsError.Usage → command_with (options_in options.now) options.now.command ≡ None }
+{
+    if !options.are_right(alloc)? {
+        return Err(WordsError::Usage);
+    }
+    Ok(asked_by(alloc, options)?)
+}
+
+/// Reads the words of a command. The answer is Usage only where they are those of no command, and there it is Usage, or memory was wanting.
 #[tactic(auto, using(crate::proofs::Within::words_bounded))]
 pub fn read_words(alloc: Global, words: &[&str]) -> Result<CommandWords, WordsError>
     ensures command { IfOk result (λ command. words_of (map (λ w. w.now) words.now) ≡ Some command) }
-    ensures usage { (result ≡ Err WordsError.Usage) ↔ (words_of (map (λ w. w.now) words.now) ≡ None) }
+    ensures usage { result ≡ Err WordsError.Usage → words_of (map (λ w. w.now) words.now) ≡ None }
+    ensures refused { words_of (map (λ w. w.now) words.now) ≡ None → (result ≡ Err WordsError.Usage) ⊎ (result ≡ Err WordsError.NoMemory) }
     ensures bounds { IfOk result IsBounded }
 {
-    let Some((command, options)) = command_in(words) else {
+    let Some(command) = command_in(words) else {
         return Err(WordsError::Usage);
     };
-    Ok(asked_by(alloc, command, options)?)
+    let options = GivenOptions::read(alloc, command, words)?;
+    command_by(alloc, &options)
 }
 
-/// How many sources the words of a command name; nothing where they are those of no command. It takes no memory.
-pub fn count_sources(words: &[&str]) -> Option<usize>
-    ensures { result ≡ option_map sources_in (words_of (map (λ w. w.now) words.now)) }
+/// The words begin with the word of a session by threads. It takes no memory.
+pub fn is_by_threads(words: &[&str]) -> bool
+    ensures word { result ≡ is_by_threads (map (λ w. w.now) words.now) }
+    ensures command { (command : CommandWords) → words_of (map (λ w. w.now) words.now) ≡ Some command → by_threads command ≡ result }
 {
-    let (command, options) = command_in(words)?;
-    Some(command.count_sources(options))
-}
-
-/// The words are those of a session by threads. It takes no memory.
-pub fn are_by_threads(words: &[&str]) -> bool
-    ensures { result ≡ are_by_threads (map (λ w. w.now) words.now) }
-{
-    match command_in(words) {
-        Some((command, _options)) => command.is_by_threads(),
+    match words.first() {
+        Some(word) => *word == "daemon",
         None => false,
     }
 }
 
-/// Reads what the program opens for the words of a command; Usage exactly where they are those of no command.
+/// Reads what the program opens for the words of a command. The answer is Usage only where they are those of no command, and there it is
+/// Usage, or memory was wanting.
 ///
 /// ```
 /// let words = ["replay", "--config", "c", "--host", "h1", "--audit", "a.log", "--start", "5", "--step", "9"];
@@ -236,7 +233,8 @@ pub fn are_by_threads(words: &[&str]) -> bool
 #[tactic(auto, using(crate::proofs::Within::paths_bounded))]
 pub fn paths_of(alloc: Global, words: &[&str]) -> Result<Paths, WordsError>
     ensures paths { IfOk result (λ paths. paths_of (map (λ w. w.now) words.now) ≡ Some paths) }
-    ensures usage { (result ≡ Err WordsError.Usage) ↔ (paths_of (map (λ w. w.now) words.now) ≡ None) }
+    ensures usage { result ≡ Err WordsError.Usage → paths_of (map (λ w. w.now) words.now) ≡ None }
+    ensures refused { paths_of (map (λ w. w.now) words.now) ≡ None → (result ≡ Err WordsError.Usage) ⊎ (result ≡ Err WordsError.NoMemory) }
     ensures bounds { IfOk result ArePathsBounded }
 {
     match read_words(alloc, words) {

@@ -3,7 +3,7 @@
 use crate::shown::{push_command, push_count, push_paths};
 use case_text::{bytes_of, kind_of_row};
 use osq_value::NoMemory;
-use program_words::{WordsError, count_sources, paths_of, read_words};
+use program_words::{WordsError, paths_of, read_words};
 use serde_json::Value as Json;
 use std::alloc::Global;
 use std::str;
@@ -23,7 +23,7 @@ fn push_read(alloc: Global, text: &mut String, words: &[&str]) -> Result<(), NoM
     match read_words(alloc, words) {
         Ok(command) => {
             push_command(text, &command)?;
-            push_count(text, command.sources(), count_sources(words))
+            push_count(text, command.sources())
         }
         Err(error) => push_error(text, error, "Usage\n"),
     }
@@ -37,11 +37,11 @@ fn push_opened(alloc: Global, text: &mut String, words: &[&str]) -> Result<(), N
     }
 }
 
-/// Tells how many sources words name, without reading them.
-fn push_counted(text: &mut String, words: &[&str]) -> Result<(), NoMemory> {
-    match count_sources(words) {
-        Some(count) => Ok(writeln!(text, "{count} sources")?),
-        None => Ok(text.push_str("Usage\n")?),
+/// Tells how many sources words name.
+fn push_counted(alloc: Global, text: &mut String, words: &[&str]) -> Result<(), NoMemory> {
+    match read_words(alloc, words) {
+        Ok(command) => Ok(writeln!(text, "{} sources", command.sources())?),
+        Err(error) => push_error(text, error, "Usage\n"),
     }
 }
 
@@ -53,7 +53,7 @@ fn push_words(
     words: &[&str],
 ) -> Result<(), NoMemory> {
     if kind == "count" {
-        return push_counted(text, words);
+        return push_counted(alloc, text, words);
     }
     push_read(alloc, text, words)?;
     push_opened(alloc, text, words)

@@ -156,18 +156,9 @@ pub(crate) fn push_command(text: &mut String, command: &CommandWords) -> Result<
     }
 }
 
-/// Ends the line of a command by the number of its sources; two numbers where they are counted otherwise before the words are read.
-pub(crate) fn push_count(
-    text: &mut String,
-    read: usize,
-    counted: Option<usize>,
-) -> Result<(), NoMemory> {
-    write!(text, "; {read} sources")?;
-    if counted != Some(read) {
-        text.push_str(", counted otherwise before they are read")?;
-    }
-    text.push_str("\n")?;
-    Ok(())
+/// Ends the line of a command by the number of its sources.
+pub(crate) fn push_count(text: &mut String, sources: usize) -> Result<(), NoMemory> {
+    Ok(writeln!(text, "; {sources} sources")?)
 }
 
 /// Adds a line for what is opened.
