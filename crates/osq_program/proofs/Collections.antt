@@ -10,7 +10,7 @@ use Rattle.program_words.specs.declared.command.CollectWords.{CollectWords}
 use Rattle.collect_rounds.specs.declared.error.CollectError.{CollectError}
 use Rattle.collect_rounds.specs.declared.error.CollectError.TheVariants as stop
 use Rattle.osq_program.specs.declared.status.Status.{Status}
-use Rattle.osq_program.specs.declared.status.Status.TheVariants.{Ok as Done, FilesFault, SinkFault, TicksSpent, OutOfMemory}
+use Rattle.osq_program.specs.declared.status.Status.TheVariants.{Ok as Done, TicksSpent, OutOfMemory}
 use Rattle.osq_program.specs.Collecting.{HasRun, IsCollect, IsStoppedBy, IsUnwritten, after, before, stream}
 use Rattle.osq_program.specs.Ending.{IsNamedAt}
 use Rattle.osq_program.specs.Observed.{Observed}

@@ -24,7 +24,7 @@ use Rattle.osq_program.specs.Observed.{Observed, link_faults}
 use Rattle.osq_program.specs.Replaying.{IsReplayGiven, fixed, run_in}
 use Rattle.osq_program.specs.Report.{EndsAs, Tells, TellsStop, final_line, refusal_line}
 use Rattle.osq_program.specs.Answers.{status_number}
-use Rattle.osq_program.specs.Telling.{AreNumbersAt, EndsStarved, EndsWhole, IsEnded, IsUnbegun, MayReplayTell, TellsReplay, TellsSome}
+use Rattle.osq_program.specs.Telling.{AreNumbersAt, EndsStarved, EndsWhole, MayReplayTell, TellsReplay, TellsSome}
 use Rattle.osq_program.proofs.Ended.{told_or_failed}
 use Rattle.osq_program.proofs.Replays.{fixed_if, run_if, some_as, stops_as, told_as}
 use Rattle.osq_program.proofs.Toldings.{as_stopped}

@@ -1,5 +1,5 @@
 -- From what the parts of `generate` ensure to what it does.
-use Rattle.std.proofs.Common.{◌≡◌, ◌++◌, ℕ, List, take, sym, subst}
+use Rattle.std.proofs.Common.{◌≡◌, ◌++◌, ℕ, take, sym, subst}
 use Rattle.program_words.specs.declared.command.GenerateWords.{GenerateWords}
 use Rattle.generated_changes.specs.Generated.{lines_of}
 use Rattle.osq_program.specs.declared.status.Status.{Status}

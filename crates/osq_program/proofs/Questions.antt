@@ -239,7 +239,7 @@ module _ (words : QueryWords) (seen : Observed) (posed : IsPosed words seen) (mo
   caused_written (SourceFault name) writes refusal = absurd writes
   caused_written (SourceShrank name kept found) writes refusal = absurd writes
   caused_written NumbersSpent writes refusal = absurd writes
-  caused_written SinkFault writes refusal = (posed, inl writes.1)
+  caused_written SinkFault writes refusal = (posed, inl (fit, writes.1))
   caused_written TicksSpent writes refusal = absurd refusal
   caused_written (QueryRefused place kind) writes refusal = absurd writes
   caused_written OutOfMemory writes refusal = tt

@@ -33,7 +33,7 @@ use Rattle.osq_program.specs.declared.status.Status.TheVariants.{Ok as Done, Usa
 use Rattle.osq_program.specs.Answers.{Causes, IsCaused, IsDoneStatus, IsSpentStatus, IsUsageStatus, IsRefusal, no_causes}
 use Rattle.osq_program.specs.Checking.{IsRefusedFor}
 use Rattle.osq_program.specs.Ending.{IsAnswerTo, IsNamedAt}
-use Rattle.osq_program.specs.Reasons.{HasShrunk}
+use Rattle.osq_program.specs.Reasons.{HasShrunk, IsFit}
 use Rattle.osq_program.specs.Replaying.{IsAccepted, IsReplayGiven, IsReplay, IsToldBy, Ran, causes_of, fixed, run_in}
 use Rattle.osq_program.specs.Report.{final_line, refusal_line}
 use Rattle.osq_program.specs.Setups.{setup_in, sources_named}
@@ -107,21 +107,21 @@ config_cause order words seen (QueryRefused place kind) caused = caused
 config_cause order words seen OutOfMemory caused = tt
 
 -- the last line of a whole session could not be written
-line_cause : (order : Order) (words : ReplayWords) (seen : Observed) → IsAccepted words seen → (s : Status) → IsCaused (record no_causes { sink = seen.status_failed }) s → IsCaused (causes_of order words seen) s
-line_cause order words seen accepted Done caused = caused
-line_cause order words seen accepted Usage caused = caused
-line_cause order words seen accepted FilesFault caused = absurd caused
-line_cause order words seen accepted (ConfigRefused kind key) caused = absurd caused
-line_cause order words seen accepted KeeperFault caused = absurd caused
-line_cause order words seen accepted KeeperRefused caused = absurd caused
-line_cause order words seen accepted (MomentTooLarge moment) caused = absurd caused
-line_cause order words seen accepted (SourceFault name) caused = absurd caused
-line_cause order words seen accepted (SourceShrank name kept found) caused = absurd caused
-line_cause order words seen accepted NumbersSpent caused = absurd caused
-line_cause order words seen accepted SinkFault caused = (accepted, inr caused)
-line_cause order words seen accepted TicksSpent caused = caused
-line_cause order words seen accepted (QueryRefused place kind) caused = caused
-line_cause order words seen accepted OutOfMemory caused = tt
+line_cause : (order : Order) (words : ReplayWords) (seen : Observed) → IsAccepted words seen → IsFit seen → (s : Status) → IsCaused (record no_causes { sink = seen.status_failed }) s → IsCaused (causes_of order words seen) s
+line_cause order words seen accepted fit Done caused = caused
+line_cause order words seen accepted fit Usage caused = caused
+line_cause order words seen accepted fit FilesFault caused = absurd caused
+line_cause order words seen accepted fit (ConfigRefused kind key) caused = absurd caused
+line_cause order words seen accepted fit KeeperFault caused = absurd caused
+line_cause order words seen accepted fit KeeperRefused caused = absurd caused
+line_cause order words seen accepted fit (MomentTooLarge moment) caused = absurd caused
+line_cause order words seen accepted fit (SourceFault name) caused = absurd caused
+line_cause order words seen accepted fit (SourceShrank name kept found) caused = absurd caused
+line_cause order words seen accepted fit NumbersSpent caused = absurd caused
+line_cause order words seen accepted fit SinkFault caused = (accepted, fit, inr caused)
+line_cause order words seen accepted fit TicksSpent caused = caused
+line_cause order words seen accepted fit (QueryRefused place kind) caused = caused
+line_cause order words seen accepted fit OutOfMemory caused = tt
 
 -- a run that ended before its session was done
 pub stopped : (order : Order) (words : ReplayWords) (seen : Observed) (s : Status) → IsCaused (causes_of order words seen) s
@@ -233,7 +233,7 @@ module _ (order : Order) (words : ReplayWords) (seen : Observed) (status : Statu
     spent = λ finished.
         let end = spent finished in
         (ran_with false end.0, λ tells. told_spent failed more tells (end.1 tells));
-    cause = λ refusal. line_cause order words seen (given, is) status (failed_more status (cause refusal));
+    cause = λ refusal. line_cause order words seen (given, is) fit status (failed_more status (cause refusal));
     kept = λ tells. inr (given, is, kept tells);
     written = λ tells. inr (given, is, written tells);
   } where
@@ -264,10 +264,10 @@ module _ (order : Order) (words : ReplayWords) (seen : Observed) (status : Statu
       ran order words seen status given is ended (run_as order words seen given forward same ended run) between (λ tells. told_as order words seen given forward same is.notes between (session tells)) fit faults count failed more done spent cause
       (λ tells. kept_as order words seen given forward same (kept tells)) (λ tells. written_as order words seen given forward same (written tells))
 
-  pub stopped_if : ((RanOutOfNumbers (run_if forward order seen given) seen.kept_after → (given : Given) × IsReplayGiven words seen given × RanOutOfNumbers (run_in order words seen given) seen.kept_after) → IsCaused (causes_of order words seen) status)
+  pub stopped_if : ((IsFit seen → RanOutOfNumbers (run_if forward order seen given) seen.kept_after → (given : Given) × IsReplayGiven words seen given × IsFit seen × RanOutOfNumbers (run_in order words seen given) seen.kept_after) → IsCaused (causes_of order words seen) status)
       → (seen.keeper_tells → IsKept (run_if forward order seen given) seen.kept_after) → (seen.sink_tells → IsWritten (fixed_if forward order seen given) seen.kept_after seen.results_after) → IsReplay order words seen status
   stopped_if caused kept written =
-      stopped order words seen status (caused (λ spends. (given, is, spent_as order words seen given forward same spends)))
+      stopped order words seen status (caused (λ fit spends. (given, is, fit, spent_as order words seen given forward same spends)))
       (λ tells. inr (given, is, kept_as order words seen given forward same (kept tells))) (λ tells. inr (given, is, written_as order words seen given forward same (written tells)))
 
 -- the answer to the end of a session is caused by it

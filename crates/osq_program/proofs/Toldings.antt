@@ -8,7 +8,7 @@ use Rattle.osq_program.specs.declared.status.Status.TheVariants.{Ok as Done, Usa
 use Rattle.replay_rounds.specs.declared.refused.Numbers.{Numbers}
 use Rattle.osq_program.specs.Answers.{Causes, IsCaused, IsDoneStatus, IsRefusal, IsSpentStatus, IsUsageStatus, no_causes, status_number}
 use Rattle.osq_program.specs.Report.{EndsAs, HasFields, IsRefusedAs, IsUnread, Tells, final_line, refusal_line, unread_line, unread_text}
-use Rattle.osq_program.specs.Telling.{TellsAlone, TellsBehind, TellsEnd, TellsSome}
+use Rattle.osq_program.specs.Telling.{TellsAlone, TellsEnd, TellsSome}
 use Rattle.osq_program.specs.Unconfigured.{IsAnswered, IsCausedBy, unconfigured_text}
 use Rattle.osq_program.specs.Observed.{Observed}
 

@@ -1,5 +1,5 @@
 -- What `generate` does.
-use Rattle.std.specs.Prelude.{◌≡◌, ℕ, List, ◌++◌, take}
+use Rattle.std.specs.Prelude.{◌≡◌, ℕ, ◌++◌, take}
 use Rattle.program_words.specs.declared.command.GenerateWords.{GenerateWords}
 use Rattle.generated_changes.specs.Generated.{lines_of}
 use Rattle.osq_program.specs.declared.status.Status.{Status}

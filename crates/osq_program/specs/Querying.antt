@@ -19,7 +19,7 @@ use Rattle.query_rounds.specs.declared.asking.Asked.{Asked}
 use Rattle.osq_program.specs.declared.status.Status.{Status}
 use Rattle.osq_program.specs.declared.status.Status.TheVariants.{Ok as Done, SinkFault, TicksSpent, OutOfMemory}
 use Rattle.osq_program.specs.Answers.{Causes, IsCaused, IsRefusal, no_causes}
-use Rattle.osq_program.specs.Reasons.{HasFailed, HasShrunk, IsUnfit}
+use Rattle.osq_program.specs.Reasons.{HasFailed, HasShrunk, IsFit, IsUnfit}
 use Rattle.osq_program.specs.Setups.{sources_named}
 use Rattle.osq_program.specs.Observed.{Observed}
 use Rattle.osq_program.specs.Watching.{IsRefusedIn, Watches}
@@ -77,11 +77,11 @@ causes_of words seen =
       refused = λ kind key. (text_fault words.text ≡ None) × IsRefusedIn seen.files_tell seen.file words.config kind key;
       keeper = IsPosed words seen × seen.keeper_failed;
       unfit = IsPosed words seen × IsUnfit seen;
-      moment = λ moment. IsPosed words seen × seen.reads moment × (LAST_MOMENT < moment);
-      source = λ name. IsPosed words seen × HasFailed words.sources seen name;
-      shrank = λ name kept found. IsPosed words seen × HasShrunk words.sources seen name kept found;
-      numbers = (posed : IsPosed words seen) × (seen.keeper_tells → seen.source_tells → Legal seen.kept_before → (given : Given) → IsQueryGiven words seen posed given → Spends given seen.kept_before words.ticks);
-      sink = IsPosed words seen × (seen.results_failed ⊎ seen.status_failed);
+      moment = λ moment. IsPosed words seen × IsFit seen × seen.reads moment × (LAST_MOMENT < moment);
+      source = λ name. IsPosed words seen × IsFit seen × HasFailed words.sources seen name;
+      shrank = λ name kept found. IsPosed words seen × IsFit seen × HasShrunk words.sources seen name kept found;
+      numbers = (posed : IsPosed words seen) × IsFit seen × (seen.keeper_tells → seen.source_tells → Legal seen.kept_before → (given : Given) → IsQueryGiven words seen posed given → Spends given seen.kept_before words.ticks);
+      sink = IsPosed words seen × ((IsFit seen × seen.results_failed) ⊎ seen.status_failed);
     }
 
 -- What the writing of these lines leaves of a sink: all of them or, at its fault, a front part; and none, where the sources had more.

@@ -12,6 +12,10 @@ use Rattle.osq_program.specs.Observed.{Observed}
 abbrev pub IsUnfit : Observed → Type 0
 IsUnfit seen = seen.keeper_tells → (¬ Legal seen.kept_before) × (¬ Fits (summary seen.kept_before))
 
+-- a session may go on from the kept list, where the keeper tells of it
+abbrev pub IsFit : Observed → Type 0
+IsFit seen = seen.keeper_tells → Fits (summary seen.kept_before)
+
 -- of these sources the one of this name failed
 abbrev pub HasFailed : List SourceName → Observed → List ℕ → Type 0
 HasFailed sources seen name = (place : ℕ) × IsNamedAt sources place name × seen.failed_at place

@@ -17,7 +17,7 @@ use Rattle.osq_program.specs.declared.status.Status.{Status}
 use Rattle.osq_program.specs.declared.status.Status.TheVariants.{TicksSpent}
 use Rattle.osq_program.specs.Answers.{Causes, IsCaused, IsDoneStatus, IsSpentStatus, IsRefusal, no_causes}
 use Rattle.osq_program.specs.Checking.{IsRefusedFor}
-use Rattle.osq_program.specs.Reasons.{HasFailed, HasShrunk, IsUnfit}
+use Rattle.osq_program.specs.Reasons.{HasFailed, HasShrunk, IsFit, IsUnfit}
 use Rattle.osq_program.specs.Report.{final_line, refusal_line}
 use Rattle.osq_program.specs.Setups.{host_in, sources_named}
 use Rattle.osq_program.specs.Observed.{Observed, link_faults}
@@ -71,19 +71,20 @@ pub record Ran (order : Order) (words : ReplayWords) (seen : Observed) (is_end :
 abbrev pub IsTooLate : Observed → ℕ → Type 0
 IsTooLate seen moment = (LAST_MOMENT < moment) × ((readings : List ℕ) × seen.has_read (readings ++ moment ∷ []))
 
--- The causes of a session's refusals. Each behind the configuration carries that it was accepted.
+-- The causes of a session's refusals. Each behind the configuration carries that it was accepted, and each behind the kept list that a session may go on
+-- from that. Where none may, the list stays as it is.
 abbrev pub causes_of : Order → ReplayWords → Observed → Causes
 causes_of order words seen =
     record no_causes {
       files = seen.files_failed;
       refused = IsRefusedFor seen.files_tell seen.file words.config;
       keeper = IsAccepted words seen × seen.keeper_failed;
-      unfit = IsAccepted words seen × IsUnfit seen;
-      moment = λ moment. IsAccepted words seen × IsTooLate seen moment;
-      source = λ name. IsAccepted words seen × HasFailed words.sources seen name;
-      shrank = λ name kept found. IsAccepted words seen × HasShrunk words.sources seen name kept found;
-      numbers = (given : Given) × IsReplayGiven words seen given × RanOutOfNumbers (run_in order words seen given) seen.kept_after;
-      sink = IsAccepted words seen × (seen.results_failed ⊎ seen.status_failed);
+      unfit = IsAccepted words seen × IsUnfit seen × (seen.keeper_tells → seen.kept_after ≡ seen.kept_before);
+      moment = λ moment. IsAccepted words seen × IsFit seen × IsTooLate seen moment;
+      source = λ name. IsAccepted words seen × IsFit seen × HasFailed words.sources seen name;
+      shrank = λ name kept found. IsAccepted words seen × IsFit seen × HasShrunk words.sources seen name kept found;
+      numbers = (given : Given) × IsReplayGiven words seen given × IsFit seen × RanOutOfNumbers (run_in order words seen given) seen.kept_after;
+      sink = IsAccepted words seen × IsFit seen × (seen.results_failed ⊎ seen.status_failed);
     }
 
 -- The status stream has grown by what the session told: of each of its configurations with the packs that are left out, and of skipped lines; and

@@ -25,3 +25,10 @@ abbrev pub untaken_by : TakeError → AskError
 untaken_by (taking.SourceFault place) = ask.SourceFault place
 untaken_by taking.NumbersSpent = ask.NumbersSpent
 untaken_by taking.NoMemory = ask.NoMemory
+
+-- the list was loaded, and a session may go on from it
+abbrev pub IsBehindLoading : AskError → Type 0
+IsBehindLoading ask.KeeperFault = ⊥
+IsBehindLoading ask.KeeperRefused = ⊥
+IsBehindLoading ask.NoMemory = ⊥
+IsBehindLoading error = Unit {0}

@@ -1,6 +1,6 @@
 //! A question over a kept list and what its sources have behind it.
 
-ghost use Rattle.std.specs.Prelude.{◌≡◌, ◌<◌, ◌≤◌, ℕ, true, List, length, map, bytes_eq, Err, IfOk};
+ghost use Rattle.std.specs.Prelude.{◌≡◌, ◌<◌, ◌≤◌, ℕ, true, List, length, map, bytes_eq, Err, IfErr, IfOk};
 ghost use Rattle.osq_value.specs.declared.moment.TheConstants.{LAST_MOMENT};
 ghost use Rattle.osq_outside.specs.Causes.{Rose};
 ghost use Rattle.sql_texts.specs.Meaning.{is_accepted};
@@ -14,6 +14,7 @@ ghost use Rattle.daemon_rounds.specs.Rounding.{FailsAt};
 ghost use Rattle.daemon_rounds.specs.Starting.{HasShrunk, source_names};
 ghost use Rattle.query_rounds.specs.Asking.{IsAnswer, IsGivenFrom, AnswersSomeContinuation, Spends};
 ghost use Rattle.query_rounds.specs.Reading.{IsOverfull};
+ghost use Rattle.query_rounds.specs.Refusals.{IsBehindLoading};
 ghost use Rattle.query_rounds.specs.Skipping.{TellsSkipped};
 ghost use Rattle.query_rounds.specs.declared.error.AskError.{AskError};
 
@@ -62,6 +63,7 @@ pub fn ask_kept<S: Source, K: Keeper, C: Clock>(
     ensures answer { IfOk result (λ asked. (moment : ℕ) × C.reads clock.old moment clock.new × (moment ≤ LAST_MOMENT) × AnswersSomeContinuation K.tells (K.kept keeper.old) names.now text.now moment asked.rows × (K.tells → S.tells → Legal (K.kept keeper.old) → (given : Given) → IsGivenFrom S.left names.now sources.old paths.now records given → IsAnswer given (K.kept keeper.old) text.now rounds moment asked)) }
     ensures skipped { IfOk result (λ asked. (taken : List Taken) × (K.tells → taken ≡ (summary (K.kept keeper.old)).taken) × TellsSkipped S.tells paths.now taken names.now (map S.left sources.old) asked.is_end asked.skipped) }
     ensures fit { K.tells → IfOk result (λ asked. Fits (summary (K.kept keeper.old))) }
+    ensures fit_behind { K.tells → IfErr result (λ error. IsBehindLoading error → Fits (summary (K.kept keeper.old))) }
     ensures same { K.tells → K.kept keeper.new ≡ K.kept keeper.old }
     ensures keeper_cause { result ≡ Err AskError.KeeperFault → Rose (K.faults keeper.old) (K.faults keeper.new) }
     ensures refused { K.tells → result ≡ Err AskError.KeeperRefused → ¬ Fits (summary (K.kept keeper.old)) }

@@ -10,10 +10,13 @@ use Rattle.daemon_rounds.specs.declared.error.TakeError.TheVariants as taking
 use Rattle.entry_model.specs.declared.entry.Entry.{Entry}
 use Rattle.replay_rounds.specs.Fixed.{Fixed}
 use Rattle.session_state.specs.Kept.{Kept}
-use Rattle.replay_rounds.specs.Refusals.{tick_numbers, unfilled_by, unfinished_by, unfinished_numbers, unloaded_by, unopened_by}
+use Rattle.replay_rounds.specs.Refusals.{tick_numbers, unfilled_by, unfinished_by, unfinished_numbers, unloaded_by, unnoted_by, unopened_by}
 use Rattle.replay_rounds.specs.Running.{IsWritten}
+use Rattle.replay_rounds.specs.Stopping.{IsBehindLoading}
 use Rattle.replay_rounds.specs.declared.loading.LoadError.{LoadError}
 use Rattle.replay_rounds.specs.declared.loading.LoadError.TheVariants as loading
+use Rattle.replay_rounds.specs.declared.noting.NoteError.{NoteError}
+use Rattle.replay_rounds.specs.declared.noting.NoteError.TheVariants as noting
 use Rattle.replay_rounds.specs.declared.refused.Numbers.{Numbers}
 use Rattle.replay_rounds.specs.declared.refused.Refused.{Refused}
 use Rattle.replay_rounds.specs.declared.refused.RunError.{RunError}
@@ -115,6 +118,67 @@ unopened_spent (opening.SourceShrank place kept found) h = cc
 unopened_spent opening.NumbersSpent h = refl
 unopened_spent opening.NoMemory h = cc
 
+-- a session that isn't open, by its cause
+pub unopened_fault : (e : OpenError) (place : ℕ) → unopened_by e ≡ run.SourceFault place → e ≡ opening.SourceFault place
+unopened_fault (opening.MomentTooLarge moment) place h = cc
+unopened_fault (opening.SourceFault at) place h = cc
+unopened_fault (opening.SourceShrank at old read) place h = cc
+unopened_fault opening.NumbersSpent place h = cc
+unopened_fault opening.NoMemory place h = cc
+
+pub unopened_shrank : (e : OpenError) (place kept found : ℕ) → unopened_by e ≡ run.SourceShrank place kept found → e ≡ opening.SourceShrank place kept found
+unopened_shrank (opening.MomentTooLarge moment) place kept found h = cc
+unopened_shrank (opening.SourceFault at) place kept found h = cc
+unopened_shrank (opening.SourceShrank at old read) place kept found h = cc
+unopened_shrank opening.NumbersSpent place kept found h = cc
+unopened_shrank opening.NoMemory place kept found h = cc
+
+pub unopened_keeper : (e : OpenError) → unopened_by e ≡ run.KeeperFault → ⊥
+unopened_keeper (opening.MomentTooLarge moment) h = cc
+unopened_keeper (opening.SourceFault at) h = cc
+unopened_keeper (opening.SourceShrank at old read) h = cc
+unopened_keeper opening.NumbersSpent h = cc
+unopened_keeper opening.NoMemory h = cc
+
+pub unopened_refused : (e : OpenError) → unopened_by e ≡ run.KeeperRefused → ⊥
+unopened_refused (opening.MomentTooLarge moment) h = cc
+unopened_refused (opening.SourceFault at) h = cc
+unopened_refused (opening.SourceShrank at old read) h = cc
+unopened_refused opening.NumbersSpent h = cc
+unopened_refused opening.NoMemory h = cc
+
+pub unopened_sink : (e : OpenError) → unopened_by e ≡ run.SinkFault → ⊥
+unopened_sink (opening.MomentTooLarge moment) h = cc
+unopened_sink (opening.SourceFault at) h = cc
+unopened_sink (opening.SourceShrank at old read) h = cc
+unopened_sink opening.NumbersSpent h = cc
+unopened_sink opening.NoMemory h = cc
+
+-- lines that aren't written say nothing of what else may fail
+pub unnoted_keeper : (e : NoteError) → unnoted_by e ≡ run.KeeperFault → ⊥
+unnoted_keeper noting.SinkFault h = cc
+unnoted_keeper noting.NoMemory h = cc
+
+pub unnoted_refused : (e : NoteError) → unnoted_by e ≡ run.KeeperRefused → ⊥
+unnoted_refused noting.SinkFault h = cc
+unnoted_refused noting.NoMemory h = cc
+
+pub unnoted_late : (e : NoteError) (moment : ℕ) → unnoted_by e ≡ run.MomentTooLarge moment → ⊥
+unnoted_late noting.SinkFault moment h = cc
+unnoted_late noting.NoMemory moment h = cc
+
+pub unnoted_fault : (e : NoteError) (place : ℕ) → unnoted_by e ≡ run.SourceFault place → ⊥
+unnoted_fault noting.SinkFault place h = cc
+unnoted_fault noting.NoMemory place h = cc
+
+pub unnoted_shrank : (e : NoteError) (place kept found : ℕ) → unnoted_by e ≡ run.SourceShrank place kept found → ⊥
+unnoted_shrank noting.SinkFault place kept found h = cc
+unnoted_shrank noting.NoMemory place kept found h = cc
+
+pub unnoted_spent : (e : NoteError) → unnoted_by e ≡ run.NumbersSpent → ⊥
+unnoted_spent noting.SinkFault h = cc
+unnoted_spent noting.NoMemory h = cc
+
 -- the numbers of a tick that isn't filled
 pub unfilled_numbers : (e : TakeError) (sealed : Numbers) (state : Kept) → tick_numbers (unfilled_by e) sealed state ≡ sealed
 unfilled_numbers (taking.SourceFault at) sealed state = refl
@@ -149,3 +213,8 @@ by_sink run.NoMemory x kept written fault other = other (λ h. cc)
 -- what is answered is the refusal
 pub same_refusal : {A : Type 0} (x y : Refused) → ◌≡◌ {A = Result A Refused} (Err x) (Err y) → x ≡ y
 same_refusal x y h = cc
+
+pub not_loaded : (e : LoadError) → IsBehindLoading (unloaded_by e) → ⊥
+not_loaded loading.KeeperFault behind = behind
+not_loaded (loading.KeeperRefused kept) behind = behind
+not_loaded loading.NoMemory behind = behind

@@ -64,6 +64,13 @@ IsUnloaded running.KeeperFault = Unit {0}
 IsUnloaded running.NoMemory = Unit {0}
 IsUnloaded error = ⊥
 
+-- the list was loaded, and a session may go on from it
+abbrev pub IsBehindLoading : RunError → Type 0
+IsBehindLoading running.KeeperFault = ⊥
+IsBehindLoading running.KeeperRefused = ⊥
+IsBehindLoading running.NoMemory = ⊥
+IsBehindLoading error = Unit {0}
+
 -- Without numbers the list wasn't loaded, the clock wasn't read, and nothing was told.
 abbrev pub Stops : Run → List Entry → (untold : Type 0) → RunError → Option Numbers → Type 0
 Stops run kept untold error None = IsUnloaded error × run.has_read [] × untold

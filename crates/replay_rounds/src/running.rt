@@ -21,7 +21,7 @@ ghost use Rattle.replay_rounds.specs.Refusals.{numbers_of};
 ghost use Rattle.replay_rounds.specs.Running.{HasRun, IsKept, IsWritten, ReadsAll, run_of};
 ghost use Rattle.replay_rounds.specs.Sources.{all_over};
 ghost use Rattle.replay_rounds.specs.Spent.{RanOutOfNumbers};
-ghost use Rattle.replay_rounds.specs.Stopping.{HasShrunkFor, Stops};
+ghost use Rattle.replay_rounds.specs.Stopping.{HasShrunkFor, IsBehindLoading, Stops};
 ghost use Rattle.replay_rounds.specs.declared.refused.Refused.{Refused};
 ghost use Rattle.replay_rounds.specs.declared.refused.RunError.{RunError};
 
@@ -34,7 +34,7 @@ use crate::refused::{Numbers, Refused, RunError, numbers_in, numbers_of, unloade
 use crate::ticking::{Tick, take_next, take_tick};
 use batch_forwarder::Link;
 use batch_keeper::Keeper;
-use daemon_rounds::{MomentTooLarge, Session, TakesRound, asks_again, read_moment};
+use daemon_rounds::{MomentTooLarge, TakesRound, asks_again, read_moment};
 use entry_model::laws;
 use osq_outside::{Clock, Sink, Source};
 use session_state::State;
@@ -149,6 +149,8 @@ pub fn run_session<T: TakesRound<S>, S: Source, K: Keeper, O: Sink, C: Clock, L:
     ensures sealed { K.counts → basis.now.setup.forward ≡ false → OnOk result (HasSealedOf K.Keeper keeper.old keeper.new basis.now.setup.ticks) }
     ensures failed { K.counts → basis.now.setup.forward ≡ false → (refused : Refused) → result ≡ Err refused → refused.error ≡ RunError.KeeperFault → HasStoppedOf K.Keeper keeper.old keeper.new basis.now.setup.ticks }
     ensures fit { K.tells → IfOk result (λ ended. Fits (summary (K.kept keeper.old))) }
+    ensures fit_behind { K.tells → IfErr result (λ refused. IsBehindLoading refused.error → Fits (summary (K.kept keeper.old))) }
+    ensures unfit { K.tells → IfErr result (λ refused. refused.error ≡ RunError.KeeperRefused → K.kept keeper.new ≡ K.kept keeper.old) }
     ensures stops { IfErr result (λ refused. Stops (run_of T.order K.Keeper O.Sink S.Source L.Link C.Clock basis.now sources.old keeper.old results.old link.old clock.old clock.new) (K.kept keeper.new) (status.new ≡ status.old) refused.error refused.numbers) }
     ensures kept { K.tells → IsKept (run_of T.order K.Keeper O.Sink S.Source L.Link C.Clock basis.now sources.old keeper.old results.old link.old clock.old clock.new) (K.kept keeper.new) }
     ensures written { O.tells → IsWritten (fixed_of T.order K.Keeper O.Sink S.Source L.Link basis.now sources.old keeper.old results.old link.old) (K.kept keeper.new) (O.written results.new) }
@@ -173,53 +175,71 @@ pub fn run_session<T: TakesRound<S>, S: Source, K: Keeper, O: Sink, C: Clock, L:
         Err(error) => return Err(unloaded(error)),
     };
     let sealed = numbers_in(&restored);
-    let Session {
-        mut state,
-        mut feeds,
-        configured_at,
-        found: _,
-    } = match open_noted(basis, restored, clock, sources, status) {
+    let mut session = match open_noted(basis, restored, clock, sources, status) {
         Ok(session) => session,
         Err(refused) => return Err(refused),
     };
-    let feeds = feeds.as_mut_slice();
+    let state = &mut session.state;
+    let feeds = session.feeds.as_mut_slice();
+    let configured_at = session.configured_at;
     let first = Tick {
         moment: configured_at,
         configured_at,
         sealed,
     };
-    let mut last = match take_tick(
-        order, basis, &mut state, feeds, sources, keeper, results, first,
-    ) {
+    let mut last = match take_tick(order, basis, state, feeds, sources, keeper, results, first) {
         Ok(last) => last,
-        Err(refused) => return Err(told(basis.alloc, feeds, status, refused)),
+        Err(refused) => {
+            let refused = told(basis.alloc, feeds, status, refused);
+            // At each end by a call: the drop of a session is dear to prove where it stands among so many loans.
+            drop(session);
+            return Err(refused);
+        }
     };
     for _ in 1..basis.setup.ticks {
-        let marks = match forward_sealed(basis, &state, keeper, link) {
+        let marks = match forward_sealed(basis, state, keeper, link) {
             Ok(marks) => marks,
-            Err(refused) => return Err(told(basis.alloc, feeds, status, refused)),
+            Err(refused) => {
+                let refused = told(basis.alloc, feeds, status, refused);
+                drop(session);
+                return Err(refused);
+            }
         };
-        let moment = match next_moment(basis, clock, &state, status, last) {
+        let moment = match next_moment(basis, clock, state, status, last) {
             Ok(moment) => moment,
-            Err(refused) => return Err(told(basis.alloc, feeds, status, refused)),
+            Err(refused) => {
+                let refused = told(basis.alloc, feeds, status, refused);
+                drop(session);
+                return Err(refused);
+            }
         };
-        let sealed = numbers_of(&state);
+        let sealed = numbers_of(state);
         let tick = Tick {
             moment,
             configured_at: last,
             sealed,
         };
         last = match take_next(
-            order, basis, &mut state, feeds, sources, keeper, results, &marks, tick,
+            order, basis, state, feeds, sources, keeper, results, &marks, tick,
         ) {
             Ok(last) => last,
-            Err(refused) => return Err(told(basis.alloc, feeds, status, refused)),
+            Err(refused) => {
+                let refused = told(basis.alloc, feeds, status, refused);
+                drop(session);
+                return Err(refused);
+            }
         };
     }
-    match forward_last(basis, &mut state, keeper, link) {
+    match forward_last(basis, state, keeper, link) {
         Ok(()) => {}
-        Err(refused) => return Err(told(basis.alloc, feeds, status, refused)),
+        Err(refused) => {
+            let refused = told(basis.alloc, feeds, status, refused);
+            drop(session);
+            return Err(refused);
+        }
     }
     state.is_state();
-    end_session(basis.alloc, &state, feeds, status)
+    let ended = end_session(basis.alloc, state, feeds, status);
+    drop(session);
+    ended
 }

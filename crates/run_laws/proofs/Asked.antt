@@ -56,13 +56,13 @@ module _ (words : QueryWords) (seen : Observed) (bounds : RunBounds words.start 
     keeper = λ cause. fails.keeper cause.1;
     unfit = λ cause. (cause.1 ready.ready.keeper_tells).0 ready.ready.legal;
     moment = λ moment cause.
-        let early = ready.early moment cause.1 in
-        let late = cause.2 in
+        let early = ready.early moment cause.2 in
+        let late = cause.3 in
         omega (arith, early, late);
-    source = λ name cause. fails.sources cause.1.0 cause.1.2;
-    shrank = λ name kept found cause. not_shrunk words.sources seen name kept found ready.ready.keeper_tells ready.ready.source_tells ready.ready.there cause.1;
-    numbers = λ cause. ready.numbers cause.0 (over cause.0) (is_over cause.0) (cause.1 ready.ready.keeper_tells ready.ready.source_tells ready.ready.legal (over cause.0) (is_over cause.0));
-    sink = λ cause. either fails.results fails.status cause.1;
+    source = λ name cause. fails.sources cause.2.0 cause.2.2;
+    shrank = λ name kept found cause. not_shrunk words.sources seen name kept found ready.ready.keeper_tells ready.ready.source_tells ready.ready.there cause.2;
+    numbers = λ cause. ready.numbers cause.0 (over cause.0) (is_over cause.0) (cause.2 ready.ready.keeper_tells ready.ready.source_tells ready.ready.legal (over cause.0) (is_over cause.0));
+    sink = λ cause. either (λ failed. fails.results failed.1) fails.status cause.1;
   }
 
   -- rounds that left more were too few

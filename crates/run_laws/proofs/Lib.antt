@@ -5,6 +5,7 @@ mod Complete
 mod Documents
 mod Ended
 mod Generated
+mod Isolated
 mod Lines
 mod Names
 mod Replayed

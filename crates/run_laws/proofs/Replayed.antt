@@ -37,13 +37,13 @@ module _ (order : Order) (words : ReplayWords) (seen : Observed) (bounds : RunBo
     keeper = λ cause. fails.keeper cause.1;
     unfit = λ cause. (cause.1 ready.ready.keeper_tells).0 ready.ready.legal;
     moment = λ moment cause.
-        let early : moment ≤ LAST_MOMENT = all_end (λ (reading : ℕ). reading ≤ LAST_MOMENT) cause.1.1.0 moment (ready.early (cause.1.1.0 ++ moment ∷ []) cause.1.1.1) in
-        let late = cause.1.0 in
+        let early : moment ≤ LAST_MOMENT = all_end (λ (reading : ℕ). reading ≤ LAST_MOMENT) cause.2.1.0 moment (ready.early (cause.2.1.0 ++ moment ∷ []) cause.2.1.1) in
+        let late = cause.2.0 in
         omega (arith, early, late);
-    source = λ name cause. fails.sources cause.1.0 cause.1.2;
-    shrank = λ name kept found cause. not_shrunk words.sources seen name kept found ready.ready.keeper_tells ready.ready.source_tells ready.ready.there cause.1;
-    numbers = λ cause. ready.numbers cause.0 cause.1 cause.2;
-    sink = λ cause. either fails.results fails.status cause.1;
+    source = λ name cause. fails.sources cause.2.0 cause.2.2;
+    shrank = λ name kept found cause. not_shrunk words.sources seen name kept found ready.ready.keeper_tells ready.ready.source_tells ready.ready.there cause.2;
+    numbers = λ cause. ready.numbers cause.0 cause.1 cause.3;
+    sink = λ cause. either fails.results fails.status cause.2;
   }
 
   -- a run that isn't at its sources' ends had too few ticks

@@ -1,5 +1,6 @@
 pub mod Completeness
 pub mod Enough
+pub mod Isolation
 pub mod OneList
 pub mod Ready
 pub mod SelfTest

@@ -1,14 +1,17 @@
-use Rattle.std.proofs.Common.{Err, refl, inl, inr, ℕ, List, [], take, ap, sym, subst, ◌∙◌, ◌++◌, append_assoc, map, length}
+use Rattle.std.proofs.Common.{◌≡◌, Err, refl, inl, inr, ℕ, List, take, ap, sym, subst, ◌∙◌, ◌++◌, append_assoc, map, length}
 use Rattle.osq_value.specs.declared.source.SourceName.{SourceName}
 use Rattle.sql_query.specs.Resolved.{query_of}
 use Rattle.sql_texts.specs.TextFaults.{text_fault}
 use Rattle.sql_texts.specs.Texts.{query_in}
 use Rattle.query_rounds.specs.Asking.{IsAnswer}
+use Rattle.query_rounds.specs.Refusals.{IsBehindLoading}
+use Rattle.query_rounds.specs.declared.error.AskError.{AskError}
+use Rattle.query_rounds.specs.declared.error.AskError.TheVariants as ask
 use Rattle.osq_program.specs.Ending.{IsAnswerTo}
-use Rattle.osq_program.specs.Telling.{MayQueryTell, TellsSome}
-use Rattle.osq_program.specs.declared.status.Status.TheVariants.{OutOfMemory, SinkFault}
+use Rattle.osq_program.specs.Telling.{MayQueryTell}
+use Rattle.osq_program.specs.declared.status.Status.TheVariants.{SinkFault}
 use Rattle.osq_program.proofs.Ended.{later_then, rose_behind}
-use Rattle.osq_program.proofs.Toldings.{refused_cause, tells_end, tells_line, tells_more, tells_more_refused, tells_part, tells_part_behind, tells_refused, tells_unconfigured, unconfigured_cause}
+use Rattle.osq_program.proofs.Toldings.{refused_cause, tells_end, tells_more, tells_more_refused, tells_part, tells_part_behind, tells_refused, tells_unconfigured, unconfigured_cause}
 use Rattle.osq_program.proofs.Questions.{accepted_by, answered, answered_may, config_may, ended_may, text_may, unskipped_may, as_fault, as_keeper, as_late, as_refused, as_shrank, as_spent, given_for, meant_for, no_sink, of_text, posed_by, refused_config, refused_text, same_lines, skips_for, unanswered, untold}
 use Rattle.osq_program.proofs.Replays.{answered as caused, fails_there, is_within, shrank_by}
 use Rattle.osq_program.proofs.Setups.{names_distinct}
@@ -78,18 +81,19 @@ returns-clause-does g c =
     let by = sym c.ended.ensures in
     let names = c.as_slice-2.ensures in
     let bytes = sym (ap (map left) c.as_mut_slice.ensures.value) in
+    let fit = λ (error : AskError) (is : e ≡ error) (behind : IsBehindLoading error) (tells : g.K.Keeper.tells). s.fit_behind tells (subst IsBehindLoading (sym is) behind) in
     let posed = posed_by c.args.words.now _ _ watched.paths watched.notes c.as_str-text.ensures c.in-Ok.ensures.accepted c.in-Ok-watched_by.ensures.watched in
     let answer = subst (λ (sources : List SourceName). IsAnswerTo sources c.ended.result c.answer_to-status.result) c.as_slice-in-Err-ask_kept.ensures c.answer_to-status.ensures in
     unanswered _ _ c.refuse-in-Err-ask_kept.result _ refl (refused_cause _ c.answer_to-status.result c.refuse-in-Err-ask_kept.result c.refuse-in-Err-ask_kept.ensures.same
     (caused _ c.args.words.now.sources c.ended.result _ answer
     (λ is. (posed, s.keeper_cause (ap Err (as_keeper e (by ∙ is)))))
     (λ is. (posed, λ tells. (s.illegal tells (ap Err (as_refused e (by ∙ is))), s.refused tells (ap Err (as_refused e (by ∙ is))))))
-    (λ moment is. let late = s.moment moment (ap Err (as_late e moment (by ∙ is))) in (posed, late.0, late.1))
-    (λ place name is named. (posed, (place, named, fails_there g.S.Source.faults place _ _ _ _ _ c.as_mut_slice.ensures.value c.as_mut_slice.ensures.len (s.fault place (ap Err (as_fault e place (by ∙ is)))))))
+    (λ moment is. let late = s.moment moment (ap Err (as_late e moment (by ∙ is))) in (posed, fit (ask.MomentTooLarge moment) (as_late e moment (by ∙ is)) tt, late.0, late.1))
+    (λ place name is named. (posed, fit (ask.SourceFault place) (as_fault e place (by ∙ is)) tt, (place, named, fails_there g.S.Source.faults place _ _ _ _ _ c.as_mut_slice.ensures.value c.as_mut_slice.ensures.len (s.fault place (ap Err (as_fault e place (by ∙ is)))))))
     (λ place kept found name is named.
     let h = s.shrank place kept found (ap Err (as_shrank e place kept found (by ∙ is))) in
-    (posed, shrank_by left _ _ _ _ h.0 place kept found name names bytes h.1 h.2 named))
-    (λ is. (posed, λ kept_told source_told legal given over. s.spent (ap Err (as_spent e (by ∙ is))) kept_told source_told legal given (given_for left _ _ _ _ _ given names bytes over)))
+    (posed, fit (ask.SourceShrank place kept found) (as_shrank e place kept found (by ∙ is)) tt, shrank_by left _ _ _ _ h.0 place kept found name names bytes h.1 h.2 named))
+    (λ is. (posed, fit ask.NumbersSpent (as_spent e (by ∙ is)) tt, λ kept_told source_told legal given over. s.spent (ap Err (as_spent e (by ∙ is))) kept_told source_told legal given (given_for left _ _ _ _ _ given names bytes over)))
     (λ is. no_sink e (by ∙ is))))
     (λ tells. refl) s.same
 

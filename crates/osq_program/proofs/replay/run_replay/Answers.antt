@@ -1,7 +1,10 @@
-use Rattle.std.proofs.Common.{refl, ℕ, ◌-◌, List, ap, sym, subst, ◌∙◌, map, length}
+use Rattle.std.proofs.Common.{◌≡◌, refl, ℕ, ◌-◌, List, ap, sym, subst, ◌∙◌, map, length}
 use Rattle.osq_value.specs.declared.source.SourceName.{SourceName}
 use Rattle.daemon_rounds.specs.declared.setup.Setup.{Setup}
 use Rattle.replay_rounds.specs.Called.{HasSealedOf, HasStoppedOf}
+use Rattle.replay_rounds.specs.Stopping.{IsBehindLoading}
+use Rattle.replay_rounds.specs.declared.refused.RunError.{RunError}
+use Rattle.replay_rounds.specs.declared.refused.RunError.TheVariants.{MomentTooLarge, SourceFault, SourceShrank, NumbersSpent, SinkFault}
 use Rattle.osq_program.specs.Answers.{IsDoneStatus}
 use Rattle.osq_program.specs.Ending.{IsAnswerTo}
 use Rattle.osq_program.proofs.Ended.{failed_before, rose_behind}
@@ -93,17 +96,18 @@ returns-clause-does g c =
     let is = given_is left _ _ setup c.in-Ok.configured.config c.in-Ok.configured.documents c.in-Ok.configured.notes _ c.in-Ok-setup_of.ensures bytes c.in-Ok.ensures.config in
     let answer = subst (λ (sources : List SourceName). IsAnswerTo sources r.error c.answer_to-status.result) c.as_slice.ensures c.answer_to-status.ensures in
     let same = setup_forwards setup c.args.words.now c.in-Ok-setup_of.ensures in
+    let fit = λ (e : RunError) (is : r.error ≡ e) (behind : IsBehindLoading e) (tells : g.K.Keeper.tells). s.fit_behind tells (subst IsBehindLoading (sym is) behind) in
     stopped_if g.T.TakesRound.order c.args.words.now _ c.stop.result _ is setup.forward same (λ spends. stopped_cause _ c.answer_to-status.result c.stop.result c.stop.ensures.same
     (answered _ c.args.words.now.sources r.error _ answer
     (λ e. ((_, is), s.keeper_cause r refl e))
-    (λ e. ((_, is), λ tells. (s.illegal tells r refl e, s.refused tells r refl e)))
-    (λ moment e. ((_, is), s.moment r moment refl e))
-    (λ place name e named. ((_, is), (place, named, fails_there g.S.Source.faults place _ _ _ _ _ c.as_mut_slice.ensures.value c.as_mut_slice.ensures.len (s.fault r place refl e))))
+    (λ e. ((_, is), λ tells. (s.illegal tells r refl e, s.refused tells r refl e), λ tells. s.unfit tells e))
+    (λ moment e. ((_, is), fit (MomentTooLarge moment) e tt, s.moment r moment refl e))
+    (λ place name e named. ((_, is), fit (SourceFault place) e tt, (place, named, fails_there g.S.Source.faults place _ _ _ _ _ c.as_mut_slice.ensures.value c.as_mut_slice.ensures.len (s.fault r place refl e))))
     (λ place kept found name e named.
     let h = s.shrank r place kept found refl e in
-    ((_, is), shrank_by left _ _ setup.sources _ h.0 place kept found name (ap (λ (s : Setup). s.sources) c.in-Ok-setup_of.ensures) bytes h.1 h.2 named))
-    (λ e. spends (s.spent r refl e))
-    (λ e. ((_, is), failed_before _ _ _ _ c.stop.ensures.later (s.sink_cause r refl e)))))
+    ((_, is), fit (SourceShrank place kept found) e tt, shrank_by left _ _ setup.sources _ h.0 place kept found name (ap (λ (s : Setup). s.sources) c.in-Ok-setup_of.ensures) bytes h.1 h.2 named))
+    (λ e. spends (fit NumbersSpent e tt) (s.spent r refl e))
+    (λ e. ((_, is), fit SinkFault e tt, failed_before _ _ _ _ c.stop.ensures.later (s.sink_cause r refl e)))))
     s.kept s.written
 
 pub returns-in-Ok-run_session-clause-told : goal.returns-in-Ok-run_session-clause-told

@@ -3,10 +3,11 @@ use Rattle.osq_value.specs.declared.moment.TheConstants.{LAST_MOMENT}
 use Rattle.entry_model.specs.Fits.{Fits}
 use Rattle.entry_model.specs.declared.restored.Restored.{Restored}
 use Rattle.query_rounds.specs.Reading.{HasRead, IsOverfull}
+use Rattle.query_rounds.specs.Refusals.{IsBehindLoading}
 use Rattle.query_rounds.specs.declared.error.AskError.TheVariants.{KeeperRefused, NumbersSpent}
 use Rattle.query_rounds.proofs.Answered.{answered}
 use Rattle.query_rounds.proofs.Meant.{meant}
-use Rattle.query_rounds.proofs.Refused.{unloaded_refused}
+use Rattle.query_rounds.proofs.Refused.{not_loaded, unloaded_refused}
 use Rattle.query_rounds.proofs.Spent.{has_spent}
 use Rattle.query_rounds.proofs.asking.ask_kept.Goals as goal
 
@@ -54,3 +55,12 @@ returns-in-Err-clause-illegal g c = λ told is.
     let why : c.unloaded.result ≡ KeeperRefused = cc in
     let (kept, loading) = unloaded_refused c.in-Err.error (sym c.unloaded.ensures ∙ why) in
     c.load_values.ensures.illegal told kept (c.in-Err.is ∙ ap Err loading)
+
+pub returns-in-Err-clause-fit_behind : goal.returns-in-Err-clause-fit_behind
+returns-in-Err-clause-fit_behind g c told behind = absurd (not_loaded c.in-Err.error (subst IsBehindLoading c.unloaded.ensures behind))
+
+pub returns-in-Err-read_moment-clause-fit_behind : goal.returns-in-Err-read_moment-clause-fit_behind
+returns-in-Err-read_moment-clause-fit_behind g c told behind = subst Fits (c.in-Ok.ensures.value told) c.in-Ok.ensures.fits
+
+pub returns-in-Err-read_behind-clause-fit_behind : goal.returns-in-Err-read_behind-clause-fit_behind
+returns-in-Err-read_behind-clause-fit_behind g c told behind = subst Fits (c.in-Ok.ensures.value told) c.in-Ok.ensures.fits

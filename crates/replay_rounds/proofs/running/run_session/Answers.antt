@@ -20,11 +20,11 @@ use Rattle.replay_rounds.specs.OneTick.{ticks_of}
 use Rattle.replay_rounds.specs.Refusals.{numbers_in, numbers_of}
 use Rattle.replay_rounds.specs.Running.{IsKept, IsWritten, ReadsAll, run_of}
 use Rattle.replay_rounds.specs.Sources.{sources_of}
-use Rattle.replay_rounds.specs.Stopping.{AreNumbersOf, AreSealed, HasNumbers, Stops}
+use Rattle.replay_rounds.specs.Stopping.{AreNumbersOf, AreSealed, HasNumbers, IsBehindLoading, Stops}
 use Rattle.replay_rounds.specs.declared.refused.Numbers.{Numbers}
 use Rattle.replay_rounds.specs.declared.refused.Refused.{Refused}
 use Rattle.replay_rounds.proofs.Called.{none_acked, none_opening, not_both, on_ok, first_sealed, next_sealed, sealed_ticks, stopped_first, stopped_load, stopped_next, tick_begins}
-use Rattle.replay_rounds.proofs.Causes.{by_sink, same_refusal, spent_not_keeper, spent_not_sink, unloaded_keeper}
+use Rattle.replay_rounds.proofs.Causes.{by_sink, not_loaded, same_refusal, spent_not_keeper, spent_not_sink, unloaded_keeper}
 use Rattle.replay_rounds.proofs.Done.{has_run}
 use Rattle.replay_rounds.proofs.Full.{HaveSteps}
 use Rattle.replay_rounds.proofs.Grown.{grown_then, of_error, of_value}
@@ -98,29 +98,29 @@ returns-in-Err-take_tick-clause-written g c told =
 
 pub returns-in-Err-take_tick-clause-keeper_cause : goal.returns-in-Err-take_tick-clause-keeper_cause
 returns-in-Err-take_tick-clause-keeper_cause g c refused is error =
-    let same : c.in-Err-take_tick.refused ≡ refused = sym c.told.ensures.same ∙ same_refusal _ _ is in
+    let same : c.in-Err-take_tick.refused ≡ refused = sym c.told-refused.ensures.same ∙ same_refusal _ _ is in
     let rose = c.take_tick.ensures.keeper_cause c.in-Err-take_tick.refused c.in-Err-take_tick.is (ap (λ (r : Refused). r.error) same ∙ error) in
     let loaded = c.load_values.ensures.later in
     omega (arith, rose, loaded)
 
 pub returns-in-Err-take_tick-clause-refused : goal.returns-in-Err-take_tick-clause-refused
 returns-in-Err-take_tick-clause-refused g c told refused is error fits =
-    let same : c.in-Err-take_tick.refused ≡ refused = sym c.told.ensures.same ∙ same_refusal _ _ is in
+    let same : c.in-Err-take_tick.refused ≡ refused = sym c.told-refused.ensures.same ∙ same_refusal _ _ is in
     (c.take_tick.ensures.opened c.in-Err-take_tick.refused c.in-Err-take_tick.is).0 (ap (λ (r : Refused). r.error) same ∙ error)
 
 pub returns-in-Err-take_tick-clause-illegal : goal.returns-in-Err-take_tick-clause-illegal
 returns-in-Err-take_tick-clause-illegal g c told refused is error legal =
-    let same : c.in-Err-take_tick.refused ≡ refused = sym c.told.ensures.same ∙ same_refusal _ _ is in
+    let same : c.in-Err-take_tick.refused ≡ refused = sym c.told-refused.ensures.same ∙ same_refusal _ _ is in
     (c.take_tick.ensures.opened c.in-Err-take_tick.refused c.in-Err-take_tick.is).0 (ap (λ (r : Refused). r.error) same ∙ error)
 
 pub returns-in-Err-take_tick-clause-moment : goal.returns-in-Err-take_tick-clause-moment
 returns-in-Err-take_tick-clause-moment g c refused moment is error =
-    let same : c.in-Err-take_tick.refused ≡ refused = sym c.told.ensures.same ∙ same_refusal _ _ is in
+    let same : c.in-Err-take_tick.refused ≡ refused = sym c.told-refused.ensures.same ∙ same_refusal _ _ is in
     absurd ((c.take_tick.ensures.opened c.in-Err-take_tick.refused c.in-Err-take_tick.is).1 moment (ap (λ (r : Refused). r.error) same ∙ error))
 
 pub returns-in-Err-take_tick-clause-fault : goal.returns-in-Err-take_tick-clause-fault
 returns-in-Err-take_tick-clause-fault g c refused place is error =
-    let same : c.in-Err-take_tick.refused ≡ refused = sym c.told.ensures.same ∙ same_refusal _ _ is in
+    let same : c.in-Err-take_tick.refused ≡ refused = sym c.told-refused.ensures.same ∙ same_refusal _ _ is in
     let failed = c.take_tick.ensures.fault c.in-Err-take_tick.refused place c.in-Err-take_tick.is (ap (λ (r : Refused). r.error) same ∙ error) in
     let kept_is = c.in-Ok.ensures.same in
     let opens = opens_here g.T.TakesRound.order _ g.O.Sink.tells _ _ _ _ _ _ _ _ (g.O.Sink.written c.args.results.now) (linked_by g.L.Link c.args.basis.now.setup c.args.link.now) _ _ c.open_noted.new.clock c.in-Ok.restored (g.K.Keeper.kept c.load_values.new.keeper) c.in-Ok-open_noted.session.feeds.items c.as_mut_slice-feeds.result.now c.open_noted.new.sources c.in-Ok-open_noted.session.configured_at c.in-Ok-open_noted.session.state c.in-Ok.ensures.value kept_is c.requires.distinct c.in-Ok-open_noted.ensures.opened c.as_mut_slice-feeds.ensures.value in
@@ -129,12 +129,12 @@ returns-in-Err-take_tick-clause-fault g c refused place is error =
 
 pub returns-in-Err-take_tick-clause-shrank : goal.returns-in-Err-take_tick-clause-shrank
 returns-in-Err-take_tick-clause-shrank g c refused place kept found is error =
-    let same : c.in-Err-take_tick.refused ≡ refused = sym c.told.ensures.same ∙ same_refusal _ _ is in
+    let same : c.in-Err-take_tick.refused ≡ refused = sym c.told-refused.ensures.same ∙ same_refusal _ _ is in
     absurd ((c.take_tick.ensures.opened c.in-Err-take_tick.refused c.in-Err-take_tick.is).2 place kept found (ap (λ (r : Refused). r.error) same ∙ error))
 
 pub returns-in-Err-take_tick-clause-spent : goal.returns-in-Err-take_tick-clause-spent
 returns-in-Err-take_tick-clause-spent g c refused is error =
-    let same : c.in-Err-take_tick.refused ≡ refused = sym c.told.ensures.same ∙ same_refusal _ _ is in
+    let same : c.in-Err-take_tick.refused ≡ refused = sym c.told-refused.ensures.same ∙ same_refusal _ _ is in
     let why = ap (λ (r : Refused). r.error) same ∙ error in
     let kept_is = c.in-Ok.ensures.same in
     let opens = opens_here _ _ _ _ _ _ _ _ _ _ _ _ _ _ _ c.open_noted.new.clock c.in-Ok.restored (g.K.Keeper.kept c.load_values.new.keeper) c.in-Ok-open_noted.session.feeds.items c.as_mut_slice-feeds.result.now c.open_noted.new.sources c.in-Ok-open_noted.session.configured_at c.in-Ok-open_noted.session.state c.in-Ok.ensures.value kept_is c.requires.distinct c.in-Ok-open_noted.ensures.opened c.as_mut_slice-feeds.ensures.value in
@@ -144,12 +144,12 @@ returns-in-Err-take_tick-clause-spent g c refused is error =
 
 pub returns-in-Err-take_tick-clause-sink_cause : goal.returns-in-Err-take_tick-clause-sink_cause
 returns-in-Err-take_tick-clause-sink_cause g c refused is error =
-    let same : c.in-Err-take_tick.refused ≡ refused = sym c.told.ensures.same ∙ same_refusal _ _ is in
+    let same : c.in-Err-take_tick.refused ≡ refused = sym c.told-refused.ensures.same ∙ same_refusal _ _ is in
     inl (c.take_tick.ensures.sink_cause c.in-Err-take_tick.refused c.in-Err-take_tick.is (ap (λ (r : Refused). r.error) same ∙ error))
 
 pub returns-in-Err-take_tick-clause-notes : goal.returns-in-Err-take_tick-clause-notes
 returns-in-Err-take_tick-clause-notes g c tells =
-    grown_then _ _ _ (c.open_noted.ensures.grown tells) (c.told.ensures.grown tells)
+    grown_then _ _ _ (c.open_noted.ensures.grown tells) (c.told-refused.ensures.grown tells)
 
 pub loop-init : goal.loop-init
 loop-init g c =
@@ -188,52 +188,52 @@ returns-in-Err-next_moment-clause-written g c told =
 
 pub returns-in-Err-next_moment-clause-keeper_cause : goal.returns-in-Err-next_moment-clause-keeper_cause
 returns-in-Err-next_moment-clause-keeper_cause g c refused is error =
-    let same : c.in-Err-next_moment.refused ≡ refused = sym c.told-in-Err-next_moment.ensures.same ∙ same_refusal _ _ is in
+    let same : c.in-Err-next_moment.refused ≡ refused = sym c.told-refused-in-Err-next_moment.ensures.same ∙ same_refusal _ _ is in
     absurd (subst (IsBetween _ _) (ap (λ (r : Refused). r.error) same ∙ error) c.in-Err-next_moment.ensures.cause)
 
 pub returns-in-Err-next_moment-clause-refused : goal.returns-in-Err-next_moment-clause-refused
 returns-in-Err-next_moment-clause-refused g c told refused is error =
-    let same : c.in-Err-next_moment.refused ≡ refused = sym c.told-in-Err-next_moment.ensures.same ∙ same_refusal _ _ is in
+    let same : c.in-Err-next_moment.refused ≡ refused = sym c.told-refused-in-Err-next_moment.ensures.same ∙ same_refusal _ _ is in
     absurd (subst (IsBetween _ _) (ap (λ (r : Refused). r.error) same ∙ error) c.in-Err-next_moment.ensures.cause)
 
 pub returns-in-Err-next_moment-clause-illegal : goal.returns-in-Err-next_moment-clause-illegal
 returns-in-Err-next_moment-clause-illegal g c told refused is error =
-    let same : c.in-Err-next_moment.refused ≡ refused = sym c.told-in-Err-next_moment.ensures.same ∙ same_refusal _ _ is in
+    let same : c.in-Err-next_moment.refused ≡ refused = sym c.told-refused-in-Err-next_moment.ensures.same ∙ same_refusal _ _ is in
     absurd (subst (IsBetween _ _) (ap (λ (r : Refused). r.error) same ∙ error) c.in-Err-next_moment.ensures.cause)
 
 pub returns-in-Err-next_moment-clause-moment : goal.returns-in-Err-next_moment-clause-moment
 returns-in-Err-next_moment-clause-moment g c refused moment is error =
-    let same : c.in-Err-next_moment.refused ≡ refused = sym c.told-in-Err-next_moment.ensures.same ∙ same_refusal _ _ is in
+    let same : c.in-Err-next_moment.refused ≡ refused = sym c.told-refused-in-Err-next_moment.ensures.same ∙ same_refusal _ _ is in
     let (read, beyond) = subst (IsBetween _ _) (ap (λ (r : Refused). r.error) same ∙ error) c.in-Err-next_moment.ensures.cause in
     let r = c.loop.invariant.looping.running.added in
     (beyond, (readings_of r.beats ++ r.reading ∷ [], reads_more g.C.Clock.reads c.args.clock.now c.loop.clock c.next_moment.new.clock (readings_of r.beats ++ r.reading ∷ []) moment r.read read))
 
 pub returns-in-Err-next_moment-clause-fault : goal.returns-in-Err-next_moment-clause-fault
 returns-in-Err-next_moment-clause-fault g c refused place is error =
-    let same : c.in-Err-next_moment.refused ≡ refused = sym c.told-in-Err-next_moment.ensures.same ∙ same_refusal _ _ is in
+    let same : c.in-Err-next_moment.refused ≡ refused = sym c.told-refused-in-Err-next_moment.ensures.same ∙ same_refusal _ _ is in
     absurd (subst (IsBetween _ _) (ap (λ (r : Refused). r.error) same ∙ error) c.in-Err-next_moment.ensures.cause)
 
 pub returns-in-Err-next_moment-clause-shrank : goal.returns-in-Err-next_moment-clause-shrank
 returns-in-Err-next_moment-clause-shrank g c refused place kept found is error =
-    let same : c.in-Err-next_moment.refused ≡ refused = sym c.told-in-Err-next_moment.ensures.same ∙ same_refusal _ _ is in
+    let same : c.in-Err-next_moment.refused ≡ refused = sym c.told-refused-in-Err-next_moment.ensures.same ∙ same_refusal _ _ is in
     absurd (subst (IsBetween _ _) (ap (λ (r : Refused). r.error) same ∙ error) c.in-Err-next_moment.ensures.cause)
 
 pub returns-in-Err-next_moment-clause-spent : goal.returns-in-Err-next_moment-clause-spent
 returns-in-Err-next_moment-clause-spent g c refused is error =
-    let same : c.in-Err-next_moment.refused ≡ refused = sym c.told-in-Err-next_moment.ensures.same ∙ same_refusal _ _ is in
+    let same : c.in-Err-next_moment.refused ≡ refused = sym c.told-refused-in-Err-next_moment.ensures.same ∙ same_refusal _ _ is in
     absurd (subst (IsBetween _ _) (ap (λ (r : Refused). r.error) same ∙ error) c.in-Err-next_moment.ensures.cause)
 
 pub returns-in-Err-next_moment-clause-sink_cause : goal.returns-in-Err-next_moment-clause-sink_cause
 returns-in-Err-next_moment-clause-sink_cause g c refused is error =
-    let same : c.in-Err-next_moment.refused ≡ refused = sym c.told-in-Err-next_moment.ensures.same ∙ same_refusal _ _ is in
+    let same : c.in-Err-next_moment.refused ≡ refused = sym c.told-refused-in-Err-next_moment.ensures.same ∙ same_refusal _ _ is in
     let rose = subst (IsBetween _ _) (ap (λ (r : Refused). r.error) same ∙ error) c.in-Err-next_moment.ensures.cause in
     let before = c.loop.invariant.status_later in
-    let behind = c.told-in-Err-next_moment.ensures.later in
+    let behind = c.told-refused-in-Err-next_moment.ensures.later in
     inr (omega (arith, rose, before, behind))
 
 pub returns-in-Err-next_moment-clause-notes : goal.returns-in-Err-next_moment-clause-notes
 returns-in-Err-next_moment-clause-notes g c tells =
-    grown_then _ _ _ (grown_then _ _ _ (c.loop.invariant.noted tells) (c.next_moment.ensures.grown tells)) (c.told-in-Err-next_moment.ensures.grown tells)
+    grown_then _ _ _ (grown_then _ _ _ (c.loop.invariant.noted tells) (c.next_moment.ensures.grown tells)) (c.told-refused-in-Err-next_moment.ensures.grown tells)
 
 pub returns-in-Err-next_moment-clause-later : goal.returns-in-Err-next_moment-clause-later
 returns-in-Err-next_moment-clause-later g c =
@@ -241,7 +241,7 @@ returns-in-Err-next_moment-clause-later g c =
     let forwarded = c.forward_sealed.ensures.later.0 in
     let before = c.loop.invariant.status_later in
     let noted = c.next_moment.ensures.later in
-    let behind = c.told-in-Err-next_moment.ensures.later in
+    let behind = c.told-refused-in-Err-next_moment.ensures.later in
     (omega (arith, sealed, forwarded), c.loop.invariant.results_later, omega (arith, before, noted, behind))
 
 pub take_next-requires-clause-ready : goal.take_next-requires-clause-ready
@@ -268,7 +268,7 @@ returns-in-Err-take_next-clause-written g c told =
 
 pub returns-in-Err-take_next-clause-keeper_cause : goal.returns-in-Err-take_next-clause-keeper_cause
 returns-in-Err-take_next-clause-keeper_cause g c refused is error =
-    let same : c.in-Err-take_next.refused ≡ refused = sym c.told-in-Err-take_next.ensures.same ∙ same_refusal _ _ is in
+    let same : c.in-Err-take_next.refused ≡ refused = sym c.told-refused-in-Err-take_next.ensures.same ∙ same_refusal _ _ is in
     let rose = c.take_next.ensures.keeper_cause c.in-Err-take_next.refused c.in-Err-take_next.is (ap (λ (r : Refused). r.error) same ∙ error) in
     let before = c.loop.invariant.keeper_later in
     let forwarded = c.forward_sealed.ensures.later.0 in
@@ -276,46 +276,46 @@ returns-in-Err-take_next-clause-keeper_cause g c refused is error =
 
 pub returns-in-Err-take_next-clause-sink_cause : goal.returns-in-Err-take_next-clause-sink_cause
 returns-in-Err-take_next-clause-sink_cause g c refused is error =
-    let same : c.in-Err-take_next.refused ≡ refused = sym c.told-in-Err-take_next.ensures.same ∙ same_refusal _ _ is in
+    let same : c.in-Err-take_next.refused ≡ refused = sym c.told-refused-in-Err-take_next.ensures.same ∙ same_refusal _ _ is in
     let rose = c.take_next.ensures.sink_cause c.in-Err-take_next.refused c.in-Err-take_next.is (ap (λ (r : Refused). r.error) same ∙ error) in
     let before = c.loop.invariant.results_later in
     inl (omega (arith, rose, before))
 
 pub returns-in-Err-take_next-clause-notes : goal.returns-in-Err-take_next-clause-notes
 returns-in-Err-take_next-clause-notes g c tells =
-    grown_then _ _ _ (grown_then _ _ _ (c.loop.invariant.noted tells) (c.next_moment.ensures.grown tells)) (c.told-in-Err-take_next.ensures.grown tells)
+    grown_then _ _ _ (grown_then _ _ _ (c.loop.invariant.noted tells) (c.next_moment.ensures.grown tells)) (c.told-refused-in-Err-take_next.ensures.grown tells)
 
 pub returns-in-Err-take_next-clause-refused : goal.returns-in-Err-take_next-clause-refused
 returns-in-Err-take_next-clause-refused g c told refused is error fits =
-    let same : c.in-Err-take_next.refused ≡ refused = sym c.told-in-Err-take_next.ensures.same ∙ same_refusal _ _ is in
+    let same : c.in-Err-take_next.refused ≡ refused = sym c.told-refused-in-Err-take_next.ensures.same ∙ same_refusal _ _ is in
     (c.take_next.ensures.opened c.in-Err-take_next.refused c.in-Err-take_next.is).0 (ap (λ (r : Refused). r.error) same ∙ error)
 
 pub returns-in-Err-take_next-clause-illegal : goal.returns-in-Err-take_next-clause-illegal
 returns-in-Err-take_next-clause-illegal g c told refused is error legal =
-    let same : c.in-Err-take_next.refused ≡ refused = sym c.told-in-Err-take_next.ensures.same ∙ same_refusal _ _ is in
+    let same : c.in-Err-take_next.refused ≡ refused = sym c.told-refused-in-Err-take_next.ensures.same ∙ same_refusal _ _ is in
     (c.take_next.ensures.opened c.in-Err-take_next.refused c.in-Err-take_next.is).0 (ap (λ (r : Refused). r.error) same ∙ error)
 
 pub returns-in-Err-take_next-clause-moment : goal.returns-in-Err-take_next-clause-moment
 returns-in-Err-take_next-clause-moment g c refused moment is error =
-    let same : c.in-Err-take_next.refused ≡ refused = sym c.told-in-Err-take_next.ensures.same ∙ same_refusal _ _ is in
+    let same : c.in-Err-take_next.refused ≡ refused = sym c.told-refused-in-Err-take_next.ensures.same ∙ same_refusal _ _ is in
     absurd ((c.take_next.ensures.opened c.in-Err-take_next.refused c.in-Err-take_next.is).1 moment (ap (λ (r : Refused). r.error) same ∙ error))
 
 pub returns-in-Err-take_next-clause-fault : goal.returns-in-Err-take_next-clause-fault
 returns-in-Err-take_next-clause-fault g c refused place is error =
-    let same : c.in-Err-take_next.refused ≡ refused = sym c.told-in-Err-take_next.ensures.same ∙ same_refusal _ _ is in
+    let same : c.in-Err-take_next.refused ≡ refused = sym c.told-refused-in-Err-take_next.ensures.same ∙ same_refusal _ _ is in
     let failed = c.take_next.ensures.fault c.in-Err-take_next.refused place c.in-Err-take_next.is (ap (λ (r : Refused). r.error) same ∙ error) in
     fails_since g.S.Source.faults place c.args.sources.now c.loop.sources c.take_next.new.sources c.loop.invariant.looping.later failed
 
 pub returns-in-Err-take_next-clause-shrank : goal.returns-in-Err-take_next-clause-shrank
 returns-in-Err-take_next-clause-shrank g c refused place kept found is error =
-    let same : c.in-Err-take_next.refused ≡ refused = sym c.told-in-Err-take_next.ensures.same ∙ same_refusal _ _ is in
+    let same : c.in-Err-take_next.refused ≡ refused = sym c.told-refused-in-Err-take_next.ensures.same ∙ same_refusal _ _ is in
     absurd ((c.take_next.ensures.opened c.in-Err-take_next.refused c.in-Err-take_next.is).2 place kept found (ap (λ (r : Refused). r.error) same ∙ error))
 
 pub returns-in-Err-take_next-clause-spent : goal.returns-in-Err-take_next-clause-spent
 returns-in-Err-take_next-clause-spent g c refused is error =
     let heard = heard_now g.T.TakesRound.order g.K.Keeper.tells g.O.Sink.tells g.S.Source.tells g.S.Source.left g.S.Source.faults c.args.basis.now.setup c.args.basis.now.configured.config c.args.basis.now.configured.documents c.args.sources.now (g.K.Keeper.kept c.args.keeper.now) (g.O.Sink.written c.args.results.now) (linked_by g.L.Link c.args.basis.now.setup c.args.link.now) g.C.Clock.reads c.args.clock.now
     (g.K.Keeper.kept c.loop.keeper) (g.K.Keeper.kept c.forward_sealed.new.keeper) c.in-Ok-forward_sealed.marks c.loop.invariant.looping.running.added.linked (view_of g.L.Link c.loop.link) (view_of g.L.Link c.forward_sealed.new.link) c.forward_sealed.ensures.kept c.loop.invariant.linked c.in-Ok-forward_sealed.ensures.heard in
-    let same : c.in-Err-take_next.refused ≡ refused = sym c.told-in-Err-take_next.ensures.same ∙ same_refusal _ _ is in
+    let same : c.in-Err-take_next.refused ≡ refused = sym c.told-refused-in-Err-take_next.ensures.same ∙ same_refusal _ _ is in
     let why = ap (λ (r : Refused). r.error) same ∙ error in
     spent_on _ _ _ _ _ _ _ _ _ _ _ _ _ _ _ c.loop.clock c.next_moment.new.clock (g.K.Keeper.kept c.forward_sealed.new.keeper) (g.K.Keeper.kept c.take_next.new.keeper) c.loop.feeds c.take_next.new.feeds c.loop.sources c.take_next.new.sources c.loop.last c.in-Ok-next_moment.moment c.loop.state c.take_next.new.state (still_added g.S.Source.left _ g.C.Clock.reads c.args.clock.now c.loop.clock (g.K.Keeper.kept c.loop.keeper) (g.K.Keeper.kept c.forward_sealed.new.keeper) c.loop.feeds c.loop.sources c.loop.last c.loop.state c.loop.invariant.looping.running.added c.forward_sealed.ensures.kept) c.loop.invariant.ready.going.distinct c.in-Ok-next_moment.ensures.read
     (λ tells. c.take_next.ensures.unkept tells c.in-Err-take_next.refused c.in-Err-take_next.is (spent_not_keeper _ why) (spent_not_sink _ why)) c.in-Ok-forward_sealed.marks (view_of g.L.Link c.forward_sealed.new.link) heard (c.take_next.ensures.spent c.in-Err-take_next.refused c.in-Err-take_next.is why)
@@ -330,7 +330,7 @@ returns-in-Err-take_next-clause-later g c =
     let r2 = ticked.1 in
     let k1 = c.forward_sealed.ensures.later.0 in
     let noted = c.next_moment.ensures.later in
-    let behind = c.told-in-Err-take_next.ensures.later in
+    let behind = c.told-refused-in-Err-take_next.ensures.later in
     (omega (arith, k, k1, k2), omega (arith, r, r2), omega (arith, s, noted, behind))
 
 pub loop-preserved : goal.loop-preserved
@@ -375,7 +375,7 @@ returns-clause-done g c =
     let within = c.loop.auto.counter-end in
     let some = c.requires.ticks in
     let same : c.loop.counter ≡ c.args.basis.now.setup.ticks = omega (arith, past, within, some) in
-    of_value _ _ _ c.end_session.result c.end_session.ensures.is_end c.end_session.ensures.numbers
+    of_value _ _ _ c.end_session-ended.result c.end_session-ended.ensures.is_end c.end_session-ended.ensures.numbers
     (λ ended is_end numbers. has_run g.S.Source.left _ g.C.Clock.reads c.args.clock.now c.loop.clock (g.K.Keeper.kept c.loop.keeper) (g.K.Keeper.kept c.forward_last.new.keeper) (g.O.Sink.written c.loop.results) c.loop.feeds c.loop.sources c.loop.last c.loop.state c.forward_last.new.state l.running.added over.marks (view_of g.L.Link c.forward_last.new.link) heard over.sealed.kept (over_standing _ _ _ _ _ _ _ _ _ _ _ _ _ _ _ c.loop.clock c.loop.counter (g.K.Keeper.kept c.loop.keeper) (g.O.Sink.written c.loop.results) c.loop.feeds c.loop.sources c.loop.last c.loop.state c.loop.invariant.looping over.marks (view_of g.L.Link c.forward_last.new.link) heard (g.K.Keeper.kept c.forward_last.new.keeper) over.sealed.between c.forward_last.new.state over.sealed.acked over.sealed.taken over.sealed.kept) (over_empty _ _ _ _ _ _ _ _ _ _ _ _ _ _ _ c.loop.clock c.loop.counter (g.K.Keeper.kept c.loop.keeper) (g.O.Sink.written c.loop.results) c.loop.feeds c.loop.sources c.loop.last c.loop.state c.loop.invariant.looping over.marks (view_of g.L.Link c.forward_last.new.link) heard (g.K.Keeper.kept c.forward_last.new.keeper) over.sealed.between c.forward_last.new.state over.sealed.acked over.sealed.taken over.sealed.kept) (over_told _ _ _ _ _ _ _ _ _ _ _ _ _ _ _ c.loop.clock c.loop.counter (g.K.Keeper.kept c.loop.keeper) (g.O.Sink.written c.loop.results) c.loop.feeds c.loop.sources c.loop.last c.loop.state c.loop.invariant.looping over.marks (view_of g.L.Link c.forward_last.new.link) heard (g.K.Keeper.kept c.forward_last.new.keeper) over.sealed.between c.forward_last.new.state over.sealed.acked over.sealed.taken over.sealed.kept) c.args.basis.now.setup.ticks
     (λ told. subst (λ (steps : ℕ). HaveSteps g.S.Source.tells g.S.Source.left c.args.basis.now.setup.records steps (g.K.Keeper.kept c.args.keeper.now) (sources_of g.S.Source.left c.args.basis.now.setup.sources c.args.sources.now) c.loop.feeds c.loop.sources) same (l.have told)) c.is_state.ensures (over_due _ _ _ _ _ _ _ _ _ _ _ _ _ _ _ c.loop.clock c.loop.counter (g.K.Keeper.kept c.loop.keeper) (g.O.Sink.written c.loop.results) c.loop.feeds c.loop.sources c.loop.last c.loop.state c.loop.invariant.looping over.marks (view_of g.L.Link c.forward_last.new.link) heard (g.K.Keeper.kept c.forward_last.new.keeper) over.sealed.between c.forward_last.new.state over.sealed.acked over.sealed.taken over.sealed.kept c.loop.invariant.ready) (over_owed _ _ _ _ _ _ _ _ _ _ _ _ _ _ _ c.loop.clock c.loop.counter (g.K.Keeper.kept c.loop.keeper) (g.O.Sink.written c.loop.results) c.loop.feeds c.loop.sources c.loop.last c.loop.state c.loop.invariant.looping over.marks (view_of g.L.Link c.forward_last.new.link) heard (g.K.Keeper.kept c.forward_last.new.keeper) over.sealed.between c.forward_last.new.state over.sealed.acked over.sealed.taken over.sealed.kept c.loop.invariant.ready) c.coverage.ensures ended (l.count ∙ same) is_end numbers)
 
@@ -395,35 +395,35 @@ returns-clause-written g c told =
 
 pub returns-clause-keeper_cause : goal.returns-clause-keeper_cause
 returns-clause-keeper_cause g c refused is error =
-    absurd (subst (IsBetween _ _) error (of_error _ c.end_session.result refused c.end_session.ensures.cause is))
+    absurd (subst (IsBetween _ _) error (of_error _ c.end_session-ended.result refused c.end_session-ended.ensures.cause is))
 
 pub returns-clause-refused : goal.returns-clause-refused
 returns-clause-refused g c told refused is error =
-    absurd (subst (IsBetween _ _) error (of_error _ c.end_session.result refused c.end_session.ensures.cause is))
+    absurd (subst (IsBetween _ _) error (of_error _ c.end_session-ended.result refused c.end_session-ended.ensures.cause is))
 
 pub returns-clause-illegal : goal.returns-clause-illegal
 returns-clause-illegal g c told refused is error =
-    absurd (subst (IsBetween _ _) error (of_error _ c.end_session.result refused c.end_session.ensures.cause is))
+    absurd (subst (IsBetween _ _) error (of_error _ c.end_session-ended.result refused c.end_session-ended.ensures.cause is))
 
 pub returns-clause-moment : goal.returns-clause-moment
 returns-clause-moment g c refused moment is error =
-    absurd (subst (IsBetween _ _) error (of_error _ c.end_session.result refused c.end_session.ensures.cause is))
+    absurd (subst (IsBetween _ _) error (of_error _ c.end_session-ended.result refused c.end_session-ended.ensures.cause is))
 
 pub returns-clause-fault : goal.returns-clause-fault
 returns-clause-fault g c refused place is error =
-    absurd (subst (IsBetween _ _) error (of_error _ c.end_session.result refused c.end_session.ensures.cause is))
+    absurd (subst (IsBetween _ _) error (of_error _ c.end_session-ended.result refused c.end_session-ended.ensures.cause is))
 
 pub returns-clause-shrank : goal.returns-clause-shrank
 returns-clause-shrank g c refused place kept found is error =
-    absurd (subst (IsBetween _ _) error (of_error _ c.end_session.result refused c.end_session.ensures.cause is))
+    absurd (subst (IsBetween _ _) error (of_error _ c.end_session-ended.result refused c.end_session-ended.ensures.cause is))
 
 pub returns-clause-spent : goal.returns-clause-spent
 returns-clause-spent g c refused is error =
-    absurd (subst (IsBetween _ _) error (of_error _ c.end_session.result refused c.end_session.ensures.cause is))
+    absurd (subst (IsBetween _ _) error (of_error _ c.end_session-ended.result refused c.end_session-ended.ensures.cause is))
 
 pub returns-clause-sink_cause : goal.returns-clause-sink_cause
 returns-clause-sink_cause g c refused is error =
-    let rose = subst (IsBetween _ _) error (of_error _ c.end_session.result refused c.end_session.ensures.cause is) in
+    let rose = subst (IsBetween _ _) error (of_error _ c.end_session-ended.result refused c.end_session-ended.ensures.cause is) in
     let before = c.loop.invariant.status_later in
     inr (omega (arith, rose, before))
 
@@ -432,8 +432,8 @@ returns-clause-told g c tells =
     let over = c.in-Ok-forward_last.ensures.done in
     let heard = heard_now g.T.TakesRound.order g.K.Keeper.tells g.O.Sink.tells g.S.Source.tells g.S.Source.left g.S.Source.faults c.args.basis.now.setup c.args.basis.now.configured.config c.args.basis.now.configured.documents c.args.sources.now (g.K.Keeper.kept c.args.keeper.now) (g.O.Sink.written c.args.results.now) (linked_by g.L.Link c.args.basis.now.setup c.args.link.now) g.C.Clock.reads c.args.clock.now
     (g.K.Keeper.kept c.loop.keeper) (g.K.Keeper.kept c.loop.keeper) over.marks c.loop.invariant.looping.running.added.linked (view_of g.L.Link c.loop.link) (view_of g.L.Link c.forward_last.new.link) (λ told. refl) c.loop.invariant.linked over.heard in
-    let skipped = c.end_session.ensures.skipped tells in
-    of_value _ _ _ c.end_session.result skipped skipped (λ ended is same. record {
+    let skipped = c.end_session-ended.ensures.skipped tells in
+    of_value _ _ _ c.end_session-ended.result skipped skipped (λ ended is same. record {
       places = places_of (g.K.Keeper.kept c.args.keeper.now) c.loop.invariant.looping.running.added.entries;
       configured = λ told. (c.loop.invariant.looping.running.added.entries ++ map Acked over.marks, over_list _ _ _ _ _ _ _ _ _ _ _ _ _ _ _ c.loop.clock c.loop.counter (g.K.Keeper.kept c.loop.keeper) (g.O.Sink.written c.loop.results) c.loop.feeds c.loop.sources c.loop.last c.loop.state c.loop.invariant.looping over.marks (view_of g.L.Link c.forward_last.new.link) heard (g.K.Keeper.kept c.forward_last.new.keeper) over.sealed.between c.forward_last.new.state over.sealed.acked over.sealed.taken over.sealed.kept told, sym (over_places _ _ _ _ _ _ _ _ _ _ _ _ _ _ _ c.loop.clock c.loop.counter (g.K.Keeper.kept c.loop.keeper) (g.O.Sink.written c.loop.results) c.loop.feeds c.loop.sources c.loop.last c.loop.state c.loop.invariant.looping over.marks (view_of g.L.Link c.forward_last.new.link) heard (g.K.Keeper.kept c.forward_last.new.keeper) over.sealed.between c.forward_last.new.state over.sealed.acked over.sealed.taken over.sealed.kept));
       between = g.O.Sink.written c.loop.status;
@@ -446,14 +446,14 @@ returns-clause-told g c tells =
 
 pub returns-clause-notes : goal.returns-clause-notes
 returns-clause-notes g c tells =
-    grown_then _ _ _ (c.loop.invariant.noted tells) (c.end_session.ensures.grown tells)
+    grown_then _ _ _ (c.loop.invariant.noted tells) (c.end_session-ended.ensures.grown tells)
 
 pub returns-clause-later : goal.returns-clause-later
 returns-clause-later g c =
     let sealed = c.loop.invariant.keeper_later in
     let forwarded = c.forward_last.ensures.later.0 in
     let before = c.loop.invariant.status_later in
-    let behind = c.end_session.ensures.later in
+    let behind = c.end_session-ended.ensures.later in
     (omega (arith, sealed, forwarded), c.loop.invariant.results_later, omega (arith, before, behind))
 
 pub returns-in-Err-clause-stops : goal.returns-in-Err-clause-stops
@@ -492,7 +492,7 @@ returns-in-Err-take_tick-clause-stops g c =
     let refused = c.in-Err-take_tick.refused in
     let same : c.numbers_in-sealed.result ≡ numbers_in c.in-Ok.restored = c.numbers_in-sealed.ensures in
     let loaded = loaded_numbers (fixed_of g.T.TakesRound.order g.K.Keeper g.O.Sink g.S.Source g.L.Link c.args.basis.now c.args.sources.now c.args.keeper.now c.args.results.now c.args.link.now) (λ readings. ReadsAll g.C.Clock.reads c.args.clock.now readings c.open_noted.new.clock) (g.K.Keeper.kept c.take_tick.new.keeper) c.in-Ok.restored c.in-Ok.ensures.value in
-    tick_stops _ (λ readings. ReadsAll g.C.Clock.reads c.args.clock.now readings c.open_noted.new.clock) (g.K.Keeper.kept c.take_tick.new.keeper) (c.told.new.status ≡ c.args.status.now) refused c.told.result c.numbers_in-sealed.result c.take_tick.new.state c.told.ensures.same c.in-Err-take_tick.ensures.numbers
+    tick_stops _ (λ readings. ReadsAll g.C.Clock.reads c.args.clock.now readings c.open_noted.new.clock) (g.K.Keeper.kept c.take_tick.new.keeper) (c.told-refused.new.status ≡ c.args.status.now) refused c.told-refused.result c.numbers_in-sealed.result c.take_tick.new.state c.told-refused.ensures.same c.in-Err-take_tick.ensures.numbers
     (c.take_tick.ensures.opened refused c.in-Err-take_tick.is).0
     (λ is. sealed_first _ _ _ _ _ _ _ _ _ _ _ _ _ _ _ c.open_noted.new.clock (g.K.Keeper.kept c.load_values.new.keeper) (g.K.Keeper.kept c.take_tick.new.keeper) (g.O.Sink.written c.take_tick.new.results) c.as_mut_slice-feeds.result.now c.take_tick.new.feeds c.open_noted.new.sources c.take_tick.new.sources c.in-Ok-open_noted.session.configured_at c.in-Ok-open_noted.session.state c.args.basis.now.configured.notes c.requires.configuration opens.0 going kept_is c.numbers_in-sealed.result
     (subst (λ (numbers : Numbers). AreNumbersOf (fixed_of g.T.TakesRound.order g.K.Keeper g.O.Sink g.S.Source g.L.Link c.args.basis.now c.args.sources.now c.args.keeper.now c.args.results.now c.args.link.now) (g.K.Keeper.kept c.args.keeper.now) numbers) (sym same) (loaded_numbers (fixed_of g.T.TakesRound.order g.K.Keeper g.O.Sink g.S.Source g.L.Link c.args.basis.now c.args.sources.now c.args.keeper.now c.args.results.now c.args.link.now) (λ readings. ReadsAll g.C.Clock.reads c.args.clock.now readings c.open_noted.new.clock) (g.K.Keeper.kept c.args.keeper.now) c.in-Ok.restored c.in-Ok.ensures.value (λ tells. refl))) c.in-Err-take_tick.ensures.kept)
@@ -505,17 +505,17 @@ returns-in-Err-take_tick-clause-stops_telling g c tells =
     let kept_is = c.in-Ok.ensures.same in
     let opens = opens_here _ _ g.O.Sink.tells _ _ _ _ _ _ _ _ (g.O.Sink.written c.args.results.now) (linked_by g.L.Link c.args.basis.now.setup c.args.link.now) _ _ c.open_noted.new.clock c.in-Ok.restored (g.K.Keeper.kept c.load_values.new.keeper) c.in-Ok-open_noted.session.feeds.items c.as_mut_slice-feeds.result.now c.open_noted.new.sources c.in-Ok-open_noted.session.configured_at c.in-Ok-open_noted.session.state c.in-Ok.ensures.value kept_is c.requires.distinct c.in-Ok-open_noted.ensures.opened c.as_mut_slice-feeds.ensures.value in
     let going = subst (λ (feeds : List Feeding). AreGoing c.in-Ok-open_noted.session.state.counts.taken feeds) (sym c.as_mut_slice-feeds.ensures.value) c.in-Ok-open_noted.ensures.going in
-    told_some _ (g.K.Keeper.kept c.take_tick.new.keeper) c.args.basis.now.configured.notes (g.O.Sink.written c.args.status.now) (g.O.Sink.written c.open_noted.new.status) (g.O.Sink.written c.told.new.status) (g.O.Sink.faults c.args.status.now) (g.O.Sink.faults c.open_noted.new.status) (g.O.Sink.faults c.told.new.status)
+    told_some _ (g.K.Keeper.kept c.take_tick.new.keeper) c.args.basis.now.configured.notes (g.O.Sink.written c.args.status.now) (g.O.Sink.written c.open_noted.new.status) (g.O.Sink.written c.told-refused.new.status) (g.O.Sink.faults c.args.status.now) (g.O.Sink.faults c.open_noted.new.status) (g.O.Sink.faults c.told-refused.new.status)
     ((record { list = (g.K.Keeper.kept c.args.keeper.now) ++ (Opened opens.0.number ∷ opens.0.tables); moment = c.in-Ok-open_noted.session.configured_at }) ∷ []) c.take_tick.new.feeds (counts_first g.S.Source.left _ _ (g.K.Keeper.kept c.take_tick.new.keeper) c.as_mut_slice-feeds.result.now c.take_tick.new.feeds c.open_noted.new.sources (λ told. rest_first _ _ _ _ _ _ _ _ _ _ _ _ _ _ _ c.open_noted.new.clock (g.K.Keeper.kept c.load_values.new.keeper) (g.K.Keeper.kept c.take_tick.new.keeper) (g.O.Sink.written c.take_tick.new.results) c.as_mut_slice-feeds.result.now c.take_tick.new.feeds c.open_noted.new.sources c.take_tick.new.sources c.in-Ok-open_noted.session.configured_at c.in-Ok-open_noted.session.state c.args.basis.now.configured.notes c.requires.configuration opens.0 going kept_is (c.in-Err-take_tick.ensures.kept told) told) opens.0.standing.fed c.take_tick.ensures.counts)
-    (λ told. counted_in_first _ _ _ _ _ _ _ _ _ _ _ _ _ _ _ c.open_noted.new.clock (g.K.Keeper.kept c.load_values.new.keeper) (g.K.Keeper.kept c.take_tick.new.keeper) (g.O.Sink.written c.take_tick.new.results) c.as_mut_slice-feeds.result.now c.take_tick.new.feeds c.open_noted.new.sources c.take_tick.new.sources c.in-Ok-open_noted.session.configured_at c.in-Ok-open_noted.session.state c.args.basis.now.configured.notes c.requires.configuration opens.0 going kept_is (c.in-Err-take_tick.ensures.kept told) told) (noted_first (fixed_of g.T.TakesRound.order g.K.Keeper g.O.Sink g.S.Source g.L.Link c.args.basis.now c.args.sources.now c.args.keeper.now c.args.results.now c.args.link.now) c.args.basis.now.configured.notes (g.O.Sink.written c.args.status.now) (record { list = (g.K.Keeper.kept c.args.keeper.now) ++ (Opened opens.0.number ∷ opens.0.tables); moment = c.in-Ok-open_noted.session.configured_at }) c.in-Ok-open_noted.session.found.items (g.O.Sink.written c.open_noted.new.status) (found_first _ _ _ _ _ g.S.Source.faults c.args.basis.now.setup _ _ _ _ _ _ _ _ c.open_noted.new.clock (g.K.Keeper.kept c.load_values.new.keeper) (g.K.Keeper.kept c.take_tick.new.keeper) (g.O.Sink.written c.take_tick.new.results) c.as_mut_slice-feeds.result.now c.take_tick.new.feeds c.open_noted.new.sources c.take_tick.new.sources c.in-Ok-open_noted.session.configured_at c.in-Ok-open_noted.session.state c.args.basis.now.configured.notes c.requires.configuration opens.0 going kept_is c.in-Ok.restored c.in-Ok-open_noted.session.found.items c.in-Ok.ensures.value c.in-Ok-open_noted.ensures.found) (c.in-Ok-open_noted.ensures.noted tells)) (c.told.ensures.skipped tells) c.open_noted.ensures.later
+    (λ told. counted_in_first _ _ _ _ _ _ _ _ _ _ _ _ _ _ _ c.open_noted.new.clock (g.K.Keeper.kept c.load_values.new.keeper) (g.K.Keeper.kept c.take_tick.new.keeper) (g.O.Sink.written c.take_tick.new.results) c.as_mut_slice-feeds.result.now c.take_tick.new.feeds c.open_noted.new.sources c.take_tick.new.sources c.in-Ok-open_noted.session.configured_at c.in-Ok-open_noted.session.state c.args.basis.now.configured.notes c.requires.configuration opens.0 going kept_is (c.in-Err-take_tick.ensures.kept told) told) (noted_first (fixed_of g.T.TakesRound.order g.K.Keeper g.O.Sink g.S.Source g.L.Link c.args.basis.now c.args.sources.now c.args.keeper.now c.args.results.now c.args.link.now) c.args.basis.now.configured.notes (g.O.Sink.written c.args.status.now) (record { list = (g.K.Keeper.kept c.args.keeper.now) ++ (Opened opens.0.number ∷ opens.0.tables); moment = c.in-Ok-open_noted.session.configured_at }) c.in-Ok-open_noted.session.found.items (g.O.Sink.written c.open_noted.new.status) (found_first _ _ _ _ _ g.S.Source.faults c.args.basis.now.setup _ _ _ _ _ _ _ _ c.open_noted.new.clock (g.K.Keeper.kept c.load_values.new.keeper) (g.K.Keeper.kept c.take_tick.new.keeper) (g.O.Sink.written c.take_tick.new.results) c.as_mut_slice-feeds.result.now c.take_tick.new.feeds c.open_noted.new.sources c.take_tick.new.sources c.in-Ok-open_noted.session.configured_at c.in-Ok-open_noted.session.state c.args.basis.now.configured.notes c.requires.configuration opens.0 going kept_is c.in-Ok.restored c.in-Ok-open_noted.session.found.items c.in-Ok.ensures.value c.in-Ok-open_noted.ensures.found) (c.in-Ok-open_noted.ensures.noted tells)) (c.told-refused.ensures.skipped tells) c.open_noted.ensures.later
 
 pub returns-in-Err-next_moment-clause-stops : goal.returns-in-Err-next_moment-clause-stops
 returns-in-Err-next_moment-clause-stops g c =
     let refused = c.in-Err-next_moment.refused in
     let r = c.loop.invariant.looping.running.added in
     let numbers = numbers_are g.S.Source.left _ r.entries (g.K.Keeper.kept c.loop.keeper) c.loop.feeds c.loop.sources c.loop.last c.loop.state r.standing r.empty in
-    subst (λ (r : Refused). Stops (run_of g.T.TakesRound.order g.K.Keeper g.O.Sink g.S.Source g.L.Link g.C.Clock c.args.basis.now c.args.sources.now c.args.keeper.now c.args.results.now c.args.link.now c.args.clock.now c.next_moment.new.clock) (g.K.Keeper.kept c.forward_sealed.new.keeper) (c.told-in-Err-next_moment.new.status ≡ c.args.status.now) r.error r.numbers) (sym c.told-in-Err-next_moment.ensures.same)
-    (stops_with _ (λ readings. ReadsAll g.C.Clock.reads c.args.clock.now readings c.next_moment.new.clock) (g.K.Keeper.kept c.forward_sealed.new.keeper) (c.told-in-Err-next_moment.new.status ≡ c.args.status.now) refused.error refused.numbers (numbers_of c.loop.state) c.in-Err-next_moment.ensures.numbers
+    subst (λ (r : Refused). Stops (run_of g.T.TakesRound.order g.K.Keeper g.O.Sink g.S.Source g.L.Link g.C.Clock c.args.basis.now c.args.sources.now c.args.keeper.now c.args.results.now c.args.link.now c.args.clock.now c.next_moment.new.clock) (g.K.Keeper.kept c.forward_sealed.new.keeper) (c.told-refused-in-Err-next_moment.new.status ≡ c.args.status.now) r.error r.numbers) (sym c.told-refused-in-Err-next_moment.ensures.same)
+    (stops_with _ (λ readings. ReadsAll g.C.Clock.reads c.args.clock.now readings c.next_moment.new.clock) (g.K.Keeper.kept c.forward_sealed.new.keeper) (c.told-refused-in-Err-next_moment.new.status ≡ c.args.status.now) refused.error refused.numbers (numbers_of c.loop.state) c.in-Err-next_moment.ensures.numbers
     (numbers_between (fixed_of g.T.TakesRound.order g.K.Keeper g.O.Sink g.S.Source g.L.Link c.args.basis.now c.args.sources.now c.args.keeper.now c.args.results.now c.args.link.now) (λ readings. ReadsAll g.C.Clock.reads c.args.clock.now readings c.next_moment.new.clock) (g.K.Keeper.kept c.forward_sealed.new.keeper) _ _ refused.error (numbers_of c.loop.state) c.in-Err-next_moment.ensures.cause
     (λ tells legal. subst (λ (list : List Entry). HasNumbers list (numbers_of c.loop.state)) (sym (c.forward_sealed.ensures.kept tells)) (numbers tells legal))))
 
@@ -523,9 +523,9 @@ pub returns-in-Err-next_moment-clause-stops_telling : goal.returns-in-Err-next_m
 returns-in-Err-next_moment-clause-stops_telling g c tells =
     let r = c.loop.invariant.looping.running.added in
     let still = λ (told : g.K.Keeper.tells). c.forward_sealed.ensures.kept told ∙ all_kept g.S.Source.left _ r.entries (g.K.Keeper.kept c.loop.keeper) c.loop.feeds c.loop.sources c.loop.last c.loop.state r.standing r.empty told in
-    told_some _ (g.K.Keeper.kept c.forward_sealed.new.keeper) c.args.basis.now.configured.notes (g.O.Sink.written c.args.status.now) (g.O.Sink.written c.loop.status) (g.O.Sink.written c.told-in-Err-next_moment.new.status) (g.O.Sink.faults c.args.status.now) (g.O.Sink.faults c.loop.status) (g.O.Sink.faults c.told-in-Err-next_moment.new.status)
+    told_some _ (g.K.Keeper.kept c.forward_sealed.new.keeper) c.args.basis.now.configured.notes (g.O.Sink.written c.args.status.now) (g.O.Sink.written c.loop.status) (g.O.Sink.written c.told-refused-in-Err-next_moment.new.status) (g.O.Sink.faults c.args.status.now) (g.O.Sink.faults c.loop.status) (g.O.Sink.faults c.told-refused-in-Err-next_moment.new.status)
     (places_of (g.K.Keeper.kept c.args.keeper.now) c.loop.invariant.looping.running.added.entries) c.loop.feeds (counts_now g.S.Source.left _ r.entries (g.K.Keeper.kept c.forward_sealed.new.keeper) c.loop.feeds c.loop.sources still r.standing.fed)
-    (λ told. places_now (g.K.Keeper.kept c.args.keeper.now) (g.K.Keeper.kept c.forward_sealed.new.keeper) c.loop.invariant.looping.running.added.entries (still told)) (c.loop.invariant.told tells) (skipped_behind c.loop.feeds (g.O.Sink.written c.loop.status) (g.O.Sink.written c.next_moment.new.status) (g.O.Sink.written c.told-in-Err-next_moment.new.status) (g.O.Sink.faults c.loop.status) (g.O.Sink.faults c.next_moment.new.status) (g.O.Sink.faults c.told-in-Err-next_moment.new.status) (c.in-Err-next_moment.ensures.untold tells) (c.told-in-Err-next_moment.ensures.skipped tells) c.next_moment.ensures.later c.told-in-Err-next_moment.ensures.later) c.loop.invariant.status_later
+    (λ told. places_now (g.K.Keeper.kept c.args.keeper.now) (g.K.Keeper.kept c.forward_sealed.new.keeper) c.loop.invariant.looping.running.added.entries (still told)) (c.loop.invariant.told tells) (skipped_behind c.loop.feeds (g.O.Sink.written c.loop.status) (g.O.Sink.written c.next_moment.new.status) (g.O.Sink.written c.told-refused-in-Err-next_moment.new.status) (g.O.Sink.faults c.loop.status) (g.O.Sink.faults c.next_moment.new.status) (g.O.Sink.faults c.told-refused-in-Err-next_moment.new.status) (c.in-Err-next_moment.ensures.untold tells) (c.told-refused-in-Err-next_moment.ensures.skipped tells) c.next_moment.ensures.later c.told-refused-in-Err-next_moment.ensures.later) c.loop.invariant.status_later
 
 pub returns-in-Err-take_next-clause-stops : goal.returns-in-Err-take_next-clause-stops
 returns-in-Err-take_next-clause-stops g c =
@@ -533,7 +533,7 @@ returns-in-Err-take_next-clause-stops g c =
     (g.K.Keeper.kept c.loop.keeper) (g.K.Keeper.kept c.forward_sealed.new.keeper) c.in-Ok-forward_sealed.marks c.loop.invariant.looping.running.added.linked (view_of g.L.Link c.loop.link) (view_of g.L.Link c.forward_sealed.new.link) c.forward_sealed.ensures.kept c.loop.invariant.linked c.in-Ok-forward_sealed.ensures.heard in
     let refused = c.in-Err-take_next.refused in
     let same : c.numbers_of-sealed.result ≡ numbers_of c.loop.state = c.numbers_of-sealed.ensures in
-    tick_stops _ (λ readings. ReadsAll g.C.Clock.reads c.args.clock.now readings c.next_moment.new.clock) (g.K.Keeper.kept c.take_next.new.keeper) (c.told-in-Err-take_next.new.status ≡ c.args.status.now) refused c.told-in-Err-take_next.result c.numbers_of-sealed.result c.take_next.new.state c.told-in-Err-take_next.ensures.same c.in-Err-take_next.ensures.numbers
+    tick_stops _ (λ readings. ReadsAll g.C.Clock.reads c.args.clock.now readings c.next_moment.new.clock) (g.K.Keeper.kept c.take_next.new.keeper) (c.told-refused-in-Err-take_next.new.status ≡ c.args.status.now) refused c.told-refused-in-Err-take_next.result c.numbers_of-sealed.result c.take_next.new.state c.told-refused-in-Err-take_next.ensures.same c.in-Err-take_next.ensures.numbers
     (c.take_next.ensures.opened refused c.in-Err-take_next.is).0
     (λ is. subst (λ (numbers : Numbers). AreSealed (run_of g.T.TakesRound.order g.K.Keeper g.O.Sink g.S.Source g.L.Link g.C.Clock c.args.basis.now c.args.sources.now c.args.keeper.now c.args.results.now c.args.link.now c.args.clock.now c.next_moment.new.clock) (g.K.Keeper.kept c.take_next.new.keeper) numbers) (sym same) (sealed_on _ _ _ _ _ _ _ _ _ _ _ _ _ _ _ c.loop.clock c.next_moment.new.clock c.loop.counter (g.K.Keeper.kept c.loop.keeper) (g.K.Keeper.kept c.forward_sealed.new.keeper) (g.K.Keeper.kept c.take_next.new.keeper) (g.O.Sink.written c.loop.results) c.loop.feeds c.take_next.new.feeds c.loop.sources c.take_next.new.sources c.loop.last c.in-Ok-next_moment.moment c.loop.state c.loop.invariant.looping c.forward_sealed.ensures.kept c.loop.invariant.ready.going c.in-Ok-next_moment.ensures.read c.in-Ok-forward_sealed.marks (view_of g.L.Link c.forward_sealed.new.link) heard c.in-Err-take_next.ensures.kept))
     (λ is. numbers_on _ _ _ _ _ _ _ _ _ _ _ _ _ _ _ c.loop.clock c.next_moment.new.clock c.loop.counter (g.K.Keeper.kept c.loop.keeper) (g.K.Keeper.kept c.forward_sealed.new.keeper) (g.K.Keeper.kept c.take_next.new.keeper) (g.O.Sink.written c.loop.results) c.loop.feeds c.take_next.new.feeds c.loop.sources c.take_next.new.sources c.loop.last c.in-Ok-next_moment.moment c.loop.state c.loop.invariant.looping c.forward_sealed.ensures.kept c.loop.invariant.ready.going c.in-Ok-next_moment.ensures.read c.in-Ok-forward_sealed.marks (view_of g.L.Link c.forward_sealed.new.link) heard c.take_next.new.state (c.take_next.ensures.sealed refused c.in-Err-take_next.is is))
@@ -547,17 +547,17 @@ returns-in-Err-take_next-clause-stops_telling g c tells =
     let r = c.loop.invariant.looping.running.added in
     let before = c.loop.invariant.status_later in
     let noted = c.next_moment.ensures.later in
-    told_some _ (g.K.Keeper.kept c.take_next.new.keeper) c.args.basis.now.configured.notes (g.O.Sink.written c.args.status.now) (g.O.Sink.written c.next_moment.new.status) (g.O.Sink.written c.told-in-Err-take_next.new.status) (g.O.Sink.faults c.args.status.now) (g.O.Sink.faults c.next_moment.new.status) (g.O.Sink.faults c.told-in-Err-take_next.new.status)
+    told_some _ (g.K.Keeper.kept c.take_next.new.keeper) c.args.basis.now.configured.notes (g.O.Sink.written c.args.status.now) (g.O.Sink.written c.next_moment.new.status) (g.O.Sink.written c.told-refused-in-Err-take_next.new.status) (g.O.Sink.faults c.args.status.now) (g.O.Sink.faults c.next_moment.new.status) (g.O.Sink.faults c.told-refused-in-Err-take_next.new.status)
     ((places_of (g.K.Keeper.kept c.args.keeper.now) c.loop.invariant.looping.running.added.entries) ++ again_places (asks_again c.args.basis.now.configured.config c.loop.last c.in-Ok-next_moment.moment) (tick_place (((g.K.Keeper.kept c.args.keeper.now) ++ c.loop.invariant.looping.running.added.entries) ++ map Acked c.in-Ok-forward_sealed.marks) c.in-Ok-next_moment.moment)) c.take_next.new.feeds (counts_on g.S.Source.left _ r.entries (g.K.Keeper.kept c.take_next.new.keeper) c.loop.feeds c.take_next.new.feeds c.loop.sources (λ told. more_kept _ _ _ _ _ _ _ _ _ _ _ _ _ _ _ c.loop.clock c.next_moment.new.clock c.loop.counter (g.K.Keeper.kept c.loop.keeper) (g.K.Keeper.kept c.forward_sealed.new.keeper) (g.K.Keeper.kept c.take_next.new.keeper) (g.O.Sink.written c.loop.results) c.loop.feeds c.take_next.new.feeds c.loop.sources c.take_next.new.sources c.loop.last c.in-Ok-next_moment.moment c.loop.state c.loop.invariant.looping c.forward_sealed.ensures.kept c.loop.invariant.ready.going c.in-Ok-next_moment.ensures.read c.in-Ok-forward_sealed.marks (view_of g.L.Link c.forward_sealed.new.link) heard (c.in-Err-take_next.ensures.kept told) told) r.standing.fed c.take_next.ensures.counts)
-    (λ told. counted_in _ _ _ _ _ _ _ _ _ _ _ _ _ _ _ c.loop.clock c.next_moment.new.clock c.loop.counter (g.K.Keeper.kept c.loop.keeper) (g.K.Keeper.kept c.forward_sealed.new.keeper) (g.K.Keeper.kept c.take_next.new.keeper) (g.O.Sink.written c.loop.results) c.loop.feeds c.take_next.new.feeds c.loop.sources c.take_next.new.sources c.loop.last c.in-Ok-next_moment.moment c.loop.state c.loop.invariant.looping c.forward_sealed.ensures.kept c.loop.invariant.ready.going c.in-Ok-next_moment.ensures.read c.in-Ok-forward_sealed.marks (view_of g.L.Link c.forward_sealed.new.link) heard (c.in-Err-take_next.ensures.kept told) told) (noted_on (fixed_of g.T.TakesRound.order g.K.Keeper g.O.Sink g.S.Source g.L.Link c.args.basis.now c.args.sources.now c.args.keeper.now c.args.results.now c.args.link.now) c.args.basis.now.configured.notes (g.O.Sink.written c.args.status.now) (asks_again c.args.basis.now.configured.config c.loop.last c.in-Ok-next_moment.moment) (places_of (g.K.Keeper.kept c.args.keeper.now) c.loop.invariant.looping.running.added.entries) (tick_place (((g.K.Keeper.kept c.args.keeper.now) ++ c.loop.invariant.looping.running.added.entries) ++ map Acked c.in-Ok-forward_sealed.marks) c.in-Ok-next_moment.moment) (found_now c.args.basis.now.configured.config c.loop.state c.in-Ok-next_moment.moment) (g.O.Sink.written c.loop.status) (g.O.Sink.written c.next_moment.new.status) (found_on _ _ _ _ _ _ _ _ _ _ _ _ _ _ _ c.loop.clock c.next_moment.new.clock c.loop.counter (g.K.Keeper.kept c.loop.keeper) (g.K.Keeper.kept c.forward_sealed.new.keeper) (g.K.Keeper.kept c.take_next.new.keeper) (g.O.Sink.written c.loop.results) c.loop.feeds c.take_next.new.feeds c.loop.sources c.take_next.new.sources c.loop.last c.in-Ok-next_moment.moment c.loop.state c.loop.invariant.looping c.forward_sealed.ensures.kept c.loop.invariant.ready.going c.in-Ok-next_moment.ensures.read c.in-Ok-forward_sealed.marks (view_of g.L.Link c.forward_sealed.new.link) heard c.next_moment.ensures.is) (c.loop.invariant.told tells) (c.in-Ok-next_moment.ensures.noted tells)) (c.told-in-Err-take_next.ensures.skipped tells) (omega (arith, before, noted))
+    (λ told. counted_in _ _ _ _ _ _ _ _ _ _ _ _ _ _ _ c.loop.clock c.next_moment.new.clock c.loop.counter (g.K.Keeper.kept c.loop.keeper) (g.K.Keeper.kept c.forward_sealed.new.keeper) (g.K.Keeper.kept c.take_next.new.keeper) (g.O.Sink.written c.loop.results) c.loop.feeds c.take_next.new.feeds c.loop.sources c.take_next.new.sources c.loop.last c.in-Ok-next_moment.moment c.loop.state c.loop.invariant.looping c.forward_sealed.ensures.kept c.loop.invariant.ready.going c.in-Ok-next_moment.ensures.read c.in-Ok-forward_sealed.marks (view_of g.L.Link c.forward_sealed.new.link) heard (c.in-Err-take_next.ensures.kept told) told) (noted_on (fixed_of g.T.TakesRound.order g.K.Keeper g.O.Sink g.S.Source g.L.Link c.args.basis.now c.args.sources.now c.args.keeper.now c.args.results.now c.args.link.now) c.args.basis.now.configured.notes (g.O.Sink.written c.args.status.now) (asks_again c.args.basis.now.configured.config c.loop.last c.in-Ok-next_moment.moment) (places_of (g.K.Keeper.kept c.args.keeper.now) c.loop.invariant.looping.running.added.entries) (tick_place (((g.K.Keeper.kept c.args.keeper.now) ++ c.loop.invariant.looping.running.added.entries) ++ map Acked c.in-Ok-forward_sealed.marks) c.in-Ok-next_moment.moment) (found_now c.args.basis.now.configured.config c.loop.state c.in-Ok-next_moment.moment) (g.O.Sink.written c.loop.status) (g.O.Sink.written c.next_moment.new.status) (found_on _ _ _ _ _ _ _ _ _ _ _ _ _ _ _ c.loop.clock c.next_moment.new.clock c.loop.counter (g.K.Keeper.kept c.loop.keeper) (g.K.Keeper.kept c.forward_sealed.new.keeper) (g.K.Keeper.kept c.take_next.new.keeper) (g.O.Sink.written c.loop.results) c.loop.feeds c.take_next.new.feeds c.loop.sources c.take_next.new.sources c.loop.last c.in-Ok-next_moment.moment c.loop.state c.loop.invariant.looping c.forward_sealed.ensures.kept c.loop.invariant.ready.going c.in-Ok-next_moment.ensures.read c.in-Ok-forward_sealed.marks (view_of g.L.Link c.forward_sealed.new.link) heard c.next_moment.ensures.is) (c.loop.invariant.told tells) (c.in-Ok-next_moment.ensures.noted tells)) (c.told-refused-in-Err-take_next.ensures.skipped tells) (omega (arith, before, noted))
 
 pub returns-clause-stops : goal.returns-clause-stops
 returns-clause-stops g c =
     let over = c.in-Ok-forward_last.ensures.done in
     let heard = heard_now g.T.TakesRound.order g.K.Keeper.tells g.O.Sink.tells g.S.Source.tells g.S.Source.left g.S.Source.faults c.args.basis.now.setup c.args.basis.now.configured.config c.args.basis.now.configured.documents c.args.sources.now (g.K.Keeper.kept c.args.keeper.now) (g.O.Sink.written c.args.results.now) (linked_by g.L.Link c.args.basis.now.setup c.args.link.now) g.C.Clock.reads c.args.clock.now
     (g.K.Keeper.kept c.loop.keeper) (g.K.Keeper.kept c.loop.keeper) over.marks c.loop.invariant.looping.running.added.linked (view_of g.L.Link c.loop.link) (view_of g.L.Link c.forward_last.new.link) (λ told. refl) c.loop.invariant.linked over.heard in
-    of_refusal _ _ _ c.end_session.result c.end_session.ensures.cause c.end_session.ensures.stopped
-    (λ refused is numbers. stops_with _ (λ readings. ReadsAll g.C.Clock.reads c.args.clock.now readings c.loop.clock) (g.K.Keeper.kept c.forward_last.new.keeper) (c.end_session.new.status ≡ c.args.status.now) refused.error refused.numbers (numbers_of c.forward_last.new.state) numbers
+    of_refusal _ _ _ c.end_session-ended.result c.end_session-ended.ensures.cause c.end_session-ended.ensures.stopped
+    (λ refused is numbers. stops_with _ (λ readings. ReadsAll g.C.Clock.reads c.args.clock.now readings c.loop.clock) (g.K.Keeper.kept c.forward_last.new.keeper) (c.end_session-ended.new.status ≡ c.args.status.now) refused.error refused.numbers (numbers_of c.forward_last.new.state) numbers
     (numbers_between _ (λ readings. ReadsAll g.C.Clock.reads c.args.clock.now readings c.loop.clock) (g.K.Keeper.kept c.forward_last.new.keeper) _ _ refused.error (numbers_of c.forward_last.new.state) is
     (over_numbers _ _ _ _ _ _ _ _ _ _ _ _ _ _ _ c.loop.clock c.loop.counter (g.K.Keeper.kept c.loop.keeper) (g.O.Sink.written c.loop.results) c.loop.feeds c.loop.sources c.loop.last c.loop.state c.loop.invariant.looping over.marks (view_of g.L.Link c.forward_last.new.link) heard (g.K.Keeper.kept c.forward_last.new.keeper) over.sealed.between c.forward_last.new.state over.sealed.acked over.sealed.taken over.sealed.kept)))
 
@@ -566,13 +566,13 @@ returns-clause-stops_telling g c tells =
     let over = c.in-Ok-forward_last.ensures.done in
     let heard = heard_now g.T.TakesRound.order g.K.Keeper.tells g.O.Sink.tells g.S.Source.tells g.S.Source.left g.S.Source.faults c.args.basis.now.setup c.args.basis.now.configured.config c.args.basis.now.configured.documents c.args.sources.now (g.K.Keeper.kept c.args.keeper.now) (g.O.Sink.written c.args.results.now) (linked_by g.L.Link c.args.basis.now.setup c.args.link.now) g.C.Clock.reads c.args.clock.now
     (g.K.Keeper.kept c.loop.keeper) (g.K.Keeper.kept c.loop.keeper) over.marks c.loop.invariant.looping.running.added.linked (view_of g.L.Link c.loop.link) (view_of g.L.Link c.forward_last.new.link) (λ told. refl) c.loop.invariant.linked over.heard in
-    let untold = c.end_session.ensures.untold tells in
-    of_refusal _ _ _ c.end_session.result untold untold
-    (λ refused is same. told_none _ (g.K.Keeper.kept c.forward_last.new.keeper) c.args.basis.now.configured.notes (g.O.Sink.written c.args.status.now) (g.O.Sink.written c.loop.status) (g.O.Sink.written c.end_session.new.status) (g.O.Sink.faults c.args.status.now) (g.O.Sink.faults c.loop.status) (g.O.Sink.faults c.end_session.new.status)
+    let untold = c.end_session-ended.ensures.untold tells in
+    of_refusal _ _ _ c.end_session-ended.result untold untold
+    (λ refused is same. told_none _ (g.K.Keeper.kept c.forward_last.new.keeper) c.args.basis.now.configured.notes (g.O.Sink.written c.args.status.now) (g.O.Sink.written c.loop.status) (g.O.Sink.written c.end_session-ended.new.status) (g.O.Sink.faults c.args.status.now) (g.O.Sink.faults c.loop.status) (g.O.Sink.faults c.end_session-ended.new.status)
     (places_of (g.K.Keeper.kept c.args.keeper.now) c.loop.invariant.looping.running.added.entries) (λ told. places_over _ _ _ _ _ _ _ _ _ _ _ _ _ _ _ c.loop.clock c.loop.counter (g.K.Keeper.kept c.loop.keeper) (g.O.Sink.written c.loop.results) c.loop.feeds c.loop.sources c.loop.last c.loop.state c.loop.invariant.looping (g.K.Keeper.kept c.forward_last.new.keeper) c.loop.invariant.looping.running.added.linked (view_of g.L.Link c.forward_last.new.link) (inr (over.marks, heard, over.sealed.kept told)) told) (c.loop.invariant.told tells) is c.loop.invariant.status_later)
 
 pub returns-clause-fit : goal.returns-clause-fit
-returns-clause-fit g c tells = of_any _ c.end_session.result (subst Fits (c.in-Ok.ensures.value tells) c.in-Ok.ensures.fits)
+returns-clause-fit g c tells = of_any _ c.end_session-ended.result (subst Fits (c.in-Ok.ensures.value tells) c.in-Ok.ensures.fits)
 
 pub returns-in-Err-clause-refused : goal.returns-in-Err-clause-refused
 returns-in-Err-clause-refused g c told refused is error =
@@ -603,56 +603,56 @@ forward_last-requires-clause-goes_on g c = c.loop.invariant.goes_on
 
 pub returns-in-Err-forward_sealed-clause-refused : goal.returns-in-Err-forward_sealed-clause-refused
 returns-in-Err-forward_sealed-clause-refused g c told refused is error =
-    let same : c.in-Err-forward_sealed.refused ≡ refused = sym c.told-in-Err-forward_sealed.ensures.same ∙ same_refusal _ _ is in
+    let same : c.in-Err-forward_sealed.refused ≡ refused = sym c.told-refused-in-Err-forward_sealed.ensures.same ∙ same_refusal _ _ is in
     absurd (subst (IsUnforwarded _) (ap (λ (r : Refused). r.error) same ∙ error) c.in-Err-forward_sealed.ensures.cause)
 
 pub returns-in-Err-forward_sealed-clause-illegal : goal.returns-in-Err-forward_sealed-clause-illegal
 returns-in-Err-forward_sealed-clause-illegal g c told refused is error =
-    let same : c.in-Err-forward_sealed.refused ≡ refused = sym c.told-in-Err-forward_sealed.ensures.same ∙ same_refusal _ _ is in
+    let same : c.in-Err-forward_sealed.refused ≡ refused = sym c.told-refused-in-Err-forward_sealed.ensures.same ∙ same_refusal _ _ is in
     absurd (subst (IsUnforwarded _) (ap (λ (r : Refused). r.error) same ∙ error) c.in-Err-forward_sealed.ensures.cause)
 
 pub returns-in-Err-forward_sealed-clause-moment : goal.returns-in-Err-forward_sealed-clause-moment
 returns-in-Err-forward_sealed-clause-moment g c refused moment is error =
-    let same : c.in-Err-forward_sealed.refused ≡ refused = sym c.told-in-Err-forward_sealed.ensures.same ∙ same_refusal _ _ is in
+    let same : c.in-Err-forward_sealed.refused ≡ refused = sym c.told-refused-in-Err-forward_sealed.ensures.same ∙ same_refusal _ _ is in
     absurd (subst (IsUnforwarded _) (ap (λ (r : Refused). r.error) same ∙ error) c.in-Err-forward_sealed.ensures.cause)
 
 pub returns-in-Err-forward_sealed-clause-fault : goal.returns-in-Err-forward_sealed-clause-fault
 returns-in-Err-forward_sealed-clause-fault g c refused place is error =
-    let same : c.in-Err-forward_sealed.refused ≡ refused = sym c.told-in-Err-forward_sealed.ensures.same ∙ same_refusal _ _ is in
+    let same : c.in-Err-forward_sealed.refused ≡ refused = sym c.told-refused-in-Err-forward_sealed.ensures.same ∙ same_refusal _ _ is in
     absurd (subst (IsUnforwarded _) (ap (λ (r : Refused). r.error) same ∙ error) c.in-Err-forward_sealed.ensures.cause)
 
 pub returns-in-Err-forward_sealed-clause-shrank : goal.returns-in-Err-forward_sealed-clause-shrank
 returns-in-Err-forward_sealed-clause-shrank g c refused place kept found is error =
-    let same : c.in-Err-forward_sealed.refused ≡ refused = sym c.told-in-Err-forward_sealed.ensures.same ∙ same_refusal _ _ is in
+    let same : c.in-Err-forward_sealed.refused ≡ refused = sym c.told-refused-in-Err-forward_sealed.ensures.same ∙ same_refusal _ _ is in
     absurd (subst (IsUnforwarded _) (ap (λ (r : Refused). r.error) same ∙ error) c.in-Err-forward_sealed.ensures.cause)
 
 pub returns-in-Err-forward_sealed-clause-spent : goal.returns-in-Err-forward_sealed-clause-spent
 returns-in-Err-forward_sealed-clause-spent g c refused is error =
-    let same : c.in-Err-forward_sealed.refused ≡ refused = sym c.told-in-Err-forward_sealed.ensures.same ∙ same_refusal _ _ is in
+    let same : c.in-Err-forward_sealed.refused ≡ refused = sym c.told-refused-in-Err-forward_sealed.ensures.same ∙ same_refusal _ _ is in
     absurd (subst (IsUnforwarded _) (ap (λ (r : Refused). r.error) same ∙ error) c.in-Err-forward_sealed.ensures.cause)
 
 pub returns-in-Err-forward_sealed-clause-sink_cause : goal.returns-in-Err-forward_sealed-clause-sink_cause
 returns-in-Err-forward_sealed-clause-sink_cause g c refused is error =
-    let same : c.in-Err-forward_sealed.refused ≡ refused = sym c.told-in-Err-forward_sealed.ensures.same ∙ same_refusal _ _ is in
+    let same : c.in-Err-forward_sealed.refused ≡ refused = sym c.told-refused-in-Err-forward_sealed.ensures.same ∙ same_refusal _ _ is in
     absurd (subst (IsUnforwarded _) (ap (λ (r : Refused). r.error) same ∙ error) c.in-Err-forward_sealed.ensures.cause)
 
 pub returns-in-Err-forward_sealed-clause-keeper_cause : goal.returns-in-Err-forward_sealed-clause-keeper_cause
 returns-in-Err-forward_sealed-clause-keeper_cause g c refused is error =
-    let same : c.in-Err-forward_sealed.refused ≡ refused = sym c.told-in-Err-forward_sealed.ensures.same ∙ same_refusal _ _ is in
+    let same : c.in-Err-forward_sealed.refused ≡ refused = sym c.told-refused-in-Err-forward_sealed.ensures.same ∙ same_refusal _ _ is in
     let rose = subst (IsUnforwarded _) (ap (λ (r : Refused). r.error) same ∙ error) c.in-Err-forward_sealed.ensures.cause in
     let before = c.loop.invariant.keeper_later in
     omega (arith, rose, before)
 
 pub returns-in-Err-forward_sealed-clause-notes : goal.returns-in-Err-forward_sealed-clause-notes
 returns-in-Err-forward_sealed-clause-notes g c tells =
-    grown_then _ _ _ (c.loop.invariant.noted tells) (c.told-in-Err-forward_sealed.ensures.grown tells)
+    grown_then _ _ _ (c.loop.invariant.noted tells) (c.told-refused-in-Err-forward_sealed.ensures.grown tells)
 
 pub returns-in-Err-forward_sealed-clause-later : goal.returns-in-Err-forward_sealed-clause-later
 returns-in-Err-forward_sealed-clause-later g c =
     let sealed = c.loop.invariant.keeper_later in
     let forwarded = c.forward_sealed.ensures.later.0 in
     let before = c.loop.invariant.status_later in
-    let behind = c.told-in-Err-forward_sealed.ensures.later in
+    let behind = c.told-refused-in-Err-forward_sealed.ensures.later in
     (omega (arith, sealed, forwarded), c.loop.invariant.results_later, omega (arith, before, behind))
 
 pub returns-in-Err-forward_sealed-clause-unlinked : goal.returns-in-Err-forward_sealed-clause-unlinked
@@ -660,56 +660,56 @@ returns-in-Err-forward_sealed-clause-unlinked g c off = c.forward_sealed.ensures
 
 pub returns-in-Err-forward_last-clause-refused : goal.returns-in-Err-forward_last-clause-refused
 returns-in-Err-forward_last-clause-refused g c told refused is error =
-    let same : c.in-Err-forward_last.refused ≡ refused = sym c.told-in-Err-forward_last.ensures.same ∙ same_refusal _ _ is in
+    let same : c.in-Err-forward_last.refused ≡ refused = sym c.told-refused-in-Err-forward_last.ensures.same ∙ same_refusal _ _ is in
     absurd (subst (IsUnforwarded _) (ap (λ (r : Refused). r.error) same ∙ error) c.in-Err-forward_last.ensures.cause)
 
 pub returns-in-Err-forward_last-clause-illegal : goal.returns-in-Err-forward_last-clause-illegal
 returns-in-Err-forward_last-clause-illegal g c told refused is error =
-    let same : c.in-Err-forward_last.refused ≡ refused = sym c.told-in-Err-forward_last.ensures.same ∙ same_refusal _ _ is in
+    let same : c.in-Err-forward_last.refused ≡ refused = sym c.told-refused-in-Err-forward_last.ensures.same ∙ same_refusal _ _ is in
     absurd (subst (IsUnforwarded _) (ap (λ (r : Refused). r.error) same ∙ error) c.in-Err-forward_last.ensures.cause)
 
 pub returns-in-Err-forward_last-clause-moment : goal.returns-in-Err-forward_last-clause-moment
 returns-in-Err-forward_last-clause-moment g c refused moment is error =
-    let same : c.in-Err-forward_last.refused ≡ refused = sym c.told-in-Err-forward_last.ensures.same ∙ same_refusal _ _ is in
+    let same : c.in-Err-forward_last.refused ≡ refused = sym c.told-refused-in-Err-forward_last.ensures.same ∙ same_refusal _ _ is in
     absurd (subst (IsUnforwarded _) (ap (λ (r : Refused). r.error) same ∙ error) c.in-Err-forward_last.ensures.cause)
 
 pub returns-in-Err-forward_last-clause-fault : goal.returns-in-Err-forward_last-clause-fault
 returns-in-Err-forward_last-clause-fault g c refused place is error =
-    let same : c.in-Err-forward_last.refused ≡ refused = sym c.told-in-Err-forward_last.ensures.same ∙ same_refusal _ _ is in
+    let same : c.in-Err-forward_last.refused ≡ refused = sym c.told-refused-in-Err-forward_last.ensures.same ∙ same_refusal _ _ is in
     absurd (subst (IsUnforwarded _) (ap (λ (r : Refused). r.error) same ∙ error) c.in-Err-forward_last.ensures.cause)
 
 pub returns-in-Err-forward_last-clause-shrank : goal.returns-in-Err-forward_last-clause-shrank
 returns-in-Err-forward_last-clause-shrank g c refused place kept found is error =
-    let same : c.in-Err-forward_last.refused ≡ refused = sym c.told-in-Err-forward_last.ensures.same ∙ same_refusal _ _ is in
+    let same : c.in-Err-forward_last.refused ≡ refused = sym c.told-refused-in-Err-forward_last.ensures.same ∙ same_refusal _ _ is in
     absurd (subst (IsUnforwarded _) (ap (λ (r : Refused). r.error) same ∙ error) c.in-Err-forward_last.ensures.cause)
 
 pub returns-in-Err-forward_last-clause-spent : goal.returns-in-Err-forward_last-clause-spent
 returns-in-Err-forward_last-clause-spent g c refused is error =
-    let same : c.in-Err-forward_last.refused ≡ refused = sym c.told-in-Err-forward_last.ensures.same ∙ same_refusal _ _ is in
+    let same : c.in-Err-forward_last.refused ≡ refused = sym c.told-refused-in-Err-forward_last.ensures.same ∙ same_refusal _ _ is in
     absurd (subst (IsUnforwarded _) (ap (λ (r : Refused). r.error) same ∙ error) c.in-Err-forward_last.ensures.cause)
 
 pub returns-in-Err-forward_last-clause-sink_cause : goal.returns-in-Err-forward_last-clause-sink_cause
 returns-in-Err-forward_last-clause-sink_cause g c refused is error =
-    let same : c.in-Err-forward_last.refused ≡ refused = sym c.told-in-Err-forward_last.ensures.same ∙ same_refusal _ _ is in
+    let same : c.in-Err-forward_last.refused ≡ refused = sym c.told-refused-in-Err-forward_last.ensures.same ∙ same_refusal _ _ is in
     absurd (subst (IsUnforwarded _) (ap (λ (r : Refused). r.error) same ∙ error) c.in-Err-forward_last.ensures.cause)
 
 pub returns-in-Err-forward_last-clause-keeper_cause : goal.returns-in-Err-forward_last-clause-keeper_cause
 returns-in-Err-forward_last-clause-keeper_cause g c refused is error =
-    let same : c.in-Err-forward_last.refused ≡ refused = sym c.told-in-Err-forward_last.ensures.same ∙ same_refusal _ _ is in
+    let same : c.in-Err-forward_last.refused ≡ refused = sym c.told-refused-in-Err-forward_last.ensures.same ∙ same_refusal _ _ is in
     let rose = subst (IsUnforwarded _) (ap (λ (r : Refused). r.error) same ∙ error) c.in-Err-forward_last.ensures.cause in
     let before = c.loop.invariant.keeper_later in
     omega (arith, rose, before)
 
 pub returns-in-Err-forward_last-clause-notes : goal.returns-in-Err-forward_last-clause-notes
 returns-in-Err-forward_last-clause-notes g c tells =
-    grown_then _ _ _ (c.loop.invariant.noted tells) (c.told-in-Err-forward_last.ensures.grown tells)
+    grown_then _ _ _ (c.loop.invariant.noted tells) (c.told-refused-in-Err-forward_last.ensures.grown tells)
 
 pub returns-in-Err-forward_last-clause-later : goal.returns-in-Err-forward_last-clause-later
 returns-in-Err-forward_last-clause-later g c =
     let sealed = c.loop.invariant.keeper_later in
     let forwarded = c.forward_last.ensures.later.0 in
     let before = c.loop.invariant.status_later in
-    let behind = c.told-in-Err-forward_last.ensures.later in
+    let behind = c.told-refused-in-Err-forward_last.ensures.later in
     (omega (arith, sealed, forwarded), c.loop.invariant.results_later, omega (arith, before, behind))
 
 pub returns-in-Err-forward_last-clause-unlinked : goal.returns-in-Err-forward_last-clause-unlinked
@@ -728,7 +728,7 @@ pub returns-in-Err-forward_sealed-clause-stops : goal.returns-in-Err-forward_sea
 returns-in-Err-forward_sealed-clause-stops g c =
     let r = c.loop.invariant.looping.running.added in
     let numbers = numbers_are g.S.Source.left _ r.entries (g.K.Keeper.kept c.loop.keeper) c.loop.feeds c.loop.sources c.loop.last c.loop.state r.standing r.empty in
-    linked_stops _ (λ readings. ReadsAll g.C.Clock.reads c.args.clock.now readings c.loop.clock) (g.K.Keeper.kept c.forward_sealed.new.keeper) (c.told-in-Err-forward_sealed.new.status ≡ c.args.status.now) _ c.in-Err-forward_sealed.refused c.told-in-Err-forward_sealed.result (numbers_of c.loop.state) c.told-in-Err-forward_sealed.ensures.same c.in-Err-forward_sealed.ensures.numbers c.in-Err-forward_sealed.ensures.cause
+    linked_stops _ (λ readings. ReadsAll g.C.Clock.reads c.args.clock.now readings c.loop.clock) (g.K.Keeper.kept c.forward_sealed.new.keeper) (c.told-refused-in-Err-forward_sealed.new.status ≡ c.args.status.now) _ c.in-Err-forward_sealed.refused c.told-refused-in-Err-forward_sealed.result (numbers_of c.loop.state) c.told-refused-in-Err-forward_sealed.ensures.same c.in-Err-forward_sealed.ensures.numbers c.in-Err-forward_sealed.ensures.cause
     (failed_numbers _ _ _ _ _ _ _ _ _ _ _ _ _ _ _ c.loop.clock c.loop.counter (g.K.Keeper.kept c.loop.keeper) (g.O.Sink.written c.loop.results) c.loop.feeds c.loop.sources c.loop.last c.loop.state c.loop.invariant.looping c.in-Err-forward_sealed.ensures.forwards (g.K.Keeper.kept c.forward_sealed.new.keeper) (λ tells. ([], c.forward_sealed.ensures.kept tells ∙ sym (append-nil (g.K.Keeper.kept c.loop.keeper)))))
     (λ other. λ tells legal. subst (λ (list : List Entry). HasNumbers list (numbers_of c.loop.state)) (sym (c.forward_sealed.ensures.kept tells)) (numbers tells legal))
 
@@ -736,9 +736,9 @@ pub returns-in-Err-forward_sealed-clause-stops_telling : goal.returns-in-Err-for
 returns-in-Err-forward_sealed-clause-stops_telling g c tells =
     let r = c.loop.invariant.looping.running.added in
     let still = λ (told : g.K.Keeper.tells). c.forward_sealed.ensures.kept told ∙ all_kept g.S.Source.left _ r.entries (g.K.Keeper.kept c.loop.keeper) c.loop.feeds c.loop.sources c.loop.last c.loop.state r.standing r.empty told in
-    told_some _ (g.K.Keeper.kept c.forward_sealed.new.keeper) c.args.basis.now.configured.notes (g.O.Sink.written c.args.status.now) (g.O.Sink.written c.loop.status) (g.O.Sink.written c.told-in-Err-forward_sealed.new.status) (g.O.Sink.faults c.args.status.now) (g.O.Sink.faults c.loop.status) (g.O.Sink.faults c.told-in-Err-forward_sealed.new.status)
+    told_some _ (g.K.Keeper.kept c.forward_sealed.new.keeper) c.args.basis.now.configured.notes (g.O.Sink.written c.args.status.now) (g.O.Sink.written c.loop.status) (g.O.Sink.written c.told-refused-in-Err-forward_sealed.new.status) (g.O.Sink.faults c.args.status.now) (g.O.Sink.faults c.loop.status) (g.O.Sink.faults c.told-refused-in-Err-forward_sealed.new.status)
     (places_of (g.K.Keeper.kept c.args.keeper.now) c.loop.invariant.looping.running.added.entries) c.loop.feeds (counts_now g.S.Source.left _ r.entries (g.K.Keeper.kept c.forward_sealed.new.keeper) c.loop.feeds c.loop.sources still r.standing.fed)
-    (λ told. places_now (g.K.Keeper.kept c.args.keeper.now) (g.K.Keeper.kept c.forward_sealed.new.keeper) c.loop.invariant.looping.running.added.entries (still told)) (c.loop.invariant.told tells) (c.told-in-Err-forward_sealed.ensures.skipped tells) c.loop.invariant.status_later
+    (λ told. places_now (g.K.Keeper.kept c.args.keeper.now) (g.K.Keeper.kept c.forward_sealed.new.keeper) c.loop.invariant.looping.running.added.entries (still told)) (c.loop.invariant.told tells) (c.told-refused-in-Err-forward_sealed.ensures.skipped tells) c.loop.invariant.status_later
 
 pub returns-in-Err-forward_last-clause-kept : goal.returns-in-Err-forward_last-clause-kept
 returns-in-Err-forward_last-clause-kept g c told =
@@ -752,16 +752,16 @@ pub returns-in-Err-forward_last-clause-stops : goal.returns-in-Err-forward_last-
 returns-in-Err-forward_last-clause-stops g c =
     let r = c.loop.invariant.looping.running.added in
     let numbers = numbers_are g.S.Source.left _ r.entries (g.K.Keeper.kept c.loop.keeper) c.loop.feeds c.loop.sources c.loop.last c.loop.state r.standing r.empty in
-    linked_stops _ (λ readings. ReadsAll g.C.Clock.reads c.args.clock.now readings c.loop.clock) (g.K.Keeper.kept c.forward_last.new.keeper) (c.told-in-Err-forward_last.new.status ≡ c.args.status.now) _ c.in-Err-forward_last.refused c.told-in-Err-forward_last.result (numbers_of c.loop.state) c.told-in-Err-forward_last.ensures.same c.in-Err-forward_last.ensures.numbers c.in-Err-forward_last.ensures.cause
+    linked_stops _ (λ readings. ReadsAll g.C.Clock.reads c.args.clock.now readings c.loop.clock) (g.K.Keeper.kept c.forward_last.new.keeper) (c.told-refused-in-Err-forward_last.new.status ≡ c.args.status.now) _ c.in-Err-forward_last.refused c.told-refused-in-Err-forward_last.result (numbers_of c.loop.state) c.told-refused-in-Err-forward_last.ensures.same c.in-Err-forward_last.ensures.numbers c.in-Err-forward_last.ensures.cause
     (failed_numbers _ _ _ _ _ _ _ _ _ _ _ _ _ _ _ c.loop.clock c.loop.counter (g.K.Keeper.kept c.loop.keeper) (g.O.Sink.written c.loop.results) c.loop.feeds c.loop.sources c.loop.last c.loop.state c.loop.invariant.looping c.in-Err-forward_last.ensures.forwards (g.K.Keeper.kept c.forward_last.new.keeper) (λ tells. more_over _ _ _ _ _ _ _ _ _ _ _ _ _ _ _ c.loop.clock c.loop.counter (g.K.Keeper.kept c.loop.keeper) (g.O.Sink.written c.loop.results) c.loop.feeds c.loop.sources c.loop.last c.loop.state c.loop.invariant.looping (g.K.Keeper.kept c.forward_last.new.keeper) (view_of g.L.Link c.loop.link) (view_of g.L.Link c.forward_last.new.link) (c.in-Err-forward_last.ensures.kept tells)))
     (λ other. λ tells legal. subst (λ (list : List Entry). HasNumbers list (numbers_of c.loop.state)) (sym (c.in-Err-forward_last.ensures.unkept tells other)) (numbers tells legal))
 
 pub returns-in-Err-forward_last-clause-stops_telling : goal.returns-in-Err-forward_last-clause-stops_telling
 returns-in-Err-forward_last-clause-stops_telling g c tells =
     let r = c.loop.invariant.looping.running.added in
-    told_some _ (g.K.Keeper.kept c.forward_last.new.keeper) c.args.basis.now.configured.notes (g.O.Sink.written c.args.status.now) (g.O.Sink.written c.loop.status) (g.O.Sink.written c.told-in-Err-forward_last.new.status) (g.O.Sink.faults c.args.status.now) (g.O.Sink.faults c.loop.status) (g.O.Sink.faults c.told-in-Err-forward_last.new.status)
+    told_some _ (g.K.Keeper.kept c.forward_last.new.keeper) c.args.basis.now.configured.notes (g.O.Sink.written c.args.status.now) (g.O.Sink.written c.loop.status) (g.O.Sink.written c.told-refused-in-Err-forward_last.new.status) (g.O.Sink.faults c.args.status.now) (g.O.Sink.faults c.loop.status) (g.O.Sink.faults c.told-refused-in-Err-forward_last.new.status)
     (places_of (g.K.Keeper.kept c.args.keeper.now) c.loop.invariant.looping.running.added.entries) c.loop.feeds (counts_over g.S.Source.left _ r.entries (g.K.Keeper.kept c.forward_last.new.keeper) c.loop.feeds c.loop.sources (λ told. rest_over _ _ _ _ _ _ _ _ _ _ _ _ _ _ _ c.loop.clock c.loop.counter (g.K.Keeper.kept c.loop.keeper) (g.O.Sink.written c.loop.results) c.loop.feeds c.loop.sources c.loop.last c.loop.state c.loop.invariant.looping (g.K.Keeper.kept c.forward_last.new.keeper) (view_of g.L.Link c.loop.link) (view_of g.L.Link c.forward_last.new.link) (c.in-Err-forward_last.ensures.kept told) told) r.standing.fed)
-    (λ told. places_over _ _ _ _ _ _ _ _ _ _ _ _ _ _ _ c.loop.clock c.loop.counter (g.K.Keeper.kept c.loop.keeper) (g.O.Sink.written c.loop.results) c.loop.feeds c.loop.sources c.loop.last c.loop.state c.loop.invariant.looping (g.K.Keeper.kept c.forward_last.new.keeper) (view_of g.L.Link c.loop.link) (view_of g.L.Link c.forward_last.new.link) (c.in-Err-forward_last.ensures.kept told) told) (c.loop.invariant.told tells) (c.told-in-Err-forward_last.ensures.skipped tells) c.loop.invariant.status_later
+    (λ told. places_over _ _ _ _ _ _ _ _ _ _ _ _ _ _ _ c.loop.clock c.loop.counter (g.K.Keeper.kept c.loop.keeper) (g.O.Sink.written c.loop.results) c.loop.feeds c.loop.sources c.loop.last c.loop.state c.loop.invariant.looping (g.K.Keeper.kept c.forward_last.new.keeper) (view_of g.L.Link c.loop.link) (view_of g.L.Link c.forward_last.new.link) (c.in-Err-forward_last.ensures.kept told) told) (c.loop.invariant.told tells) (c.told-refused-in-Err-forward_last.ensures.skipped tells) c.loop.invariant.status_later
 
 pub returns-clause-unlinked : goal.returns-clause-unlinked
 returns-clause-unlinked g c off = c.forward_last.ensures.unlinked off ∙ c.loop.invariant.unlinked off
@@ -815,7 +815,7 @@ returns-in-Err-open_noted-clause-failed g c counts off refused is error =
 
 pub returns-in-Err-take_tick-clause-failed : goal.returns-in-Err-take_tick-clause-failed
 returns-in-Err-take_tick-clause-failed g c counts off refused is error =
-    let same : c.in-Err-take_tick.refused ≡ refused = sym c.told.ensures.same ∙ same_refusal _ _ is in
+    let same : c.in-Err-take_tick.refused ≡ refused = sym c.told-refused.ensures.same ∙ same_refusal _ _ is in
     let because = ap (λ (r : Refused). r.error) same ∙ error in
     let none = none_opening _ _ _ _ _ _ _ _ _ _ _ _ _ c.in-Ok-open_noted.session.state c.in-Ok-open_noted.ensures.opened.opens in
     stopped_first g.K.Keeper.tells (g.K.Keeper.calls c.args.keeper.now) (g.K.Keeper.calls c.load_values.new.keeper) (g.K.Keeper.calls c.take_tick.new.keeper) (g.K.Keeper.kept c.args.keeper.now) (g.K.Keeper.kept c.load_values.new.keeper) (g.K.Keeper.kept c.take_tick.new.keeper) c.args.basis.now.setup.ticks c.requires.ticks (c.in-Ok.ensures.passed counts) c.in-Ok.ensures.same (c.take_tick.ensures.failed counts c.in-Err-take_tick.refused c.in-Err-take_tick.is because)
@@ -827,12 +827,12 @@ returns-in-Err-forward_sealed-clause-failed g c counts off refused is error =
 
 pub returns-in-Err-next_moment-clause-failed : goal.returns-in-Err-next_moment-clause-failed
 returns-in-Err-next_moment-clause-failed g c counts off refused is error =
-    let same : c.in-Err-next_moment.refused ≡ refused = sym c.told-in-Err-next_moment.ensures.same ∙ same_refusal _ _ is in
+    let same : c.in-Err-next_moment.refused ≡ refused = sym c.told-refused-in-Err-next_moment.ensures.same ∙ same_refusal _ _ is in
     absurd (subst (IsBetween _ _) (ap (λ (r : Refused). r.error) same ∙ error) c.in-Err-next_moment.ensures.cause)
 
 pub returns-in-Err-take_next-clause-failed : goal.returns-in-Err-take_next-clause-failed
 returns-in-Err-take_next-clause-failed g c counts off refused is error =
-    let same : c.in-Err-take_next.refused ≡ refused = sym c.told-in-Err-take_next.ensures.same ∙ same_refusal _ _ is in
+    let same : c.in-Err-take_next.refused ≡ refused = sym c.told-refused-in-Err-take_next.ensures.same ∙ same_refusal _ _ is in
     let because = ap (λ (r : Refused). r.error) same ∙ error in
     let within = c.loop-test.true in
     stopped_next g.K.Keeper.tells (g.K.Keeper.calls c.args.keeper.now) (g.K.Keeper.calls c.forward_sealed.new.keeper) (g.K.Keeper.calls c.take_next.new.keeper) (g.K.Keeper.kept c.args.keeper.now) (g.K.Keeper.kept c.forward_sealed.new.keeper) (g.K.Keeper.kept c.take_next.new.keeper) c.loop.counter c.args.basis.now.setup.ticks (omega (arith, within))
@@ -846,7 +846,7 @@ returns-in-Err-forward_last-clause-failed g c counts off refused is error =
 
 pub returns-clause-failed : goal.returns-clause-failed
 returns-clause-failed g c counts off refused is error =
-    absurd (subst (IsBetween _ _) error (of_error _ c.end_session.result refused c.end_session.ensures.cause is))
+    absurd (subst (IsBetween _ _) error (of_error _ c.end_session-ended.result refused c.end_session-ended.ensures.cause is))
 
 pub returns-clause-sealed : goal.returns-clause-sealed
 returns-clause-sealed g c counts off =
@@ -854,5 +854,60 @@ returns-clause-sealed g c counts off =
     let within = c.loop.auto.counter-end in
     let some = c.requires.ticks in
     let same : c.loop.counter ≡ c.args.basis.now.setup.ticks = omega (arith, past, within, some) in
-    on_ok c.end_session.result
+    on_ok c.end_session-ended.result
     (subst (λ (k : _). HasSealedOf g.K.Keeper c.args.keeper.now k c.args.basis.now.setup.ticks) (sym (c.forward_last.ensures.still off)) (subst (λ (ticks : ℕ). HasSealedOf g.K.Keeper c.args.keeper.now c.loop.keeper ticks) same (c.loop.invariant.sealed counts off)))
+
+pub returns-in-Err-clause-fit_behind : goal.returns-in-Err-clause-fit_behind
+returns-in-Err-clause-fit_behind g c told behind = absurd (not_loaded c.in-Err.error (subst IsBehindLoading c.unloaded.ensures.error behind))
+
+pub returns-in-Err-clause-unfit : goal.returns-in-Err-clause-unfit
+returns-in-Err-clause-unfit g c told error = c.load_values.ensures.same told
+
+pub returns-in-Err-open_noted-clause-unfit : goal.returns-in-Err-open_noted-clause-unfit
+returns-in-Err-open_noted-clause-unfit g c told error = c.load_values.ensures.same told
+
+pub returns-in-Err-take_tick-clause-unfit : goal.returns-in-Err-take_tick-clause-unfit
+returns-in-Err-take_tick-clause-unfit g c told error =
+    absurd ((c.take_tick.ensures.opened c.in-Err-take_tick.refused c.in-Err-take_tick.is).0 (ap (λ (r : Refused). r.error) (sym c.told-refused.ensures.same) ∙ error))
+
+pub returns-in-Err-forward_sealed-clause-unfit : goal.returns-in-Err-forward_sealed-clause-unfit
+returns-in-Err-forward_sealed-clause-unfit g c told error =
+    absurd (subst (IsUnforwarded _) (ap (λ (r : Refused). r.error) (sym c.told-refused-in-Err-forward_sealed.ensures.same) ∙ error) c.in-Err-forward_sealed.ensures.cause)
+
+pub returns-in-Err-next_moment-clause-unfit : goal.returns-in-Err-next_moment-clause-unfit
+returns-in-Err-next_moment-clause-unfit g c told error =
+    absurd (subst (IsBetween _ _) (ap (λ (r : Refused). r.error) (sym c.told-refused-in-Err-next_moment.ensures.same) ∙ error) c.in-Err-next_moment.ensures.cause)
+
+pub returns-in-Err-take_next-clause-unfit : goal.returns-in-Err-take_next-clause-unfit
+returns-in-Err-take_next-clause-unfit g c told error =
+    absurd ((c.take_next.ensures.opened c.in-Err-take_next.refused c.in-Err-take_next.is).0 (ap (λ (r : Refused). r.error) (sym c.told-refused-in-Err-take_next.ensures.same) ∙ error))
+
+pub returns-in-Err-forward_last-clause-unfit : goal.returns-in-Err-forward_last-clause-unfit
+returns-in-Err-forward_last-clause-unfit g c told error =
+    absurd (subst (IsUnforwarded _) (ap (λ (r : Refused). r.error) (sym c.told-refused-in-Err-forward_last.ensures.same) ∙ error) c.in-Err-forward_last.ensures.cause)
+
+pub returns-clause-unfit : goal.returns-clause-unfit
+returns-clause-unfit g c told =
+    of_refusal _ _ _ c.end_session-ended.result c.end_session-ended.ensures.cause c.end_session-ended.ensures.cause (λ refused between same error. absurd (subst (IsBetween _ _) error between))
+
+pub returns-clause-fit_behind : goal.returns-clause-fit_behind
+returns-clause-fit_behind g c told =
+    of_refusal _ _ _ c.end_session-ended.result c.end_session-ended.ensures.cause c.end_session-ended.ensures.cause (λ refused one other behind. subst Fits (c.in-Ok.ensures.value told) c.in-Ok.ensures.fits)
+
+pub returns-in-Err-open_noted-clause-fit_behind : goal.returns-in-Err-open_noted-clause-fit_behind
+returns-in-Err-open_noted-clause-fit_behind g c told behind = subst Fits (c.in-Ok.ensures.value told) c.in-Ok.ensures.fits
+
+pub returns-in-Err-take_tick-clause-fit_behind : goal.returns-in-Err-take_tick-clause-fit_behind
+returns-in-Err-take_tick-clause-fit_behind g c told behind = subst Fits (c.in-Ok.ensures.value told) c.in-Ok.ensures.fits
+
+pub returns-in-Err-forward_sealed-clause-fit_behind : goal.returns-in-Err-forward_sealed-clause-fit_behind
+returns-in-Err-forward_sealed-clause-fit_behind g c told behind = subst Fits (c.in-Ok.ensures.value told) c.in-Ok.ensures.fits
+
+pub returns-in-Err-next_moment-clause-fit_behind : goal.returns-in-Err-next_moment-clause-fit_behind
+returns-in-Err-next_moment-clause-fit_behind g c told behind = subst Fits (c.in-Ok.ensures.value told) c.in-Ok.ensures.fits
+
+pub returns-in-Err-take_next-clause-fit_behind : goal.returns-in-Err-take_next-clause-fit_behind
+returns-in-Err-take_next-clause-fit_behind g c told behind = subst Fits (c.in-Ok.ensures.value told) c.in-Ok.ensures.fits
+
+pub returns-in-Err-forward_last-clause-fit_behind : goal.returns-in-Err-forward_last-clause-fit_behind
+returns-in-Err-forward_last-clause-fit_behind g c told behind = subst Fits (c.in-Ok.ensures.value told) c.in-Ok.ensures.fits
