@@ -18,7 +18,9 @@ ghost use Rattle.session_state.specs.Ticks.{held_back_by, first_due, owed_at};
 ghost use Rattle.std.specs.List.{cons_option};
 ghost use Rattle.std.specs.Option.{option_map_or};
 ghost use Rattle.osq_value.specs.declared.moment.TheConstants.{LAST_MOMENT};
-ghost use Rattle.session_state.specs.Computed.{shown_by};
+ghost use Rattle.query_cursors.specs.Places.{places_of};
+ghost use Rattle.session_state.specs.Computed.{schedule_shown, shown_by};
+ghost use Rattle.session_state.specs.Listed.{AreFresh};
 ghost use Rattle.session_state.specs.Cut.{CutValue};
 ghost use Rattle.session_state.specs.CutOf.{mark_from, IsCutOf};
 ghost use Rattle.session_state.specs.Marks.{IsRising};
@@ -125,6 +127,16 @@ impl Model for State {
     ghost use Rattle.session_state.specs.Inside.{IsWhole};
 
     ghost invariant = { IsWhole };
+}
+
+/// What a session runs by a schedule.
+#[derive(Drop)]
+struct Running {
+    schedule: Schedule,
+    claims: Vec<bool>,
+    /// Where each query has its last batch among those of all.
+    places: Vec<Option<usize>>,
+    listed: Listed,
 }
 
 /// Makes room for so many commits, whichever queries they are of.
@@ -454,11 +466,7 @@ impl State {
             return Err(NoMemory);
         }
         let moment = moment.max(self.moment);
-        let kept = schedule.copy(alloc)?;
-        let claims = unclaimed(alloc, kept.queries.len())?;
-        let queries_now = kept.queries.as_slice();
-        let places = self.cursors.find_places(alloc, queries_now)?;
-        let listed = Listed::of(alloc, queries_now, &self.cursors, places.as_slice())?;
+        let running = self.running_by(alloc, &schedule)?;
         self.marks.reserve(1)?;
         self.tail.push(Entry::Configured {
             document,
@@ -470,14 +478,35 @@ impl State {
             return Err(NoMemory);
         };
         self.marks.push_reserved(self.position);
-        self.claims = claims;
+        self.claims = running.claims;
         self.from = 0;
-        self.listed = listed;
-        self.cursors.set_places(places);
-        self.schedule = kept;
+        self.listed = running.listed;
+        self.cursors.set_places(running.places);
+        self.schedule = running.schedule;
         self.position += 1;
         self.moment = moment;
         Ok(())
+    }
+
+    /// What the session is to run by this schedule, of which no query is claimed.
+    fn running_by(&self, alloc: Global, schedule: &Schedule) -> Result<Running, NoMemory>
+        requires { IsSound schedule.now }
+        ensures schedule { IfOk result (λ running. running.schedule ≡ schedule.now) }
+        ensures claims { IfOk result (λ running. running.claims.items ≡ replicate (length schedule.now.queries) false) }
+        ensures places { IfOk result (λ running. running.places.items ≡ places_of self.now.counts.runs schedule.now.queries) }
+        ensures listed { IfOk result (λ running. AreFresh (schedule_shown self.now.counts.runs schedule.now.queries) running.listed) }
+    {
+        let kept = schedule.copy(alloc)?;
+        let claims = unclaimed(alloc, kept.queries.len())?;
+        let queries = kept.queries.as_slice();
+        let places = self.cursors.find_places(alloc, queries)?;
+        let listed = Listed::of(alloc, queries, &self.cursors, places.as_slice())?;
+        Ok(Running {
+            schedule: kept,
+            claims,
+            places,
+            listed,
+        })
     }
 
     /// Takes the entries off that were added since the last time, to be sealed. The state stands for the same list.

@@ -27,7 +27,7 @@ returns-clause-configured c =
     rw (← c.self.view_is) (adds s _ (Configured a.document a.schedule moment) refl c.self.invariant.state.image (λ K h. (c.requires.sound, record { later = (let now = ap (λ (c : Counts). c.moment) h.counts in omega (arith, now)); calendar = omega (arith, known, low) })) (record {
       counts = λ i. record { position = counts.position + 1; sessions = counts.sessions; moment = c.max-moment.ensures i; taken = counts.taken; runs = runs i; batches = counts.batches; acked = counts.acked };
       image = refl;
-      schedule = c.in_ok-kept.ensures;
+      schedule = c.in_ok-running.ensures.schedule;
       ticked = refl;
       marks = c.push_reserved.ensures.items ∙ ap (λ (marks : List ℕ). marks ++ counts.position ∷ []) c.in_ok-reserve.ensures.items;
       tail = ap (λ (t : EntriesAndRoom). t.entries) c.in-Ok.ensures.tail ∙ ap (λ (t : EntriesAndRoom). t.entries) c.in_ok-push.ensures.ok ∙ ap (λ (m : ℕ). s.tail ++ Configured a.document a.schedule m ∷ []) c.max-moment.ensures;
@@ -36,8 +36,12 @@ returns-clause-configured c =
 pub invariant_of-self-2 : goal.invariant_of-self-2
 invariant_of-self-2 c =
     let s = kept c.self.inside in
-    let same : length c.in_ok-kept.kept.queries ≡ length c.args.schedule.queries = ap (λ (schedule : Schedule). length schedule.queries) c.in_ok-kept.ensures in
-    let count : c.len-queries.result ≡ length c.in_ok-kept.kept.queries = c.len-queries.ensures ∙ sym same in
+    let running = c.in_ok-running.running in
+    let told = c.in_ok-running.ensures in
+    let places = rw (← c.self.view_is) at told.places in
+    let listed = rw (← c.self.view_is) at told.listed in
+    let same : length running.schedule.queries ≡ length c.args.schedule.queries = ap (λ (schedule : Schedule). length schedule.queries) told.schedule in
+    let count : c.len-queries.result ≡ length running.schedule.queries = c.len-queries.ensures ∙ sym same in
     let known = c.self.invariant.state.moment in
     let calendar = c.requires.calendar in
     let runs = ap (λ (r : Indexed). r.runs) c.set_places.ensures ∙ ap (λ (r : Indexed). r.runs) c.in-Ok.ensures.cursors in
@@ -51,14 +55,14 @@ invariant_of-self-2 c =
         runs = runs;
         batches = refl;
         acked = refl;
-        schedule = subst IsSound (sym c.in_ok-kept.ensures) c.requires.sound;
-        claims = ap (λ (claims : List Bool). length claims) c.in_ok-claims.ensures ∙ simp length-replicate c.len.ensures;
+        schedule = subst IsSound (sym told.schedule) c.requires.sound;
+        claims = ap (λ (claims : List Bool). length claims) told.claims ∙ simp length-replicate (sym same);
         tail_room = ap (λ (t : EntriesAndRoom). t.room) c.in-Ok.ensures.tail ∙ (λ i. max ((c.in_ok-push.ensures.ok i).room) (count i));
         run_room = ap (λ (r : Indexed). r.room) c.set_places.ensures ∙ ap (λ (r : Indexed). r.room) c.in-Ok.ensures.cursors ∙ ap (max s.run_room) count;
-        places = ap (λ (r : Indexed). r.places) c.set_places.ensures ∙ c.in_ok-places.ensures ∙ (λ i. places_of (sym runs i) (c.as_slice-queries_now.ensures i));
+        places = ap (λ (r : Indexed). r.places) c.set_places.ensures ∙ places ∙ (λ i. places_of (sym runs i) ((sym told.schedule i).queries));
         marks = c.push_reserved.ensures.items ∙ ap (λ (marks : List ℕ). marks ++ s.counts.position ∷ []) c.in_ok-reserve.ensures.items;
       });
-      listed = subst (λ (runs : List Run). AreFresh (schedule_shown runs c.in_ok-kept.kept.queries) c.in_ok-listed.listed) (sym runs) (subst (λ (queries : List Scheduled). AreFresh (schedule_shown s.counts.runs queries) c.in_ok-listed.listed) c.as_slice-queries_now.ensures c.in_ok-listed.ensures);
+      listed = subst (λ (runs : List Run). AreFresh (schedule_shown runs running.schedule.queries) running.listed) (sym runs) (subst (λ (schedule : Schedule). AreFresh (schedule_shown s.counts.runs schedule.queries) running.listed) (sym told.schedule) listed);
       slices = c.self.invariant.slices;
       passed = λ place scheduled lt. absurd (omega (arith, lt));
     }
