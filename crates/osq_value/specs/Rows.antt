@@ -8,3 +8,11 @@ use Rattle.osq_value.specs.declared.rows.Values.TheVariants as values
 abbrev pub values_of : Values → List Value
 values_of (values.Own held) = held.items
 values_of (values.Shared held) = (arc_value held).items
+values_of (values.One held) = arc_value held
+values_of (values.Two held) = arc_value held
+values_of (values.Four held) = arc_value held
+values_of (values.Five held) = arc_value held
+values_of (values.Six held) = arc_value held
+values_of (values.Ten held) = arc_value held
+values_of (values.Twelve held) = arc_value held
+values_of (values.Thirteen held) = arc_value held

@@ -2,6 +2,7 @@
 
 ghost use Rattle.std.specs.Prelude.{◌≡◌, ℕ, [], ◌∷◌, ◌++◌, length, OnOk, OnErr, IfOk, slice_get};
 ghost use Rattle.std.specs.Option.{option_copied};
+ghost use Rattle.osq_value.specs.Rows.{values_of};
 
 use crate::memory::NoMemory;
 use crate::sequence::{Copied, Sequence};
@@ -15,13 +16,23 @@ use std::sync::Arc;
 #[derive(Drop)]
 pub struct Row {
     values: Values,
+    alloc: Global,
 }
 
-/// Whose the values of a row are.
+/// Whose the values of a row are. Shared ones lie beside the count of those who share them where a table of the catalogue has as many
+/// columns, so that a look at them is one step through memory; else the count stands before a list of them.
 #[derive(Drop)]
 enum Values {
     Own(Vec<Value>),
     Shared(Arc<Vec<Value>, Global>),
+    One(Arc<[Value; 1], Global>),
+    Two(Arc<[Value; 2], Global>),
+    Four(Arc<[Value; 4], Global>),
+    Five(Arc<[Value; 5], Global>),
+    Six(Arc<[Value; 6], Global>),
+    Ten(Arc<[Value; 10], Global>),
+    Twelve(Arc<[Value; 12], Global>),
+    Thirteen(Arc<[Value; 13], Global>),
 }
 
 impl Model for Row {
@@ -53,9 +64,31 @@ impl Row {
     pub fn from_vec(values: Vec<Value>) -> Row
         ensures { result ≡ values.items }
     {
+        let alloc = *values.allocator();
         Row {
             values: Values::Own(values),
+            alloc,
         }
+    }
+
+    /// The shared row of ten values, which are moved. No list is made of them first.
+    pub fn of_ten(alloc: Global, values: [Value; 10]) -> Result<Row, NoMemory>
+        ensures { IfOk result (λ row. row ≡ values) }
+    {
+        Ok(Row {
+            values: Values::Ten(Arc::new(alloc, values)?),
+            alloc,
+        })
+    }
+
+    /// The shared row of twelve values, which are moved. No list is made of them first.
+    pub fn of_twelve(alloc: Global, values: [Value; 12]) -> Result<Row, NoMemory>
+        ensures { IfOk result (λ row. row ≡ values) }
+    {
+        Ok(Row {
+            values: Values::Twelve(Arc::new(alloc, values)?),
+            alloc,
+        })
     }
 
     /// The same row with values that its copies share. What has no room is dropped.
@@ -63,12 +96,10 @@ impl Row {
         ensures { IfOk result (λ row. row ≡ self) }
     {
         let values = match self.values {
-            Values::Own(values) => Arc::new(alloc, values)?,
-            Values::Shared(values) => values,
+            Values::Own(values) => share(alloc, values)?,
+            shared => shared,
         };
-        Ok(Row {
-            values: Values::Shared(values),
-        })
+        Ok(Row { values, alloc })
     }
 
     /// The values.
@@ -78,6 +109,14 @@ impl Row {
         match &self.values {
             Values::Own(values) => values.as_slice(),
             Values::Shared(values) => values.as_slice(),
+            Values::One(values) => values.as_slice(),
+            Values::Two(values) => values.as_slice(),
+            Values::Four(values) => values.as_slice(),
+            Values::Five(values) => values.as_slice(),
+            Values::Six(values) => values.as_slice(),
+            Values::Ten(values) => values.as_slice(),
+            Values::Twelve(values) => values.as_slice(),
+            Values::Thirteen(values) => values.as_slice(),
         }
     }
 
@@ -100,14 +139,13 @@ impl Row {
         ensures ok { OnOk result (self.new ≡ self.old ++ item ∷ []) }
         ensures err { OnErr result (self.new ≡ self.old) }
     {
-        match &mut self.values {
-            Values::Own(values) => values.push(item)?,
-            Values::Shared(values) => {
-                let mut own = copied(*values.allocator(), values.as_slice())?;
-                own.push(item)?;
-                self.values = Values::Own(own);
-            }
+        if let Values::Own(values) = &mut self.values {
+            values.push(item)?;
+            return Ok(());
         }
+        let mut own = copied(self.alloc, self.as_slice())?;
+        own.push(item)?;
+        self.values = Values::Own(own);
         Ok(())
     }
 }
@@ -115,13 +153,46 @@ impl Row {
 impl Copied for Row {
     fn copy(&self, alloc: Global) -> Result<Self, NoMemory> {
         let values = match &self.values {
-            Values::Own(values) => Arc::new(alloc, copied(alloc, values.as_slice())?)?,
-            Values::Shared(values) => Arc::try_clone(values)?,
+            Values::Own(values) => share(alloc, copied(alloc, values.as_slice())?)?,
+            Values::Shared(values) => Values::Shared(Arc::try_clone(values)?),
+            Values::One(values) => Values::One(Arc::try_clone(values)?),
+            Values::Two(values) => Values::Two(Arc::try_clone(values)?),
+            Values::Four(values) => Values::Four(Arc::try_clone(values)?),
+            Values::Five(values) => Values::Five(Arc::try_clone(values)?),
+            Values::Six(values) => Values::Six(Arc::try_clone(values)?),
+            Values::Ten(values) => Values::Ten(Arc::try_clone(values)?),
+            Values::Twelve(values) => Values::Twelve(Arc::try_clone(values)?),
+            Values::Thirteen(values) => Values::Thirteen(Arc::try_clone(values)?),
         };
-        Ok(Row {
-            values: Values::Shared(values),
-        })
+        Ok(Row { values, alloc })
     }
+}
+
+/// The values, shared in the form of their width, or as a list where no form has it.
+macro_rules! share_by_width {
+    ($alloc:ident, $values:ident, $($width:literal: $form:ident),*) => {
+        match $values.len() {
+            $($width => match <[Value; $width]>::try_from($values) {
+                Ok(values) => Ok(Values::$form(Arc::new($alloc, values)?)),
+                Err(values) => share_list($alloc, values),
+            },)*
+            _ => share_list($alloc, $values),
+        }
+    };
+}
+
+/// The values, shared.
+fn share(alloc: Global, values: Vec<Value>) -> Result<Values, NoMemory>
+    ensures { IfOk result (λ shared. values_of shared ≡ values.items) }
+{
+    share_by_width!(alloc, values, 1: One, 2: Two, 4: Four, 5: Five, 6: Six, 10: Ten, 12: Twelve, 13: Thirteen)
+}
+
+/// The values, shared as a list.
+fn share_list(alloc: Global, values: Vec<Value>) -> Result<Values, NoMemory>
+    ensures { IfOk result (λ shared. values_of shared ≡ values.items) }
+{
+    Ok(Values::Shared(Arc::new(alloc, values)?))
 }
 
 /// Copies of these values.
