@@ -1,6 +1,6 @@
 //! What is answered to a line.
 
-use crate::lists::{push_asked, push_gained, push_list};
+use crate::lists::{push_array, push_asked, push_gained, push_list};
 use crate::tables::{push_column, push_number, push_table};
 use crate::values::{
     push_bytes, push_cast_int, push_cast_text, push_order, push_same, push_spelling,
@@ -11,7 +11,7 @@ use serde_json::Value as Json;
 use std::alloc::Global;
 
 /// The kinds of lines, each with the member that it has beside its own.
-const KINDS: [LineKind; 12] = [
+const KINDS: [LineKind; 13] = [
     ("order", &[]),
     ("spells", &[]),
     ("cast_int", &[]),
@@ -24,6 +24,7 @@ const KINDS: [LineKind; 12] = [
     ("list", &["steps"]),
     ("keys", &["asked"]),
     ("row", &["gains"]),
+    ("array", &["gains"]),
 ];
 
 /// The kind of a line, and what its member gives.
@@ -43,6 +44,7 @@ fn push_listed(
     match kind {
         "list" => push_list(alloc, text, given, line.get("steps")),
         "keys" => push_asked(alloc, text, given, line.get("asked")),
+        "array" => push_array(alloc, text, given, line.get("gains")),
         _ => push_gained(alloc, text, given, line.get("gains")),
     }
 }

@@ -235,3 +235,27 @@ pub(crate) fn push_gained(
     let row = shared_row(alloc, given)?;
     push_copy(alloc, text, &row, gains)
 }
+
+/// The row of ten or of twelve values that lie in an array; none of so many others.
+fn row_of_array(alloc: Global, values: Vec<Value>) -> Result<Option<Row>, NoMemory> {
+    match <[Value; 10]>::try_from(values) {
+        Ok(values) => Ok(Some(Row::of_ten(alloc, values)?)),
+        Err(values) => match <[Value; 12]>::try_from(values) {
+            Ok(values) => Ok(Some(Row::of_twelve(alloc, values)?)),
+            Err(_) => Ok(None),
+        },
+    }
+}
+
+/// Adds a copy of a row that was made of an array and then gains a value, and the row.
+pub(crate) fn push_array(
+    alloc: Global,
+    text: &mut String,
+    given: &Json,
+    gains: Option<&Json>,
+) -> Result<(), NoMemory> {
+    match row_of_array(alloc, values_of(alloc, given)?)? {
+        Some(row) => push_copy(alloc, text, &row, gains),
+        None => Ok(text.push_str(": no row has an array of so many\n")?),
+    }
+}
