@@ -5,6 +5,7 @@ ghost use Rattle.osq_value.specs.Catalogue.{columns_of, heading_at, id_of};
 ghost use Rattle.osq_value.specs.Described.{column, heading, id};
 
 use crate::value::TableId;
+use std::fmt;
 
 /// What a column holds where a value of the other kind is written into it or compared with it.
 #[derive(Clone, Copy, PartialEq, Eq)]
@@ -99,6 +100,16 @@ pub fn table_desc(table: TableId) -> Option<TableDesc>
         13 => found("osquery_schedule", TableKind::Computed, 5),
         14 => found("osquery_events", TableKind::Computed, 2),
         _ => None,
+    }
+}
+
+/// The table's name; its number where the catalogue has no such table.
+impl fmt::Display for TableId {
+    fn fmt<W: fmt::Write>(&self, f: &mut fmt::Formatter<W>) -> fmt::Result {
+        match table_desc(*self) {
+            Some(table) => f.write_str(table.name),
+            None => write!(f, "table {}", self.0),
+        }
     }
 }
 
