@@ -1,11 +1,14 @@
 use osq_value::NoMemory;
+use thiserror::Error;
 
 /// Why a line of an audit log wasn't read: it isn't in the grammar, or memory was wanting.
-#[derive(Clone, Copy)]
+#[derive(Clone, Copy, Debug, Error)]
 pub enum AuditLineError {
     /// The bytes aren't a line of the grammar.
+    #[error("line is not one of an audit log")]
     BadLine,
     /// Memory was wanting.
+    #[error("out of memory")]
     NoMemory,
 }
 

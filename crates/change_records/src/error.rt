@@ -1,12 +1,15 @@
 use osq_value::NoMemory;
 use std::alloc::AllocError;
+use thiserror::Error;
 
 /// Why a line of JSON wasn't read: it isn't in the form, or memory was wanting.
-#[derive(Clone, Copy)]
+#[derive(Clone, Copy, Debug, Error)]
 pub enum JsonLineError {
     /// The bytes aren't a JSON object of the line's form.
+    #[error("line is not a JSON object of the expected form")]
     BadLine,
     /// Memory was wanting.
+    #[error("out of memory")]
     NoMemory,
 }
 

@@ -2,15 +2,19 @@
 
 use osq_value::NoMemory;
 use std::alloc::AllocError;
+use thiserror::Error;
 
 /// Why a call on a publisher refused. The publisher is spent then.
-#[derive(Clone, Copy)]
+#[derive(Clone, Copy, Debug, Error)]
 pub enum StepError {
     /// The source failed: its count of faults rose in this call.
+    #[error("failed to read the source")]
     SourceFault,
     /// The source ended after `found` bytes, before the `kept` bytes that earlier runs took of it.
+    #[error("source ended after {found} bytes, before the {kept} bytes already taken of it")]
     SourceShrank { kept: u64, found: u64 },
     /// Memory was wanting.
+    #[error("out of memory")]
     NoMemory,
 }
 
