@@ -6,17 +6,22 @@ use osq_config::ConfigError;
 use osq_outside::FilesError;
 use osq_value::{NoMemory, Str};
 use std::alloc::Global;
+use thiserror::Error;
 
 /// Why a file gives no configuration.
-#[derive(Drop)]
+#[derive(Debug, Drop, Error)]
 pub enum ConfiguredError {
     /// The files failed where this one was to be read.
+    #[error("failed to read {file:?}")]
     Fault { file: Str },
     /// There is no such file.
+    #[error("no such configuration file")]
     Missing,
     /// The document in the file is no configuration. The error isn't want of memory.
+    #[error("invalid configuration: {error}")]
     Refused { error: ConfigError },
     /// Memory was wanting.
+    #[error("out of memory")]
     NoMemory,
 }
 

@@ -8,13 +8,16 @@ use crate::line::{number_behind, push_line};
 use osq_outside::{Sink, SinkFault, write_all};
 use osq_value::{Bytes, NoMemory};
 use std::alloc::Global;
+use thiserror::Error;
 
 /// Why not all lines are written.
-#[derive(Clone, Copy)]
+#[derive(Clone, Copy, Debug, Error)]
 pub enum WriteError {
     /// The sink failed.
+    #[error("failed to write to the sink")]
     SinkFault,
     /// Memory was wanting.
+    #[error("out of memory")]
     NoMemory,
 }
 

@@ -1,13 +1,16 @@
 //! Why words give no command.
 
 use osq_value::NoMemory;
+use thiserror::Error;
 
 /// Why words give no command.
-#[derive(Clone, Copy)]
+#[derive(Clone, Copy, Debug, Error)]
 pub enum WordsError {
     /// They are the words of no command.
+    #[error("invalid command line")]
     Usage,
     /// Memory was wanting.
+    #[error("out of memory")]
     NoMemory,
 }
 
