@@ -20,15 +20,19 @@ use sql_parser::parse::parse;
 use sql_parser::{ParseError, ParseKind};
 use sql_query::query::Query;
 use std::alloc::Global;
+use thiserror::Error;
 
 /// Why a text has no query.
-#[derive(Clone, Copy)]
+#[derive(Clone, Copy, Debug, Error)]
 pub enum TextError {
     /// Its grammar's least fault.
+    #[error(transparent)]
     Parse(ParseError),
     /// The first kind of fault of its names, at that kind's least place.
+    #[error(transparent)]
     Name(NameError),
     /// Memory ran out.
+    #[error("out of memory")]
     NoMemory,
 }
 
