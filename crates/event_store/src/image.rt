@@ -24,16 +24,19 @@ use osq_value::{Copied, EventList, NoMemory, RowList, TableId};
 use std::alloc::Global;
 use std::marker::Model;
 use std::sync::ledger::Ledger;
+use thiserror::Error;
 
 /// The greatest number that an event may have.
 const MOST: u64 = 1 << 62;
 
 /// Why events were not appended.
-#[derive(Clone, Copy)]
+#[derive(Clone, Copy, Debug, Error)]
 pub enum StoreError {
     /// The last number would pass 2^62.
+    #[error("event numbers are exhausted")]
     NumbersSpent,
     /// Memory was wanting.
+    #[error("out of memory")]
     NoMemory,
 }
 

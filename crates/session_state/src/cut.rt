@@ -7,6 +7,7 @@ use entry_model::entry::Batch;
 use event_store::CutView;
 use osq_value::RowList;
 use pack_rules::schedule::QueryKey;
+use std::fmt;
 use std::marker::Model;
 
 /// A query with what it sees at a state. It is spent by a commit or a release; one that is dropped leaves its query
@@ -34,6 +35,17 @@ impl Model for Cut {
     ghost view = { λ c. record { place = c.place; key = c.key; lo = c.lo; hi = c.hi; position = c.position; moment = c.moment; last = c.last; view = c.view } };
 
     ghost invariant = { λ c. c.spare ≡ c.key };
+}
+
+/// The query and its slice; not what it sees.
+impl fmt::Debug for Cut {
+    fn fmt<W: fmt::Write>(&self, f: &mut fmt::Formatter<W>) -> fmt::Result {
+        f.debug_struct("Cut")
+            .field("query", &self.key.name)
+            .field("lo", &self.lo)
+            .field("hi", &self.hi)
+            .finish_non_exhaustive()
+    }
 }
 
 impl Cut {

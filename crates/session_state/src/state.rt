@@ -50,6 +50,7 @@ use query_cursors::Cursors;
 use std::alloc::Global;
 use std::marker::{Brand, Model};
 use std::sync::ledger::{Blank, Ledger};
+use thiserror::Error;
 
 /// How many entries and sessions a kept list has at most.
 const MOST: u64 = (1 << 63) - 1;
@@ -58,35 +59,44 @@ const MOST: u64 = (1 << 63) - 1;
 const LAST_BATCH: u64 = 1 << 62;
 
 /// Why a tick does not begin.
-#[derive(Clone, Copy)]
+#[derive(Clone, Copy, Debug, Error)]
 pub enum TickRefusal {
     /// The query at this place of the schedule is due.
+    #[error("query {at} of the schedule is still due")]
     StillDue { at: u32 },
     /// Events of this table are to expire.
+    #[error("events of {table} are still to expire")]
     ExpiryOwed { table: TableId },
     /// Memory was wanting.
+    #[error("out of memory")]
     NoMemory,
 }
 
 /// Why a reading is not added.
-#[derive(Clone, Copy)]
+#[derive(Clone, Copy, Debug, Error)]
 pub enum AppendError {
     /// The reading ends no further than the source was taken: up to the byte `kept`.
+    #[error("reading ends at or before byte {kept}, up to which its source was taken")]
     Backwards { kept: u64 },
     /// The last number would pass 2^62.
+    #[error("event numbers are exhausted")]
     NumbersSpent,
     /// Memory was wanting.
+    #[error("out of memory")]
     NoMemory,
 }
 
 /// Why a cut is not committed. The cut comes back.
-#[derive(Drop)]
+#[derive(Debug, Drop, Error)]
 pub enum CommitRefusal {
     /// The query's last batch is now the one of this number, which the cut had not seen.
+    #[error("cut superseded by batch {number} of its query")]
     Superseded { number: u64, cut: Cut },
     /// A Configured or Ticked entry at this position came behind the cut.
+    #[error("cut older than the tick or configuration at position {position}")]
     Stale { position: u64, cut: Cut },
     /// The batch's number would pass 2^62.
+    #[error("batch numbers are exhausted")]
     NumbersSpent { cut: Cut },
 }
 
