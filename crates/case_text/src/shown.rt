@@ -7,7 +7,7 @@ pub fn push_value(text: &mut String, value: &Value) -> Result<(), NoMemory> {
     match value {
         Value::Null => text.push_str(" -")?,
         Value::Int(number) => write!(text, " {number}")?,
-        Value::Text(part) => write!(text, " '{}'", part.as_str())?,
+        Value::Text(part) => write!(text, " '{part}'")?,
     }
     Ok(())
 }
