@@ -1,4 +1,4 @@
-use osq_value::{Row, Str, Value};
+use osq_value::{Str, Value};
 
 /// A change of a file: its path, what was done, its numbers (inode, uid, gid, size and mtime, in this order), its mode and its time.
 #[derive(Drop)]
@@ -8,7 +8,7 @@ pub struct Change {
     /// What was done with the file, in 1 to 64 bytes.
     pub action: Str,
     /// inode, uid, gid, size and mtime, each a whole number or Null.
-    pub numbers: Row,
+    pub numbers: [Value; 5],
     /// The text of the key `mode`, or Null.
     pub mode: Value,
     /// A whole number or Null, as the line has it; osquery's is in seconds since 1970 UTC.

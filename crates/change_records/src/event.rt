@@ -1,21 +1,22 @@
 ghost use Rattle.std.specs.Prelude.{◌≡◌, ◌↔◌, IfOk, IsTrue};
 ghost use Rattle.std.specs.Option.{option_copied};
-ghost use Rattle.change_records.specs.Events.{BeforeFound, FindsCategory, IsEventOf, SomeMatches, Takes, file_row, number_at};
+ghost use Rattle.change_records.specs.Events.{BeforeFound, FindsCategory, IsEventOf, SomeMatches, Takes, file_row};
 
 use crate::change::Change;
 use crate::pattern::path_matches;
 use osq_value::{Category, CategoryList, Copied, Event, NoMemory, Row, Str, TableId, Value};
 use std::alloc::Global;
+use std::mem;
 
 /// The event of the table `file_events` for a change of a file. Its category is the first, in byte order of names, of which some pattern
 /// matches the path and no excluded pattern does; of equal names the first in the list is meant. None exactly where no category takes the
-/// path. A place that the change's numbers lack is Null, and places behind the fifth are passed over.
+/// path. What the change has moves into the event's row.
 pub fn change_event(
     alloc: Global,
-    change: &Change,
+    change: Change,
     paths: &CategoryList,
 ) -> Result<Option<Event>, NoMemory>
-    ensures { IfOk result (λ event. IsEventOf change.now paths.now event) }
+    ensures { IfOk result (λ event. IsEventOf change paths.now event) }
 {
     match category_of(change.path.as_str(), paths.as_slice()) {
         None => Ok(None),
@@ -65,33 +66,25 @@ fn some_matches(patterns: &[Str], path: &str) -> bool
         .any(|pattern| path_matches(pattern.as_str(), path))
 }
 
-fn row(alloc: Global, change: &Change, category: &Str) -> Result<Row, NoMemory>
-    ensures { IfOk result (λ row. row ≡ file_row change.now category.now) }
+fn row(alloc: Global, change: Change, category: &Str) -> Result<Row, NoMemory>
+    ensures { IfOk result (λ row. row ≡ file_row change category.now) }
 {
-    let numbers = &change.numbers;
+    let category = category.copy(alloc)?;
+    let mut numbers = change.numbers;
     let values = Vec::from_array(
         alloc,
         [
-            Value::Text(change.path.copy(alloc)?),
-            Value::Text(category.copy(alloc)?),
-            Value::Text(change.action.copy(alloc)?),
-            number_at(alloc, numbers, 0)?,
-            number_at(alloc, numbers, 1)?,
-            number_at(alloc, numbers, 2)?,
-            change.mode.copy(alloc)?,
-            number_at(alloc, numbers, 3)?,
-            number_at(alloc, numbers, 4)?,
-            change.time.copy(alloc)?,
+            Value::Text(change.path),
+            Value::Text(category),
+            Value::Text(change.action),
+            mem::replace(&mut numbers[0], Value::Null),
+            mem::replace(&mut numbers[1], Value::Null),
+            mem::replace(&mut numbers[2], Value::Null),
+            change.mode,
+            mem::replace(&mut numbers[3], Value::Null),
+            mem::replace(&mut numbers[4], Value::Null),
+            change.time,
         ],
     )?;
     Row::from_vec(values).shared(alloc)
-}
-
-fn number_at(alloc: Global, numbers: &Row, place: usize) -> Result<Value, NoMemory>
-    ensures { IfOk result (λ number. number ≡ number_at place numbers.now) }
-{
-    match numbers.get(place) {
-        None => Ok(Value::Null),
-        Some(number) => number.copy(alloc),
-    }
 }

@@ -8,7 +8,7 @@ use crate::change::Change;
 use crate::error::JsonLineError;
 use crate::field::{number_in, value_in};
 use crate::members::Members;
-use osq_value::{Row, Str};
+use osq_value::{Str, Value};
 use serde_json::Value as Json;
 use std::alloc::Global;
 
@@ -45,7 +45,7 @@ fn change_with(alloc: Global, members: Members<'_>) -> Result<Change, JsonLineEr
 {
     let path = path(alloc, members.path)?;
     let action = action(alloc, members.action)?;
-    let numbers = numbers(alloc, members)?;
+    let numbers = numbers(members)?;
     let mode = value_in(alloc, members.mode)?;
     let time = number_in(members.time)?;
     Ok(Change {
@@ -79,7 +79,7 @@ fn action(alloc: Global, member: Option<&Json>) -> Result<Str, JsonLineError>
     }
 }
 
-fn numbers(alloc: Global, members: Members<'_>) -> Result<Row, JsonLineError>
+fn numbers(members: Members<'_>) -> Result<[Value; 5], JsonLineError>
     ensures { Reads (numbers_of (held members.entry.inode) (held members.entry.uid) (held members.entry.gid) (held members.entry.size) (held members.entry.mtime)) result }
 {
     let inode = number_in(members.inode)?;
@@ -87,11 +87,5 @@ fn numbers(alloc: Global, members: Members<'_>) -> Result<Row, JsonLineError>
     let gid = number_in(members.gid)?;
     let size = number_in(members.size)?;
     let mtime = number_in(members.mtime)?;
-    let mut numbers = Row::with_capacity(alloc, 5)?;
-    numbers.push(inode)?;
-    numbers.push(uid)?;
-    numbers.push(gid)?;
-    numbers.push(size)?;
-    numbers.push(mtime)?;
-    Ok(numbers)
+    Ok([inode, uid, gid, size, mtime])
 }

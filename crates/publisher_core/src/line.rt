@@ -39,7 +39,7 @@ pub fn change_gain<C: Callback>(
     match read_change(alloc, line.text.as_slice()) {
         Err(JsonLineError::NoMemory) => Err(NoMemory),
         Err(JsonLineError::BadLine) => Ok(SKIPPED),
-        Ok(change) => match subscription.event_of(alloc, &Record::Change(change)) {
+        Ok(change) => match subscription.event_of(alloc, Record::Change(change)) {
             Err(NoMemory) => Err(NoMemory),
             Ok(event) => Ok(Gain::Event { event, skipped: 0 }),
         },

@@ -325,9 +325,7 @@ impl<C: Callback> Publisher<C> {
     {
         match group {
             None => Ok(None),
-            Some(group) => self
-                .subscription
-                .event_of(self.alloc, &Record::Group(group)),
+            Some(group) => self.subscription.event_of(self.alloc, Record::Group(group)),
         }
     }
 

@@ -16,10 +16,10 @@ pub trait Callback: Drop {
     fn event_of(
         &self,
         alloc: Global,
-        item: &Record,
+        item: Record,
         paths: &CategoryList,
     ) -> Result<Option<Event>, NoMemory>
-        ensures { IfOk result (λ event. IsEventOfRecord paths.now item.now event) };
+        ensures { IfOk result (λ event. IsEventOfRecord paths.now item event) };
 }
 
 /// The readers of this house as a callback.
@@ -30,11 +30,11 @@ impl Callback for Recorded {
     fn event_of(
         &self,
         alloc: Global,
-        item: &Record,
+        item: Record,
         paths: &CategoryList,
     ) -> Result<Option<Event>, NoMemory> {
         match item {
-            Record::Group(group) => group_event(alloc, group),
+            Record::Group(group) => group_event(alloc, &group),
             Record::Change(change) => change_event(alloc, change, paths),
         }
     }
@@ -57,8 +57,8 @@ impl<C: Callback> Subscription<C> {
     }
 
     /// The event of a record, by the callback.
-    pub fn event_of(&self, alloc: Global, item: &Record) -> Result<Option<Event>, NoMemory>
-        ensures { IfOk result (λ event. IsEventOfRecord self.now.paths item.now event) }
+    pub fn event_of(&self, alloc: Global, item: Record) -> Result<Option<Event>, NoMemory>
+        ensures { IfOk result (λ event. IsEventOfRecord self.now.paths item event) }
     {
         self.callback.event_of(alloc, item, &self.paths)
     }

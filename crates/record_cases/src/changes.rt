@@ -2,7 +2,7 @@
 
 use crate::given::Given;
 use crate::readings::push_maybe_event;
-use case_text::{member_text, push_row, push_rows, push_value};
+use case_text::{member_text, push_rows, push_value, push_values};
 use change_records::{Change, JsonLineError, change_event, path_matches, read_change, read_table};
 use osq_value::{CategoryList, NoMemory, Reading, RowList, TableId};
 use serde_json::Value as Json;
@@ -25,7 +25,7 @@ fn push_quoted(text: &mut String, part: &str) -> Result<(), NoMemory> {
 
 /// Adds the numbers of a change, its mode and its time.
 fn push_numbers(text: &mut String, change: &Change) -> Result<(), NoMemory> {
-    push_row(text, &change.numbers)?;
+    push_values(text, &change.numbers)?;
     push_value(text, &change.mode)?;
     push_value(text, &change.time)
 }
@@ -44,7 +44,7 @@ fn push_whole(text: &mut String, change: &Change) -> Result<(), NoMemory> {
 fn push_event(
     alloc: Global,
     text: &mut String,
-    change: &Change,
+    change: Change,
     categories: &CategoryList,
 ) -> Result<(), NoMemory> {
     let event = change_event(alloc, change, categories)?;
@@ -55,10 +55,10 @@ fn push_event(
 fn push_both(
     alloc: Global,
     text: &mut String,
-    change: &Change,
+    change: Change,
     given: Given<'_>,
 ) -> Result<(), NoMemory> {
-    push_whole(text, change)?;
+    push_whole(text, &change)?;
     let categories = given.categories(alloc)?;
     push_event(alloc, text, change, &categories)
 }
@@ -71,7 +71,7 @@ fn push_read(
     given: Given<'_>,
 ) -> Result<(), NoMemory> {
     match read_change(alloc, bytes) {
-        Ok(change) => push_both(alloc, text, &change, given),
+        Ok(change) => push_both(alloc, text, change, given),
         Err(error) => push_refused(text, error),
     }
 }
