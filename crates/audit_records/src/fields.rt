@@ -11,6 +11,9 @@ use crate::line::{Field, FieldList};
 use osq_value::{NoMemory, Str};
 use std::alloc::Global;
 
+/// Most fields of a line are longer, with the blank before them: so much of its text is asked one field's room for at once.
+const FIELD_BYTES: usize = 8;
+
 /// A word of a line with its field, if it has one, and the text behind the word.
 #[derive(Drop)]
 struct Word<'a> {
@@ -31,7 +34,7 @@ struct ReadValue<'a> {
 pub fn read_fields(alloc: Global, text: &str) -> Result<FieldList, AuditLineError>
     ensures { Reads (fields_of text.now) result }
 {
-    let mut fields = FieldList::new(alloc);
+    let mut fields = FieldList::with_capacity(alloc, text.len() / FIELD_BYTES + 1)?;
     let mut rest = text;
     while let Some(first) = rest.as_bytes().first() {
         if is_blank(*first) {
