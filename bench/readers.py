@@ -28,7 +28,7 @@ CRATES = {
     "osq_value": "arrayvec",
     "osq_outside": "osq_value",
     "record_lines": "memchr osq_value",
-    "audit_records": "hex memchr osq_value",
+    "audit_records": "hex memchr simdutf8 osq_value",
     "change_records": "memchr serde_json osq_value",
     "publisher_core": "memchr serde_json osq_value osq_outside record_lines audit_records change_records",
 }

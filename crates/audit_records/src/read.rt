@@ -11,7 +11,6 @@ use crate::head::head_of;
 use crate::line::AuditLine;
 use osq_value::Str;
 use std::alloc::Global;
-use std::str;
 
 /// Reads a line of an audit log, without its line feed: UTF-8 text of the form `node=WORD type=T msg=audit(S.M:N): FIELDS`. The node
 /// may be missing, and the fields with the blank before them. A blank is a space or the byte 1D. T has capital letters, digits and
@@ -35,7 +34,7 @@ pub fn read_line(alloc: Global, text: &[u8]) -> Result<AuditLine, AuditLineError
     ensures line { IfOk result (λ line. IsLine text.now line) }
     ensures bad { IsErrOf result AuditLineError.BadLine → (line : AuditLine) → ¬ IsLine text.now line }
 {
-    match str::from_utf8(text) {
+    match simdutf8::compat::from_utf8(text) {
         Ok(text) => read_text(alloc, text),
         Err(_) => Err(AuditLineError::BadLine),
     }
