@@ -1,4 +1,5 @@
 pub mod Builds
+pub mod CallFields
 pub mod CommandLine
 pub mod EventRows
 pub mod FieldGrammar

@@ -38,6 +38,10 @@ spelled_number key line = option_and_then int_of (text_of key line)
 abbrev pub number_value : List ℕ → AuditLine → Value
 number_value key line = option_map_or Int (spelled_number key line) Null
 
+-- the number of a field, which may be missing
+abbrev pub number_in : Option Field → Value
+number_in field = option_map_or Int (option_and_then int_of (option_map (λ (found : Field). found.text) field)) Null
+
 -- a decimal digit or more between brackets, and nothing else
 abbrev pub is_bracketed : List ℕ → Bool
 is_bracketed [] = false
@@ -90,6 +94,10 @@ text_or_null (Some text) = Text text
 -- the string value of a key, which is Null where the key is missing
 abbrev pub value_text : List ℕ → AuditLine → Value
 value_text key line = text_or_null (option_and_then (string_value line.kind) (field_of key line))
+
+-- that of a field, which may be missing, in a line of type `kind`
+abbrev pub text_in : List ℕ → Option Field → Value
+text_in kind field = text_or_null (option_and_then (string_value kind) field)
 
 abbrev pub has_succeeded : AuditLine → Bool
 has_succeeded line = has_text (codes "success") (codes "yes") line

@@ -4,6 +4,7 @@ pub mod Lines
 pub mod Reads
 pub mod Addresses
 pub mod Arguments
+pub mod CallFields
 pub mod Events
 pub mod FieldValues
 pub mod Indexes

@@ -1,12 +1,13 @@
 //! The rows of started programs.
 
 ghost use Rattle.std.specs.Prelude.{◌≡◌, find, IfOk, option_copied};
+ghost use Rattle.audit_records.specs.CallFields.{each_or, first_fields, found_of, placed};
 ghost use Rattle.audit_records.specs.Events.{cwd_of, execution_event, is_first_path, is_working_directory, mode_of, process_row};
 
 use crate::arguments::command_line;
-use crate::line::AuditLine;
+use crate::line::{AuditLine, Field};
 use crate::value::{
-    field_of, has_kind, has_succeeded, has_text, number_value, text_value, time_of,
+    field_of, has_kind, has_succeeded, has_text, number_in, text_in, text_value, time_of,
 };
 use osq_value::{Copied, Event, NoMemory, Row, TableId, Value};
 use std::alloc::Global;
@@ -28,21 +29,74 @@ pub fn process_event(
     }))
 }
 
+/// The fields of a system call's line that a row shows, each the first with its key.
+#[derive(Clone, Copy)]
+struct CallFields<'a> {
+    pid: Option<&'a Field>,
+    exe: Option<&'a Field>,
+    auid: Option<&'a Field>,
+    uid: Option<&'a Field>,
+    euid: Option<&'a Field>,
+    gid: Option<&'a Field>,
+    egid: Option<&'a Field>,
+    ppid: Option<&'a Field>,
+}
+
+/// Finds them in one walk over the line.
+fn call_fields(line: &AuditLine) -> CallFields<'_>
+    ensures { found_of result ≡ first_fields line.now }
+{
+    let mut found = CallFields {
+        pid: None,
+        exe: None,
+        auid: None,
+        uid: None,
+        euid: None,
+        gid: None,
+        egid: None,
+        ppid: None,
+    };
+    for field in line.fields.as_slice() {
+        found = with_field(found, field);
+    }
+    found
+}
+
+/// What was found, and the field where it has one of the keys and none with that key was found before.
+fn with_field<'a>(found: CallFields<'a>, field: &'a Field) -> CallFields<'a>
+    ensures { found_of result ≡ each_or (found_of found.entry) (placed field.now) }
+{
+    let mut found = found;
+    match field.key.as_str() {
+        "pid" => found.pid = found.pid.or(Some(field)),
+        "exe" => found.exe = found.exe.or(Some(field)),
+        "auid" => found.auid = found.auid.or(Some(field)),
+        "uid" => found.uid = found.uid.or(Some(field)),
+        "euid" => found.euid = found.euid.or(Some(field)),
+        "gid" => found.gid = found.gid.or(Some(field)),
+        "egid" => found.egid = found.egid.or(Some(field)),
+        "ppid" => found.ppid = found.ppid.or(Some(field)),
+        _ => {}
+    }
+    found
+}
+
 fn process_row(alloc: Global, line: &AuditLine, lines: &[AuditLine]) -> Result<Row, NoMemory>
     ensures { IfOk result (λ row. row ≡ process_row line.now lines.now) }
 {
+    let found = call_fields(line);
     let mut row = Row::with_capacity(alloc, 12)?;
-    row.push(number_value(line, "pid"))?;
-    row.push(text_value(alloc, line, "exe")?)?;
+    row.push(number_in(found.pid))?;
+    row.push(text_in(alloc, line.kind.as_str(), found.exe)?)?;
     row.push(mode_of(alloc, lines)?)?;
     row.push(Value::Text(command_line(alloc, lines)?))?;
     row.push(cwd_of(alloc, lines)?)?;
-    row.push(number_value(line, "auid"))?;
-    row.push(number_value(line, "uid"))?;
-    row.push(number_value(line, "euid"))?;
-    row.push(number_value(line, "gid"))?;
-    row.push(number_value(line, "egid"))?;
-    row.push(number_value(line, "ppid"))?;
+    row.push(number_in(found.auid))?;
+    row.push(number_in(found.uid))?;
+    row.push(number_in(found.euid))?;
+    row.push(number_in(found.gid))?;
+    row.push(number_in(found.egid))?;
+    row.push(number_in(found.ppid))?;
     row.push(time_of(line))?;
     row.shared(alloc)
 }

@@ -4,7 +4,7 @@ ghost use Rattle.std.specs.Prelude.{◌≡◌, ◌≤◌, length, IfOk, option_a
 ghost use Rattle.std.specs.List.{prefix_len};
 ghost use Rattle.std.specs.String.{string_bytes};
 ghost use Rattle.osq_value.specs.Spelling.{is_digit};
-ghost use Rattle.audit_records.specs.FieldValues.{decoded, field_of, has_kind, has_succeeded, has_text, hex_bytes, hex_text, is_argument_key, is_bracketed, is_index, is_string_key, number_value, spelled_number, string_value, text_of, text_or_null, time_of, utf8_text, value_text};
+ghost use Rattle.audit_records.specs.FieldValues.{decoded, field_of, has_kind, has_succeeded, has_text, hex_bytes, hex_text, is_argument_key, is_bracketed, is_index, is_string_key, number_in, number_value, spelled_number, string_value, text_in, text_of, text_or_null, time_of, utf8_text, value_text};
 
 use crate::line::{AuditLine, Field};
 use hex::FromHexError;
@@ -52,7 +52,17 @@ pub fn spelled_number(line: &AuditLine, key: &str) -> Option<i64>
 pub fn number_value(line: &AuditLine, key: &str) -> Value
     ensures { result ≡ number_value key.now line.now }
 {
-    match spelled_number(line, key) {
+    number_in(field_of(line, key))
+}
+
+/// The number of a field as a column holds it: Null where its text spells none, and where there is no field.
+pub fn number_in(field: Option<&Field>) -> Value
+    ensures { result ≡ number_in (option_copied field.entry) }
+{
+    let Some(field) = field else {
+        return Value::Null;
+    };
+    match int_spelling(field.text.as_str().as_bytes()) {
         None => Value::Null,
         Some(number) => Value::Int(number),
     }
@@ -81,12 +91,19 @@ pub fn string_value(alloc: Global, kind: &str, field: &Field) -> Result<Option<S
 pub fn text_value(alloc: Global, line: &AuditLine, key: &str) -> Result<Value, NoMemory>
     ensures { IfOk result (λ value. value ≡ value_text key.now line.now) }
 {
-    match field_of(line, key) {
+    text_in(alloc, line.kind.as_str(), field_of(line, key))
+}
+
+/// The text of a field of a line of type `kind`, as a column holds it: Null where it is `(null)`, and where there is no field.
+pub fn text_in(alloc: Global, kind: &str, field: Option<&Field>) -> Result<Value, NoMemory>
+    ensures { IfOk result (λ value. value ≡ text_in kind.now (option_copied field.entry)) }
+{
+    let Some(field) = field else {
+        return Ok(Value::Null);
+    };
+    match string_value(alloc, kind, field)? {
         None => Ok(Value::Null),
-        Some(field) => match string_value(alloc, line.kind.as_str(), field)? {
-            None => Ok(Value::Null),
-            Some(text) => Ok(Value::Text(text)),
-        },
+        Some(text) => Ok(Value::Text(text)),
     }
 }
 
