@@ -85,20 +85,23 @@ fn process_row(alloc: Global, line: &AuditLine, lines: &[AuditLine]) -> Result<R
     ensures { IfOk result (λ row. row ≡ process_row line.now lines.now) }
 {
     let found = call_fields(line);
-    let mut row = Row::with_capacity(alloc, 12)?;
-    row.push(number_in(found.pid))?;
-    row.push(text_in(alloc, line.kind.as_str(), found.exe)?)?;
-    row.push(mode_of(alloc, lines)?)?;
-    row.push(Value::Text(command_line(alloc, lines)?))?;
-    row.push(cwd_of(alloc, lines)?)?;
-    row.push(number_in(found.auid))?;
-    row.push(number_in(found.uid))?;
-    row.push(number_in(found.euid))?;
-    row.push(number_in(found.gid))?;
-    row.push(number_in(found.egid))?;
-    row.push(number_in(found.ppid))?;
-    row.push(time_of(line))?;
-    row.shared(alloc)
+    Row::of_twelve(
+        alloc,
+        [
+            number_in(found.pid),
+            text_in(alloc, line.kind.as_str(), found.exe)?,
+            mode_of(alloc, lines)?,
+            Value::Text(command_line(alloc, lines)?),
+            cwd_of(alloc, lines)?,
+            number_in(found.auid),
+            number_in(found.uid),
+            number_in(found.euid),
+            number_in(found.gid),
+            number_in(found.egid),
+            number_in(found.ppid),
+            time_of(line),
+        ],
+    )
 }
 
 /// The text of `mode` in the line of the first path.
