@@ -1,11 +1,15 @@
 -- The command line, argument by argument.
-use Rattle.std.proofs.Common.{◌≡◌, ℕ, zero, suc, ◌+◌, ◌-◌, ◌<◌, ◌≤◌, ◌==◌, Bool, true, false, cond, List, [], ◌∷◌, ◌++◌, refl, arith, ap, sym, ◌∙◌, append_assoc, Option, Some, None, flat_map}
+use Rattle.std.proofs.Common.{◌≡◌, ℕ, zero, suc, ◌+◌, ◌-◌, ◌<◌, ◌≤◌, ◌==◌, Bool, true, false, cond, List, [], ◌∷◌, ◌++◌, refl, arith, ap, sym, ◌∙◌, subst, append_assoc, Option, Some, None, flat_map}
+use Rattle.std.proofs.lemmas.Fmt.{decimal_digit}
 use Rattle.std.proofs.lemmas.List.{append-nil}
 use Rattle.std.proofs.lemmas.Bool.{false≢true}
 use Rattle.std.proofs.lemmas.Bool.Decides.{nat_tests}
+use Rattle.std.specs.Prelude.{option_map}
 use Rattle.std.specs.List.{join_with_byte}
+use Rattle.std.specs.Option.{option_or}
 use Rattle.audit_records.specs.declared.line.AuditLine.{AuditLine}
-use Rattle.audit_records.specs.Arguments.{argument, argument_count, command_line, until_missing}
+use Rattle.audit_records.specs.declared.line.Field.{Field}
+use Rattle.audit_records.specs.Arguments.{argument, argument_count, argument_key, command_line, cut_argument, execve_field, shown_text, until_missing}
 use Rattle.audit_records.specs.Joins.{separator, AddsArgument}
 use Rattle.audit_records.proofs.UntilMissing.{until_missing-all, until_missing-more, until_missing-stop}
 
@@ -73,3 +77,12 @@ line-more lines place text next there within adds goes before = by_argument (arg
       let one : (separator place ++ x) ++ rest ≡ joined_from place (left lines place) =
       sym (joined_from-more place x (left lines (place + 1))) ∙ ap (joined_from place) (sym (until_missing-more (argument_count lines) place (λ (k : ℕ). argument k lines) x within is)) in
       ap (λ t. t ++ rest) (added.1 ∙ append_assoc text (separator place) x) ∙ append_assoc text (separator place ++ x) rest ∙ ap (λ t. text ++ t) one ∙ before
+
+-- an argument that is not cut is added
+pub adds-uncut : (lines : List AuditLine) (place : ℕ) (field : Field) (text next : List ℕ) → execve_field (argument_key place) lines ≡ Some field → next ≡ (text ++ separator place) ++ shown_text field → AddsArgument place (argument place lines) text next true
+adds-uncut lines place field text next is added =
+    subst (λ o. AddsArgument place (option_or (option_map shown_text o) (cut_argument place lines)) text next true) (sym is) (refl, added)
+
+-- the key of an argument with a number of one digit
+pub early-key : (digit place : ℕ) → place ≡ digit → digit < 10 → 97 ∷ (48 + digit) ∷ [] ≡ argument_key place
+early-key digit place is small = sym (ap argument_key is ∙ ap (λ t. 97 ∷ t) (decimal_digit digit small))

@@ -1,22 +1,81 @@
 //! The command line of a group of audit lines.
 
-ghost use Rattle.std.specs.Prelude.{◌≡◌, ◌+◌, [], ◌∷◌, ◌++◌, IfOk, OnOk, find, option_copied};
+ghost use Rattle.std.specs.Prelude.{◌≡◌, ◌+◌, [], ◌∷◌, ◌++◌, IfOk, IfSome, OnOk, Some, find, option_copied};
 ghost use Rattle.std.specs.List.{concat};
 ghost use Rattle.std.specs.String.{string_bytes};
-ghost use Rattle.audit_records.specs.Arguments.{argument, argument_count, argument_key, command_line, count_of, is_execve, piece_key, pieces, shown_text};
+ghost use Rattle.audit_records.specs.Arguments.{argument, argument_count, argument_key, command_line, count_of, execve_field, is_execve, piece_key, pieces, shown_text};
 ghost use Rattle.audit_records.specs.Joins.{separator, AddsArgument};
 
-use crate::execve::{ExecveFields, is_execve};
+use crate::execve::{ExecveFields, execve_field, is_execve};
 use crate::line::{AuditLine, Field};
 use crate::value::{spelled_number, string_value};
 use osq_value::{NoMemory, Str};
 use std::alloc::Global;
 
+/// The bytes that a command line of few arguments is given room for. Most are shorter.
+const SHORT_COMMAND: usize = 48;
+
 /// The arguments 0, 1, 2 and so on of the group's EXECVE lines, with a space between each two. There are as many as `argc` of the first of
 /// these lines says, and none from the first on that is missing. An argument is the text of its key, as `a1`, or where that is missing
 /// the joined texts of its pieces `a1[0]`, `a1[1]` and so on, up to the first that is missing. `(null)` is shown as it is. Without an
-/// EXECVE line or a number `argc` the text is empty. It walks over the fields once, and looks up one key for each argument and piece.
+/// EXECVE line or a number `argc` the text is empty. At most ten arguments, none of them cut into pieces, are looked for in the lines; else it
+/// walks over the fields once, and looks up one key for each argument and piece.
 pub fn command_line(alloc: Global, lines: &[AuditLine]) -> Result<Str, NoMemory>
+    ensures { IfOk result (λ text. text ≡ command_line lines.now) }
+{
+    match short_command(alloc, lines)? {
+        Some(text) => Ok(text),
+        None => indexed_command(alloc, lines),
+    }
+}
+
+/// The command line where it has at most ten arguments and none of them is cut or missing. No index is made for it, and no key is written.
+fn short_command(alloc: Global, lines: &[AuditLine]) -> Result<Option<Str>, NoMemory>
+    ensures { IfOk result (λ found. IfSome found (λ text. text ≡ command_line lines.now)) }
+{
+    let mut text = String::with_capacity(alloc, SHORT_COMMAND)?;
+    for place in 0..argument_count(lines) {
+        let Some(field) = early_argument(lines, place) else {
+            return Ok(None);
+        };
+        push_separator(&mut text, place)?;
+        push_shown(alloc, &mut text, field)?;
+    }
+    // The copy takes no more memory than its bytes, and none where it lies in the value itself.
+    Ok(Some(Str::of(alloc, text.as_str())?))
+}
+
+/// The field of one of the first ten arguments, where the argument isn't cut into pieces.
+fn early_argument(lines: &[AuditLine], place: u64) -> Option<&Field>
+    ensures { IfSome result (λ field. execve_field (argument_key place) lines.now ≡ Some field.now) }
+{
+    let Some(key) = early_key(place) else {
+        return None;
+    };
+    execve_field(lines, key)
+}
+
+/// The key of one of the first ten arguments.
+fn early_key(place: u64) -> Option<&'static str>
+    ensures { IfSome result (λ key. key.now ≡ argument_key place) }
+{
+    match place {
+        0 => Some("a0"),
+        1 => Some("a1"),
+        2 => Some("a2"),
+        3 => Some("a3"),
+        4 => Some("a4"),
+        5 => Some("a5"),
+        6 => Some("a6"),
+        7 => Some("a7"),
+        8 => Some("a8"),
+        9 => Some("a9"),
+        _ => None,
+    }
+}
+
+/// The command line by an index of the fields.
+fn indexed_command(alloc: Global, lines: &[AuditLine]) -> Result<Str, NoMemory>
     ensures { IfOk result (λ text. text ≡ command_line lines.now) }
 {
     let fields = ExecveFields::of(alloc, lines)?;

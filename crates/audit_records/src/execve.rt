@@ -7,7 +7,7 @@ ghost use Rattle.audit_records.specs.FieldValues.{field_of};
 ghost use Rattle.audit_records.specs.Indexes.{indexed, with_key};
 
 use crate::line::{AuditLine, Field};
-use crate::value::has_kind;
+use crate::value::{field_of, has_kind};
 use osq_value::NoMemory;
 use std::alloc::Global;
 use std::collections::BTreeMap;
@@ -85,6 +85,28 @@ fn add_field<'a>(index: &mut BTreeMap<&'a str, &'a Field>, field: &'a Field) -> 
         index.insert(key, field)?;
     }
     Ok(())
+}
+
+/// The first field with this key in the EXECVE lines, without an index.
+pub fn execve_field<'a>(lines: &'a [AuditLine], key: &str) -> Option<&'a Field>
+    ensures { option_copied result ≡ execve_field key.now lines.now }
+{
+    for line in lines {
+        if let Some(field) = field_in(line, key) {
+            return Some(field);
+        }
+    }
+    None
+}
+
+fn field_in<'a>(line: &'a AuditLine, key: &str) -> Option<&'a Field>
+    ensures { option_copied result ≡ field_in key.now line.now }
+{
+    if is_execve(line) {
+        field_of(line, key)
+    } else {
+        None
+    }
 }
 
 /// The line has the type EXECVE.

@@ -2,7 +2,7 @@ use Rattle.std.proofs.Common.{◌≡◌, ◌++◌}
 use Rattle.std.specs.String.{string_bytes}
 use Rattle.audit_records.specs.Arguments.{argument_count, command_line}
 use Rattle.audit_records.proofs.CommandLine.{joined_from, left}
-use Rattle.audit_records.proofs.arguments.command_line.Given as goal
+use Rattle.audit_records.proofs.arguments.indexed_command.Given as goal
 
 abbrev pub invariant-loop-place : goal.invariant-loop-place
 invariant-loop-place l =

@@ -3,7 +3,7 @@ use Rattle.std.specs.String.{string_bytes}
 use Rattle.audit_records.specs.Arguments.{argument, argument_count}
 use Rattle.audit_records.specs.Joins.{AddsArgument}
 use Rattle.audit_records.proofs.CommandLine.{line-begun, line-more, line-stop}
-use Rattle.audit_records.proofs.arguments.command_line.Goals as goal
+use Rattle.audit_records.proofs.arguments.indexed_command.Goals as goal
 
 pub loop-place-init : goal.loop-place-init
 loop-place-init c = (line-begun c.args.lines.now _ c.new-text.ensures.bytes, c.argument_count-place-end.ensures)
