@@ -15,6 +15,8 @@ use std::str;
 /// The JSON value of a document. Each backslash before a line feed is left out with the line feed, and then each line that begins, behind
 /// spaces and tabs, with `//` or `#`.
 /// NotJson where the document isn't UTF-8, or what is left of it is no JSON (RFC 8259).
+///
+/// The value holds all keys of the document, also those that a configuration passes over.
 #[tactic(auto, unfolding(crate::specs::Documents::text_of))]
 pub fn parse(alloc: Global, document: &[u8]) -> Result<Json, ConfigError>
     ensures { ReadsDocument document.now result }

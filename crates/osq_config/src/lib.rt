@@ -3,7 +3,7 @@
 
 mod category;
 pub mod config;
-mod document;
+pub mod document;
 mod entry;
 pub mod error;
 mod field;
