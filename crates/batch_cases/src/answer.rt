@@ -13,7 +13,7 @@ const KINDS: [&[&str]; 5] = [
     &["kept"],
     &["seals", "fails", "is_whole"],
     &["recorded"],
-    &["lines", "names", "rows"],
+    &["lines", "names", "rows", "decoration"],
     &["object", "names"],
 ];
 

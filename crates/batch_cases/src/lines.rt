@@ -5,7 +5,7 @@ ghost use Rattle.std.specs.Prelude.{◌≡◌, IfOk};
 use crate::answer::push_text;
 use case_text::{items_of, member_text, row_of, rows_of};
 use entry_model::entry::Batch;
-use osq_value::{NoMemory, RowList, Str, TextList};
+use osq_value::{Bytes, NoMemory, RowList, Str, TextList};
 use pack_rules::schedule::{Form, Mode, QueryKey};
 use result_batches::{result_lines, row_object};
 use serde_json::Value as Json;
@@ -52,7 +52,7 @@ fn mode_and_form(words: &str) -> Option<(Mode, Form)> {
     }
 }
 
-/// Tells the lines of a batch with the row's names and rows.
+/// Tells the lines of a batch with the row's names and rows, and what decorates them.
 fn push_lines(
     alloc: Global,
     text: &mut String,
@@ -62,7 +62,8 @@ fn push_lines(
 ) -> Result<(), NoMemory> {
     let names = names_of(alloc, row.get("names"))?;
     let batch = batch_of(alloc, mode, rows_of(alloc, items_of(row.get("rows")))?)?;
-    let lines = result_lines(alloc, &batch, &names, "h1", form)?;
+    let decoration = Bytes::of(alloc, member_text(row, "decoration").as_bytes())?;
+    let lines = result_lines(alloc, &batch, &names, "h1", form, &decoration)?;
     push_text(text, lines.as_slice())
 }
 

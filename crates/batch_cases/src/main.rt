@@ -6,7 +6,8 @@
 //! - `seals`, texts of entries that are sealed one after another; `fails`, which of the seals fail, counted from 1; and `is_whole`, whether
 //!   a seal that fails leaves its entries: the answers, and how many entries there are at last.
 //! - `recorded`, the name of a query: the runs when its first batch is recorded in room that was made for it.
-//! - `lines`, the mode and the form of the first batch of the query `u` on the host `h1` at the moment 1000; with `names` and `rows`: its lines.
+//! - `lines`, the mode and the form of the first batch of the query `u` on the host `h1` at the moment 1000; with `names` and `rows`: its lines;
+//!   and `decoration`, what stands in each before the brace that closes it.
 //! - `object`, a row; and `names`: the row's JSON object.
 #![tactic(auto)]
 

@@ -17,9 +17,9 @@ form_by form (Some schedule) = schedule.form
 abbrev pub form_after : Form → Entry → Form
 form_after form entry = form_by form (schedule_in entry)
 
--- the lines of an entry: those of a batch in this form, with the names that its query gives; no other entry has lines
+-- the lines of an entry: those of a batch in this form, with the names that its query gives and no decoration; no other entry has lines
 abbrev pub Tells : List ℕ → Form → Entry → List ℕ → Type 0
-Tells host form (Committed batch) lines = AreLines form host (names_of batch.query.text) batch lines
+Tells host form (Committed batch) lines = AreLines form host (names_of batch.query.text) [] batch lines
 Tells host form entry lines = lines ≡ []
 
 -- the lines of entries, one entry after another, each in the form that runs there

@@ -1,25 +1,40 @@
 //! The result lines of entries.
 
-ghost use Rattle.std.specs.Prelude.{◌≡◌, ◌++◌, ℕ, List, false, IfOk, IfSome, OnOk, Ok, None};
+ghost use Rattle.std.specs.Prelude.{◌≡◌, ◌++◌, ◌≤◌, ℕ, List, [], false, IfOk, IfSome, OnOk, Ok, None};
+ghost use Rattle.osq_value.specs.declared.moment.TheConstants.{LAST_MOMENT};
 ghost use Rattle.sql_texts.specs.Meaning.{names_of as names_in};
 ghost use Rattle.result_batches.specs.Lines.{AreLines};
 ghost use Rattle.daemon_rounds.specs.Answering.{IsTellable};
 ghost use Rattle.daemon_rounds.specs.Telling.{AreTellable, AreLinesOf, IsTold, Tells, form_after};
 
 use entry_model::entry::{Batch, Entry};
-use osq_value::{Bytes, NoMemory};
+use osq_value::{Bytes, NoMemory, TextList};
 use pack_rules::schedule::Form;
 use query_answers::names;
 use result_batches::result_lines;
 use std::alloc::Global;
 
+/// The lines of a batch. Nothing decorates them.
+fn plain_lines(
+    alloc: Global,
+    batch: &Batch,
+    names: &TextList,
+    host: &str,
+    form: Form,
+) -> Result<Bytes, NoMemory>
+    requires { batch.now.moment ≤ LAST_MOMENT }
+    ensures { IfOk result (AreLines form host.now names.now [] batch.now) }
+{
+    result_lines(alloc, batch, names, host, form, &Bytes::new(alloc))
+}
+
 /// The lines of a batch whose text is to be read.
 fn read_lines(alloc: Global, host: &str, form: Form, batch: &Batch) -> Result<Bytes, NoMemory>
     requires { IsTellable batch.now }
-    ensures { IfOk result (AreLines form host.now (names_in batch.now.query.text) batch.now) }
+    ensures { IfOk result (AreLines form host.now (names_in batch.now.query.text) [] batch.now) }
 {
     match names(alloc, batch.query.text.as_str())? {
-        Some(names) => result_lines(alloc, batch, &names, host, form),
+        Some(names) => plain_lines(alloc, batch, &names, host, form),
         None => unreachable!(),
     }
 }
@@ -27,10 +42,10 @@ fn read_lines(alloc: Global, host: &str, form: Form, batch: &Batch) -> Result<By
 /// The lines of a batch. The text of a scheduled query was accepted before, with its names.
 fn batch_lines(alloc: Global, host: &str, form: Form, batch: &Batch) -> Result<Bytes, NoMemory>
     requires { IsTellable batch.now }
-    ensures { IfOk result (AreLines form host.now (names_in batch.now.query.text) batch.now) }
+    ensures { IfOk result (AreLines form host.now (names_in batch.now.query.text) [] batch.now) }
 {
     match batch.query.text.query() {
-        Some(query) => result_lines(alloc, batch, query.names(), host, form),
+        Some(query) => plain_lines(alloc, batch, query.names(), host, form),
         None => read_lines(alloc, host, form, batch),
     }
 }

@@ -1,5 +1,5 @@
 -- Rows by their labels are rows by the names of their columns.
-use Rattle.std.proofs.Common.{◌≡◌, ℕ, ◌≤◌, Bool, true, false, cond, List, [], ◌∷◌, ◌++◌, length, drop, min, zero, suc, map, refl, sym, ap, ◌∙◌, arith, append_assoc, bytes_eq, ◌==◌}
+use Rattle.std.proofs.Common.{◌≡◌, ℕ, ◌≤◌, true, false, cond, List, [], ◌∷◌, ◌++◌, length, drop, min, zero, suc, refl, ap, ◌∙◌, arith, append_assoc, bytes_eq, ◌==◌}
 use Rattle.std.specs.Prelude.{flat_map}
 use Rattle.std.specs.List.{list_any}
 use Rattle.osq_value.specs.declared.value.Value.{Value}
@@ -9,7 +9,7 @@ use Rattle.pack_rules.specs.declared.schedule.Form.{Form}
 use Rattle.pack_rules.specs.declared.schedule.Form.TheVariants.{Event}
 use Rattle.entry_model.specs.declared.entry.Batch.{Batch}
 use Rattle.result_batches.specs.Json.{escaped, quoted, joined, each_behind_comma}
-use Rattle.result_batches.specs.Labels.{label, labels_from, cell, cells, labelled, labelled_rows}
+use Rattle.result_batches.specs.Labels.{label, labels_from, cells, labelled, labelled_rows}
 use Rattle.result_batches.specs.Lines.{value_text, member, members, object, objects, head_text, lines_text, difference_line, difference_text, AreLines, AreAddedLines}
 
 -- a label before a value is the member, but for what stands before both
@@ -63,30 +63,36 @@ cells_end (l ∷ ls) [] (suc n) h = cells_none (drop n ls)
 cells_end (l ∷ ls) (v ∷ vs) zero h = absurd (omega (arith, h))
 cells_end (l ∷ ls) (v ∷ vs) (suc n) h = cells_end ls vs n (omega (arith, h))
 
+-- a line behind others, piece by piece
+pub line_grown : (lines head action row end : List ℕ) → lines ++ head ++ action ++ row ++ end ≡ lines ++ (head ++ action ++ row ++ end)
+line_grown lines head action row end =
+    ap (λ l. l ++ end) (ap (λ l. l ++ row) (append_assoc lines head action) ∙ append_assoc lines (head ++ action) row)
+    ∙ append_assoc lines (head ++ action ++ row) end
+
 -- the line of some objects
-pub difference_some : (head line : List ℕ) (labels : List (List ℕ)) (rows : List (List Value)) → (length rows == 0) ≡ false
-    → line ≡ difference_text head (labelled_rows labels rows) → line ≡ difference_line head (labelled_rows labels rows)
-difference_some head line labels [] some is = absurd (let no : ⊥ = cc in no)
-difference_some head line labels (row ∷ rows) some is = is
+pub difference_some : (head decoration line : List ℕ) (labels : List (List ℕ)) (rows : List (List Value)) → (length rows == 0) ≡ false
+    → line ≡ difference_text head decoration (labelled_rows labels rows) → line ≡ difference_line head decoration (labelled_rows labels rows)
+difference_some head decoration line labels [] some is = absurd (let no : ⊥ = cc in no)
+difference_some head decoration line labels (row ∷ rows) some is = is
 
 -- what was made of a batch's head and labels are its lines
-pub are_lines : (form : Form) (host calendar head lines : List ℕ) (names labels : List (List ℕ)) (batch : Batch) → IsCalendarText batch.moment calendar
-    → head ≡ head_text host calendar batch → labels ≡ labels_from true names → lines ≡ lines_text batch.query.mode form head (labelled_rows labels batch.rows)
-    → AreLines form host names batch lines
-are_lines form host calendar head lines names labels batch shown head_is labels_are lines_are = record {
+pub are_lines : (form : Form) (host calendar head decoration lines : List ℕ) (names labels : List (List ℕ)) (batch : Batch) → IsCalendarText batch.moment calendar
+    → head ≡ head_text host calendar batch → labels ≡ labels_from true names
+    → lines ≡ lines_text batch.query.mode form head decoration (labelled_rows labels batch.rows) → AreLines form host names decoration batch lines
+are_lines form host calendar head decoration lines names labels batch shown head_is labels_are lines_are = record {
   calendar = calendar;
   shown = shown;
   text =
-      lines_are ∙ ap (λ h. lines_text batch.query.mode form h (labelled_rows labels batch.rows)) head_is
-      ∙ ap (λ ls. lines_text batch.query.mode form (head_text host calendar batch) (labelled_rows ls batch.rows)) labels_are
-      ∙ ap (lines_text batch.query.mode form (head_text host calendar batch)) (labelled_objects names batch.rows);
+      lines_are ∙ ap (λ h. lines_text batch.query.mode form h decoration (labelled_rows labels batch.rows)) head_is
+      ∙ ap (λ ls. lines_text batch.query.mode form (head_text host calendar batch) decoration (labelled_rows ls batch.rows)) labels_are
+      ∙ ap (lines_text batch.query.mode form (head_text host calendar batch) decoration) (labelled_objects names batch.rows);
 }
 
 -- in the form of events the lines of an evented batch are a line for each row
-pub added_lines_of : (host : List ℕ) (names : List (List ℕ)) (batch : Batch) (lines : List ℕ) → batch.query.mode ≡ Evented
-    → AreLines Event host names batch lines → AreAddedLines host names batch lines
-added_lines_of host names batch lines evented are = record {
+pub added_lines_of : (host : List ℕ) (names : List (List ℕ)) (decoration : List ℕ) (batch : Batch) (lines : List ℕ) → batch.query.mode ≡ Evented
+    → AreLines Event host names decoration batch lines → AreAddedLines host names decoration batch lines
+added_lines_of host names decoration batch lines evented are = record {
   calendar = are.calendar;
   shown = are.shown;
-  text = are.text ∙ ap (λ mode. lines_text mode Event (head_text host are.calendar batch) (objects names batch.rows)) evented;
+  text = are.text ∙ ap (λ mode. lines_text mode Event (head_text host are.calendar batch) decoration (objects names batch.rows)) evented;
 }

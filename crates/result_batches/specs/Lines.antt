@@ -42,42 +42,46 @@ head_text host calendar batch =
     codes "{\"name\":" ++ quoted batch.query.name ++ codes ",\"hostIdentifier\":" ++ quoted host ++ codes ",\"calendarTime\":" ++ quoted calendar
     ++ codes ",\"unixTime\":" ++ decimal batch.moment ++ codes ",\"batch\":" ++ decimal batch.number
 
+-- the end of each line of a batch: what decorates it, before the brace that closes it
+abbrev pub end_text : List ℕ → List ℕ
+end_text decoration = decoration ++ codes "}\n"
+
 -- the line of an added row's object
-abbrev pub added_line : List ℕ → List ℕ → List ℕ
-added_line head row = head ++ codes ",\"action\":\"added\",\"columns\":" ++ row ++ codes "}\n"
+abbrev pub added_line : List ℕ → List ℕ → List ℕ → List ℕ
+added_line head decoration row = head ++ codes ",\"action\":\"added\",\"columns\":" ++ row ++ end_text decoration
 
 -- a line for each object
-abbrev pub added_lines : List ℕ → List (List ℕ) → List ℕ
-added_lines head rows = flat_map (added_line head) rows
+abbrev pub added_lines : List ℕ → List ℕ → List (List ℕ) → List ℕ
+added_lines head decoration rows = flat_map (added_line head decoration) rows
 
 -- one line with the objects that were added
-abbrev pub difference_text : List ℕ → List (List ℕ) → List ℕ
-difference_text head rows = head ++ codes ",\"diffResults\":{\"added\":" ++ array rows ++ codes ",\"removed\":[]}}\n"
+abbrev pub difference_text : List ℕ → List ℕ → List (List ℕ) → List ℕ
+difference_text head decoration rows = head ++ codes ",\"diffResults\":{\"added\":" ++ array rows ++ codes ",\"removed\":[]}" ++ end_text decoration
 
 -- the same, where there are some
-abbrev pub difference_line : List ℕ → List (List ℕ) → List ℕ
-difference_line head [] = []
-difference_line head (row ∷ rows) = difference_text head (row ∷ rows)
+abbrev pub difference_line : List ℕ → List ℕ → List (List ℕ) → List ℕ
+difference_line head decoration [] = []
+difference_line head decoration (row ∷ rows) = difference_text head decoration (row ∷ rows)
 
 -- one line with all objects
-abbrev pub snapshot_line : List ℕ → List (List ℕ) → List ℕ
-snapshot_line head rows = head ++ codes ",\"action\":\"snapshot\",\"snapshot\":" ++ array rows ++ codes "}\n"
+abbrev pub snapshot_line : List ℕ → List ℕ → List (List ℕ) → List ℕ
+snapshot_line head decoration rows = head ++ codes ",\"action\":\"snapshot\",\"snapshot\":" ++ array rows ++ end_text decoration
 
 -- the lines by mode and form
-abbrev pub lines_text : Mode → Form → List ℕ → List (List ℕ) → List ℕ
-lines_text Evented form.Event head rows = added_lines head rows
-lines_text Evented form.Batch head rows = difference_line head rows
-lines_text Snapshot form.Event head rows = snapshot_line head rows
-lines_text Snapshot form.Batch head rows = snapshot_line head rows
+abbrev pub lines_text : Mode → Form → List ℕ → List ℕ → List (List ℕ) → List ℕ
+lines_text Evented form.Event head decoration rows = added_lines head decoration rows
+lines_text Evented form.Batch head decoration rows = difference_line head decoration rows
+lines_text Snapshot form.Event head decoration rows = snapshot_line head decoration rows
+lines_text Snapshot form.Batch head decoration rows = snapshot_line head decoration rows
 
--- these are the lines of a batch in a form. Its moment is shown at UTC
-pub record AreLines (form : Form) (host : List ℕ) (names : List (List ℕ)) (batch : Batch) (lines : List ℕ) : Type 0 where
+-- these are the lines of a batch in a form, each with this decoration. Its moment is shown at UTC
+pub record AreLines (form : Form) (host : List ℕ) (names : List (List ℕ)) (decoration : List ℕ) (batch : Batch) (lines : List ℕ) : Type 0 where
   pub calendar : List ℕ
   pub shown : IsCalendarText batch.moment calendar
-  pub text : lines ≡ lines_text batch.query.mode form (head_text host calendar batch) (objects names batch.rows)
+  pub text : lines ≡ lines_text batch.query.mode form (head_text host calendar batch) decoration (objects names batch.rows)
 
 -- these are the lines of a batch of an evented query, a line for each row
-pub record AreAddedLines (host : List ℕ) (names : List (List ℕ)) (batch : Batch) (lines : List ℕ) : Type 0 where
+pub record AreAddedLines (host : List ℕ) (names : List (List ℕ)) (decoration : List ℕ) (batch : Batch) (lines : List ℕ) : Type 0 where
   pub calendar : List ℕ
   pub shown : IsCalendarText batch.moment calendar
-  pub text : lines ≡ added_lines (head_text host calendar batch) (objects names batch.rows)
+  pub text : lines ≡ added_lines (head_text host calendar batch) decoration (objects names batch.rows)

@@ -1,8 +1,6 @@
-use Rattle.std.proofs.Common.{sym, subst, ap, ◌∙◌}
+use Rattle.std.proofs.Common.{sym, subst}
 use Rattle.std.proofs.lemmas.Result.{IfOk-weaker}
 use Rattle.calendar_text.specs.Calendar.{IsCalendarText}
-use Rattle.result_batches.specs.Labels.{labelled_rows}
-use Rattle.result_batches.specs.Lines.{lines_text}
 use Rattle.result_batches.proofs.Labelled.{are_lines}
 use Rattle.result_batches.proofs.lines.result_lines.Goals as goal
 
@@ -10,7 +8,6 @@ pub returns : goal.returns
 returns c =
     let batch = c.args.batch.now in
     let shown = subst (IsCalendarText batch.moment) (sym c.as_str.ensures.value) c.in_ok-calendar.ensures in
-    let rows_are = ap (λ rows. lines_text batch.query.mode c.args.form c.in_ok-head.head (labelled_rows c.in_ok-labels.labels rows)) c.as_slice.ensures in
     IfOk-weaker c.lines_of.result _ _
-    (λ lines is. are_lines c.args.form c.args.host.now _ _ lines c.args.names.now _ batch shown c.in_ok-head.ensures c.in_ok-labels.ensures (is ∙ rows_are))
+    (λ lines is. are_lines c.args.form c.args.host.now _ _ c.args.decoration.now lines c.args.names.now _ batch shown c.in_ok-head.ensures c.in_ok-labels.ensures is)
     c.lines_of.ensures
