@@ -1,7 +1,6 @@
 //! The due queries of a tick, each answered by one batch.
 
 ghost use Rattle.std.specs.Prelude.{◌<◌, ◌^◌, Err, ◌≡◌, ◌+◌, ◌≤◌, ℕ, true, false, IfOk, IfSome, Ok, None, Some, [], ◌∷◌};
-ghost use Rattle.sql_texts.specs.Meaning.{is_accepted, meaning};
 ghost use Rattle.entry_model.specs.declared.entry.Batch.{Batch};
 ghost use Rattle.entry_model.specs.declared.entry.Entry.TheVariants.{Committed};
 ghost use Rattle.session_state.specs.Kept.{IsState, due_count};
@@ -12,24 +11,12 @@ ghost use Rattle.daemon_rounds.specs.Answering.{AnswersDue, AnswersFirst, IsTell
 
 use crate::error::RoundError;
 use event_store::Steps;
-use osq_value::{NoMemory, RowList, Tables};
-use query_answers::answer_again;
+use osq_value::NoMemory;
+use query_answers::answer_accepted;
 use session_state::{CommitRefusal, State};
-use sql_texts::QueryText;
 use std::alloc::Global;
 use std::marker::Brand;
 use std::sync::ledger::{Blank, Ledger};
-
-/// The rows that an accepted text means over a view.
-fn rows_of<V: Tables>(alloc: Global, text: &QueryText, view: &V) -> Result<RowList, NoMemory>
-    requires { is_accepted text.now ≡ true }
-    ensures { IfOk result (λ rows. rows ≡ meaning text.now (V.rows_of view.now)) }
-{
-    match answer_again(alloc, text, view)? {
-        Some(rows) => Ok(rows),
-        None => unreachable!(),
-    }
-}
 
 /// Answers the first due query by its batch, and says whether one was due.
 fn answer_next<L: Ledger>(
@@ -48,7 +35,7 @@ fn answer_next<L: Ledger>(
         Ok(None) => return Ok(false),
         Ok(Some(cut)) => cut,
     };
-    let Ok(rows) = rows_of(alloc, &cut.key().text, cut.view()) else {
+    let Ok(rows) = answer_accepted(alloc, &cut.key().text, cut.view()) else {
         return Err(RoundError::NoMemory);
     };
     match state.commit(cut, rows) {

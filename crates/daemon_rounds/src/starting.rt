@@ -2,7 +2,6 @@
 
 ghost use Rattle.std.specs.Prelude.{◌≡◌, ℕ, All, length, Err, IfOk, OnOk, bytes_eq};
 ghost use Rattle.entry_model.specs.Fits.{IsDistinct};
-ghost use Rattle.entry_model.specs.Next.{offset_at};
 ghost use Rattle.source_feeds.specs.Feeding.{IsOpen};
 ghost use Rattle.daemon_rounds.specs.Rounding.{AreGoing, FailsAt};
 ghost use Rattle.daemon_rounds.specs.Starting.{AreFeedsOf, HasShrunk, IsFeedOf, IsStarted, ShrankAt, Starts, source_names};
@@ -11,20 +10,11 @@ ghost use Rattle.daemon_rounds.specs.declared.error.StartError.{StartError};
 use crate::error::StartError;
 use entry_model::restored::Taken;
 use osq_outside::Source;
-use osq_value::{CategoryList, Copied, NoMemory, SourceName, Str};
+use osq_value::{CategoryList, Copied, NoMemory, SourceName};
 use publisher_core::error::StepError;
+use session_state::offset_of;
 use source_feeds::Feed;
 use std::alloc::Global;
-
-/// Up to which byte the source was taken.
-fn offset_of(taken: &[Taken], source: &Str) -> u64
-    ensures { result ≡ offset_at taken.now source.now }
-{
-    match taken.iter().find(|one| one.source.is(source)) {
-        None => 0,
-        Some(one) => one.offset,
-    }
-}
 
 /// A feed of the source.
 fn open_feed(

@@ -3,7 +3,7 @@
 ghost use Rattle.std.specs.Prelude.{◌≡◌, ◌<◌, [], true, set, slice_get, slice_index_or};
 ghost use Rattle.std.specs.Option.{option_copied};
 ghost use Rattle.osq_value.specs.Catalogue.{width_of, is_computed_id};
-ghost use Rattle.event_store.specs.Contents.{AreWide, rows_in, IsView};
+ghost use Rattle.event_store.specs.Contents.{AreWide, rows_in};
 ghost use Rattle.event_store.specs.Inside.{shown_by, AreShown};
 ghost use Rattle.event_store.specs.Parts.{rows_of};
 
@@ -55,13 +55,6 @@ impl CutView {
         } else {
             None
         }
-    }
-
-    /// Each row has its table's width, and no table beyond the catalogue has rows.
-    pub fn is_view(&self)
-        ensures { IsView self.now }
-    {
-        let _tables = &self.tables;
     }
 
     /// Gives a computed table these rows, which others may share. It takes no memory.

@@ -5,4 +5,4 @@ mod discovery;
 mod text;
 
 pub use discovery::{found_packs, schedule_for};
-pub use text::{answer, answer_again, names};
+pub use text::{answer, answer_accepted, names};

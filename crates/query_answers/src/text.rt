@@ -1,9 +1,10 @@
 //! What a text answers.
 
-ghost use Rattle.std.specs.Prelude.{◌≡◌, IfOk};
+ghost use Rattle.std.specs.Prelude.{◌≡◌, true, IfOk};
 ghost use Rattle.std.specs.Option.{option_map};
 ghost use Rattle.sql_meaning.specs.Meaning.{meaning_of};
 ghost use Rattle.sql_query.specs.Resolved.{query_of};
+ghost use Rattle.sql_texts.specs.Meaning.{is_accepted, meaning};
 ghost use Rattle.sql_texts.specs.Texts.{query_in};
 ghost use Rattle.query_answers.specs.Texts.{answer_of, names_in};
 
@@ -47,7 +48,7 @@ pub fn answer<V: Tables>(alloc: Global, text: &str, view: &V) -> Result<Option<R
 
 /// The rows that the text means over the view, and nothing where it isn't accepted. A text that was accepted before isn't read again.
 #[tactic(auto, unfolding(sql_texts::specs::Meaning::is_accepted, sql_texts::specs::Meaning::meaning))]
-pub fn answer_again<V: Tables>(
+fn answer_again<V: Tables>(
     alloc: Global,
     text: &QueryText,
     view: &V,
@@ -57,6 +58,22 @@ pub fn answer_again<V: Tables>(
     match text.query() {
         None => answer(alloc, text.as_str(), view),
         Some(accepted) => Ok(Some(rows_of(alloc, accepted.query(), view)?)),
+    }
+}
+
+/// The rows that an accepted text means over the view. A text that was accepted before isn't read again.
+#[tactic(auto, unfolding(sql_texts::specs::Meaning::is_accepted, sql_texts::specs::Meaning::meaning))]
+pub fn answer_accepted<V: Tables>(
+    alloc: Global,
+    text: &QueryText,
+    view: &V,
+) -> Result<RowList, NoMemory>
+    requires { is_accepted text.now ≡ true }
+    ensures { IfOk result (λ rows. rows ≡ meaning text.now (V.rows_of view.now)) }
+{
+    match answer_again(alloc, text, view)? {
+        Some(rows) => Ok(rows),
+        None => unreachable!(),
     }
 }
 

@@ -11,4 +11,5 @@ pub mod state;
 pub mod tail;
 
 pub use cut::Cut;
+pub use readings::offset_of;
 pub use state::{AppendError, CommitRefusal, State, TickRefusal};

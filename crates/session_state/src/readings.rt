@@ -13,8 +13,8 @@ use std::alloc::Global;
 /// The greatest number that an event may have.
 const LAST: u64 = 1 << 62;
 
-/// Up to which byte the source was taken.
-pub(crate) fn offset_of(taken: &[Taken], source: &Str) -> u64
+/// Up to which byte the source was taken: 0 where nothing was.
+pub fn offset_of(taken: &[Taken], source: &Str) -> u64
     ensures { result ≡ offset_at taken.now source.now }
 {
     match taken.iter().find(|one| one.source.is(source)) {

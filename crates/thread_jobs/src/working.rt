@@ -1,7 +1,7 @@
 //! A worker: cuts of due queries, each of which is evaluated outside any turn and committed.
 
-ghost use Rattle.std.specs.Prelude.{◌≡◌, ◌≢◌, ◌<◌, true, false, Err, Ok, IfOk, OnOk};
-ghost use Rattle.sql_texts.specs.Meaning.{is_accepted, meaning};
+ghost use Rattle.std.specs.Prelude.{◌≡◌, ◌≢◌, ◌<◌, false, Err, Ok, OnOk};
+ghost use Rattle.sql_texts.specs.Meaning.{meaning};
 ghost use Rattle.event_store.specs.Contents.{rows_in};
 ghost use Rattle.turn_lock.specs.Words.{number, seen, IsAtRest, IsSame};
 ghost use Rattle.shared_store.specs.Notes.{WasGiven};
@@ -14,26 +14,14 @@ ghost use Rattle.thread_jobs.specs.declared.error.JobError.{JobError};
 use crate::error::JobError;
 use event_store::Steps;
 use osq_outside::{Gate, Point};
-use osq_value::{NoMemory, RowList, Tables};
-use query_answers::answer_again;
+use osq_value::{NoMemory, RowList};
+use query_answers::answer_accepted;
 use session_state::{CommitRefusal, Cut};
 use shared_store::{Store, StoreSeat};
-use sql_texts::QueryText;
 use std::alloc::Global;
 use std::marker::Brand;
 use std::sync::Wait;
 use std::sync::ledger::{Blank, Ledger};
-
-/// The rows that an accepted text means over a view.
-fn rows_of<V: Tables>(alloc: Global, text: &QueryText, view: &V) -> Result<RowList, NoMemory>
-    requires { is_accepted text.now ≡ true }
-    ensures { IfOk result (λ rows. rows ≡ meaning text.now (V.rows_of view.now)) }
-{
-    match answer_again(alloc, text, view)? {
-        Some(rows) => Ok(rows),
-        None => unreachable!(),
-    }
-}
 
 /// Commits the rows that answer a cut. A cut that is refused is given back, and says whether that ends the worker.
 fn commit<R: Wait>(
@@ -91,7 +79,7 @@ fn answer_next<R: Wait, G: Gate, L: Ledger>(
         Ok(Some(cut)) => cut,
     };
     gate.at(who, Point::AfterCut);
-    let Ok(rows) = rows_of(alloc, &cut.key().text, cut.view()) else {
+    let Ok(rows) = answer_accepted(alloc, &cut.key().text, cut.view()) else {
         store.release(rt, seat, cut);
         return Err(JobError::NoMemory);
     };

@@ -9,8 +9,8 @@ pub returns-in-Ok-None-clause-none : goal.returns-in-Ok-None-clause-none
 returns-in-Ok-None-clause-none g c e =
     none_due c.args.state.now c.claim_cut.new.self c.is_state.ensures c.in-Ok-None.ensures.claimed (c.claim_cut.ensures.none.0 (c.in-Ok-None.is ∙ ap Ok c.in-Ok-None.field-0-is))
 
-pub rows_of-requires : goal.rows_of-requires
-rows_of-requires g c =
+pub answer_accepted-requires : goal.answer_accepted-requires
+answer_accepted-requires g c =
     let cut = c.in-Ok-Some.cut in
     let g = given c.args.state.now cut (sym c.in-Ok-Some.field-0-is ∙ c.in-Ok-Some.ensures.cut) in
     let is = accepted c.args.state.now c.is_state.ensures cut g c.claim_cut.new.self c.in-Ok-Some.ensures.claimed in

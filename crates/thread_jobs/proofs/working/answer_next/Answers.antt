@@ -19,8 +19,8 @@ pub returns-in-Ok-None-clause-none : goal.returns-in-Ok-None-clause-none
 returns-in-Ok-None-clause-none g c is =
     none_at (start_of c.args.store.now) c.args.seat.now c.claim_cut.new.seat _ _ c.claim_cut.result (c.in-Ok-None.is ∙ ap Ok c.in-Ok-None.field-0-is) c.claim_cut.ensures.turn
 
-pub rows_of-requires : goal.rows_of-requires
-rows_of-requires g c =
+pub answer_accepted-requires : goal.answer_accepted-requires
+answer_accepted-requires g c =
     ap is_accepted (ap (λ (k : QueryKey). k.text) c.key.ensures)
     ∙ accepted_at (start_of c.args.store.now) c.args.seat.now c.claim_cut.new.seat _ _ c.claim_cut.result c.in-Ok-Some.cut (c.in-Ok-Some.is ∙ ap Ok c.in-Ok-Some.field-0-is) c.claim_cut.ensures.turn
 
