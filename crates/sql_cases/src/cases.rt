@@ -8,12 +8,13 @@ use osq_value::NoMemory;
 use serde_json::Value as Json;
 use std::alloc::Global;
 
-const TEXT_KINDS: [LineKind; 5] = [
+const TEXT_KINDS: [LineKind; 6] = [
     ("sql", &["is_brief"]),
     ("places", &[]),
     ("expression", &["is_brief"]),
     ("query", &[]),
     ("names", &[]),
+    ("word", &[]),
 ];
 
 const VALUE_KINDS: [LineKind; 4] = [

@@ -2,8 +2,9 @@
 //! line of JSON for each:
 //!
 //! - `sql`: the tree of a select, `places`: where its items stand, `expression`: the tree of an expression, `query`: a query with
-//!   resolved names, `names`: those of the columns of its result. A text is a string, an object with `text` and `times`, or an array of
-//!   these. A text without a tree or a query has the kind and the place of its fault. With `is_brief` a tree is not shown.
+//!   resolved names, `names`: those of the columns of its result, `word`: whether it is a keyword. A text is a string, an object with
+//!   `text` and `times`, or an array of these. A text without a tree or a query has the kind and the place of its fault. With `is_brief`
+//!   a tree is not shown.
 //! - `op` on the two values `of`, whose sides may have an affinity, `left` and `right`; `function` of the values `of`; `truth` of a value,
 //!   its negation and its sign turned; `worth`: an expression over a row `of` the table `from`.
 //! - `fold` of the values `of`, or of so many `rows`, which may be `is_distinct`; `firsts`: the first of rows that are equal up to `width`;

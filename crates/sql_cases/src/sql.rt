@@ -15,4 +15,6 @@ pub(crate) use sql_query::query::{Condition, Order, Query, QueryItem, QuerySourc
 pub(crate) use sql_query::tree::{Aggregate, Expr, ExprStep};
 pub(crate) use sql_scalar::{apply, call, minus, negation, truth};
 pub(crate) use sql_texts::text::{TextError, query_of_text};
+pub(crate) use sql_tokens::token::Kind;
+pub(crate) use sql_tokens::words::kind_of_name;
 pub(crate) use sql_tree::select::{Item, Select, TableRef, Term};

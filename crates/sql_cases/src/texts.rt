@@ -5,7 +5,8 @@ use crate::numbers::push_place;
 use crate::queries::{push_names, push_query};
 use crate::selects::{push_places, push_select};
 use crate::sql::{
-    Node, ParseError, ParseKind, Query, Select, TextError, parse, parse_expression, query_of_text,
+    Kind, Node, ParseError, ParseKind, Query, Select, TextError, kind_of_name, parse,
+    parse_expression, query_of_text,
 };
 use crate::words::push_words;
 use case_text::items_of;
@@ -160,6 +161,15 @@ fn push_query_of(
     }
 }
 
+/// Adds whether a word is a keyword.
+fn push_word(shown: &mut String, word: &str) -> Result<(), NoMemory> {
+    let answer = match kind_of_name(word.as_bytes()) {
+        Kind::Name(_) => " name",
+        _ => " keyword",
+    };
+    Ok(shown.push_str(answer)?)
+}
+
 fn push_what(
     alloc: Global,
     shown: &mut String,
@@ -170,6 +180,7 @@ fn push_what(
     match name {
         "expression" => push_expression(alloc, shown, line, text),
         "sql" | "places" => push_sql(alloc, shown, line, text),
+        "word" => push_word(shown, text),
         _ => push_query_of(alloc, shown, line, text),
     }
 }

@@ -5,4 +5,4 @@ pub mod level;
 pub mod lexer;
 pub mod reader;
 pub mod token;
-mod words;
+pub mod words;

@@ -125,8 +125,14 @@ pub(crate) fn word(name: &[u8]) -> Word
     }
 }
 
-/// A keyword, or else a name.
-pub(crate) fn kind_of_name(name: &[u8]) -> Kind
+/// What a token of these bytes is where they have the form of a name: a keyword, or else a name. It takes no memory.
+///
+/// ```
+/// kind_of_name(b"From")     // Kind::Clause(Clause::From)
+/// kind_of_name(b"length")   // Kind::Name(Word::Scalar(Function::Length))
+/// kind_of_name(b"union")    // Kind::Name(Word::Plain)
+/// ```
+pub fn kind_of_name(name: &[u8]) -> Kind
     ensures { result ≡ kind_of_word name.now }
 {
     match clause(name) {
