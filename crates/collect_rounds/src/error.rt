@@ -2,15 +2,19 @@
 
 use osq_outside::{SinkFault, SourceFault};
 use osq_value::NoMemory;
+use thiserror::Error;
 
 /// Why a collector stops before its stream's end.
-#[derive(Clone, Copy)]
+#[derive(Clone, Copy, Debug, Error)]
 pub enum CollectError {
     /// The stream of frames failed.
+    #[error("failed to read the stream of frames")]
     SourceFault,
     /// The ledger's file or the answers could not be written.
+    #[error("failed to write the ledger or the answers")]
     SinkFault,
     /// Memory was wanting.
+    #[error("out of memory")]
     NoMemory,
 }
 
