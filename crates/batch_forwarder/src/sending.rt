@@ -17,13 +17,16 @@ use batch_keeper::{Keeper, KeeperError};
 use entry_model::entry::Batch;
 use osq_value::NoMemory;
 use std::alloc::Global;
+use thiserror::Error;
 
 /// Why not all frames are sent. A link that fails is no such cause.
-#[derive(Clone, Copy)]
+#[derive(Clone, Copy, Debug, Error)]
 pub enum ForwardError {
     /// The keeper failed.
+    #[error("failed to read or write the kept list")]
     KeeperFault,
     /// Memory was wanting.
+    #[error("out of memory")]
     NoMemory,
 }
 

@@ -6,9 +6,11 @@ ghost use Rattle.daemon_rounds.specs.Moments.{IsRead};
 
 use osq_outside::Clock;
 use osq_value::LAST_MOMENT;
+use thiserror::Error;
 
 /// The clock gave this moment, which is beyond the year 9999.
-#[derive(Clone, Copy)]
+#[derive(Clone, Copy, Debug, Error)]
+#[error("clock reading {moment} is beyond the year 9999")]
 pub struct MomentTooLarge {
     /// The reading, in seconds since 1970 UTC, above LAST_MOMENT.
     pub moment: u64,

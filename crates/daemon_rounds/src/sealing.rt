@@ -14,15 +14,19 @@ use osq_value::NoMemory;
 use pack_rules::schedule::Form;
 use session_state::State;
 use std::alloc::Global;
+use thiserror::Error;
 
 /// Why what was added is not kept and told.
-#[derive(Clone, Copy)]
+#[derive(Clone, Copy, Debug, Error)]
 pub enum SealError {
     /// The keeper failed: it has all of the entries, or none.
+    #[error("failed to read or write the kept list")]
     KeeperFault,
     /// The entries are kept, and a front part of their lines was written.
+    #[error("failed to write the result lines")]
     SinkFault,
     /// Memory was wanting.
+    #[error("out of memory")]
     NoMemory,
 }
 

@@ -1,13 +1,16 @@
 //! Why rows give no values.
 
 use osq_value::NoMemory;
+use thiserror::Error;
 
 /// Why the rows of the tables give no values.
-#[derive(Clone, Copy)]
+#[derive(Clone, Copy, Debug, Error)]
 pub enum TableError {
     /// A row isn't one that a seal writes.
+    #[error("unreadable row in the store")]
     Unreadable,
     /// Memory was wanting.
+    #[error("out of memory")]
     NoMemory,
 }
 

@@ -5,23 +5,31 @@ ghost use Rattle.query_rounds.specs.Refusals.{unloaded_by, unstarted_by, untaken
 
 use daemon_rounds::{StartError, TakeError};
 use replay_rounds::LoadError;
+use thiserror::Error;
 
 /// Why a question has no answer.
-#[derive(Clone, Copy)]
+#[derive(Clone, Copy, Debug, Error)]
 pub enum AskError {
     /// The keeper failed.
+    #[error("failed to read or write the kept list")]
     KeeperFault,
     /// The keeper gave values that no session may go on from.
+    #[error("no session can go on from the kept values")]
     KeeperRefused,
     /// The clock gave this moment, which is beyond the year 9999.
+    #[error("clock reading {moment} is beyond the year 9999")]
     MomentTooLarge { moment: u64 },
     /// The source at this place failed.
+    #[error("failed to read source {place}")]
     SourceFault { place: usize },
     /// The source at this place ended after `found` bytes, before the `kept` bytes that earlier sessions took of it.
+    #[error("source {place} ended after {found} bytes, before the {kept} bytes already taken of it")]
     SourceShrank { place: usize, kept: u64, found: u64 },
     /// The next event's number would pass 2^62.
+    #[error("event numbers are exhausted")]
     NumbersSpent,
     /// Memory was wanting.
+    #[error("out of memory")]
     NoMemory,
 }
 

@@ -17,15 +17,19 @@ use entry_model::restored::Restored;
 use entry_summary::fitting::fits_by_hash;
 use osq_value::NoMemory;
 use std::alloc::Global;
+use thiserror::Error;
 
 /// Why there are no values to go on from.
-#[derive(Clone, Copy)]
+#[derive(Clone, Copy, Debug, Error)]
 pub enum LoadError {
     /// The keeper failed.
+    #[error("failed to read or write the kept list")]
     KeeperFault,
     /// The keeper gave values that no session may go on from. They have these numbers.
+    #[error("no session can go on from the kept values")]
     KeeperRefused { kept: Numbers },
     /// Memory was wanting.
+    #[error("out of memory")]
     NoMemory,
 }
 

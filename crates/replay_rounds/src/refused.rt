@@ -10,30 +10,39 @@ use batch_keeper::KeeperError;
 use daemon_rounds::{FinishError, OpenError, TakeError};
 use entry_model::restored::Restored;
 use session_state::State;
+use thiserror::Error;
 
 /// Why a session ends before its last tick is done.
-#[derive(Clone, Copy)]
+#[derive(Clone, Copy, Debug, Error)]
 pub enum RunError {
     /// The keeper failed: at a seal it has all entries that were sealed, or none.
+    #[error("failed to read or write the kept list")]
     KeeperFault,
     /// The keeper gave values that no session may go on from.
+    #[error("no session can go on from the kept values")]
     KeeperRefused,
     /// The clock gave this moment, which is beyond the year 9999.
+    #[error("clock reading {moment} is beyond the year 9999")]
     MomentTooLarge { moment: u64 },
     /// The source at this place failed.
+    #[error("failed to read source {place}")]
     SourceFault { place: usize },
     /// The source at this place ended after `found` bytes, before the `kept` bytes that earlier sessions took of it.
+    #[error("source {place} ended after {found} bytes, before the {kept} bytes already taken of it")]
     SourceShrank { place: usize, kept: u64, found: u64 },
     /// The next event's or the next batch's number would pass 2^62.
+    #[error("event or batch numbers are exhausted")]
     NumbersSpent,
     /// The entries of the tick are kept, and a front part of their lines was written; or what is to be told beside them could not be written.
+    #[error("failed to write the results or the status")]
     SinkFault,
     /// Memory was wanting.
+    #[error("out of memory")]
     NoMemory,
 }
 
 /// The numbers of a kept list.
-#[derive(Clone, Copy)]
+#[derive(Clone, Copy, Debug)]
 pub struct Numbers {
     /// The number of the last event, or 0.
     pub events: u64,
@@ -44,7 +53,8 @@ pub struct Numbers {
 }
 
 /// A session that ended before its last tick was done.
-#[derive(Clone, Copy)]
+#[derive(Clone, Copy, Debug, Error)]
+#[error("{error}")]
 pub struct Refused {
     /// Why it ended.
     pub error: RunError,
