@@ -1,5 +1,5 @@
 -- What a query says of its tables and of its result.
-use Rattle.std.specs.Prelude.{ℕ, Bool, true, false, if◌then◌else◌, List, [], ◌∷◌, Option, Some, None}
+use Rattle.std.specs.Prelude.{ℕ, ◌==◌, Bool, true, false, if◌then◌else◌, List, [], ◌∷◌, Option, Some, None}
 use Rattle.osq_value.specs.declared.catalogue.TableKind.{TableKind}
 use Rattle.osq_value.specs.declared.catalogue.TableKind.TheVariants.{Evented, Recorded, Computed}
 use Rattle.osq_value.specs.Catalogue.{Heading, heading_at}
@@ -21,6 +21,11 @@ is_evented_among (source ∷ sources) = if is_evented_heading (heading_at source
 
 abbrev pub is_evented_query : QueryTree → Bool
 is_evented_query query = is_evented_among query.sources
+
+-- some FROM table has that number
+abbrev pub is_among : ℕ → List SourceTree → Bool
+is_among table [] = false
+is_among table (source ∷ sources) = if source.table == table then true else is_among table sources
 
 -- the names of the columns of the result
 abbrev pub names_in_result : List ResultTree → List (List ℕ)

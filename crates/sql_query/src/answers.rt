@@ -2,7 +2,7 @@
 
 ghost use Rattle.std.specs.Prelude.{◌≡◌, map, length, IfOk};
 ghost use Rattle.osq_value.specs.Catalogue.{heading_at};
-ghost use Rattle.sql_query.specs.Answers.{is_evented_kind as is_evented, is_evented_heading, is_evented_query, result_names};
+ghost use Rattle.sql_query.specs.Answers.{is_evented_kind as is_evented, is_evented_heading, is_evented_query, is_among, result_names};
 ghost use Rattle.sql_query.specs.Resolved.{query_of};
 
 use crate::query::Query;
@@ -34,6 +34,18 @@ pub fn is_evented(query: &Query) -> bool
 {
     for source in query.sources.as_slice() {
         if is_evented_table(source.table) {
+            return true;
+        }
+    }
+    false
+}
+
+/// Whether some FROM table has that number.
+pub fn names_table(query: &Query, table: TableId) -> bool
+    ensures { result ≡ is_among table.0 (query_of query.now).sources }
+{
+    for source in query.sources.as_slice() {
+        if source.table.0 == table.0 {
             return true;
         }
     }

@@ -16,7 +16,7 @@ use Rattle.sql_meaning.specs.Steps.{behind_from, distinct, environments, filtere
 use Rattle.sql_meaning.proofs.OrderLaws.{ordered_by-IsPermutation}
 use Rattle.sql_texts.specs.Meaning.{meaning, meaning_if, names_if, names_of}
 use Rattle.sql_texts.specs.Texts.{query_in}
-use Rattle.sql_texts.specs.Laws.{AreWide}
+use Rattle.sql_texts.specs.Laws.{AreWide, AreWideByItems}
 
 names_count : (items : List ResultTree) → length (names_in_result items) ≡ length items
 names_count [] = refl
@@ -84,6 +84,9 @@ module _ (query : QueryTree) where
   all_meant : (view : View) → All (λ (row : List Value). length row ≡ length (names_in_result query.items)) (meaning_of query view)
   all_meant view =
       subst (λ (width : ℕ). All (λ (row : List Value). length row ≡ width) (meaning_of query view)) (sym (names_count query.items)) (all_behind (product view query.sources))
+
+pub are_wide_by_items : AreWideByItems
+are_wide_by_items query view = all_behind query (product view query.sources)
 
 all_if : (found : Option QueryTree) (view : View) → All (λ (row : List Value). length row ≡ length (names_if found)) (meaning_if found view)
 all_if None view = All-nil (λ (row : List Value). length row ≡ length (names_if None))

@@ -1,7 +1,9 @@
--- The laws of what texts mean.
+-- The laws of what texts and queries mean.
 use Rattle.std.specs.Prelude.{◌≡◌, ℕ, true, All, List, length}
 use Rattle.osq_value.specs.declared.value.Value.{Value}
-use Rattle.sql_meaning.specs.Meaning.{View}
+use Rattle.sql_query.specs.Answers.{is_among}
+use Rattle.sql_query.specs.Resolved.{QueryTree}
+use Rattle.sql_meaning.specs.Meaning.{View, meaning_of}
 use Rattle.sql_texts.specs.Meaning.{meaning, names_of, names_table}
 
 -- each row of the result has a value for each of the names of its columns
@@ -15,3 +17,11 @@ Agree text one other = (table : ℕ) → names_table text table ≡ true → one
 -- over such views the text means the same
 abbrev pub DependOnNamed : Type 0
 DependOnNamed = (text : List ℕ) (one other : View) → Agree text one other → meaning text one ≡ meaning text other
+
+-- the same of a query: each row of its result has a value for each item
+abbrev pub AreWideByItems : Type 0
+AreWideByItems = (query : QueryTree) (view : View) → All (λ (row : List Value). length row ≡ length query.items) (meaning_of query view)
+
+-- and over views that have the same rows of each table of its FROM it means the same
+abbrev pub DependOnSources : Type 0
+DependOnSources = (query : QueryTree) (one other : View) → ((table : ℕ) → is_among table query.sources ≡ true → one table ≡ other table) → meaning_of query one ≡ meaning_of query other

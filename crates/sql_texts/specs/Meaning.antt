@@ -1,9 +1,9 @@
 -- What a text means over a view: nothing where it is no query.
 use Rattle.std.specs.Prelude.{ℕ, Bool, true, false, List, [], Option, Some, None}
 use Rattle.osq_value.specs.declared.value.Value.{Value}
-use Rattle.sql_query.specs.Answers.{is_evented_query, result_names}
+use Rattle.sql_query.specs.Answers.{is_among, is_evented_query, result_names}
 use Rattle.sql_query.specs.Resolved.{QueryTree}
-use Rattle.sql_meaning.specs.Meaning.{View, meaning_of, is_among}
+use Rattle.sql_meaning.specs.Meaning.{View, meaning_of}
 use Rattle.sql_texts.specs.Texts.{query_in}
 
 -- of a text's query, where it is one

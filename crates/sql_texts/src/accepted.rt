@@ -2,14 +2,14 @@
 
 ghost use Rattle.std.specs.Prelude.{◌≡◌, ◌≢◌, Some, None, IfOk, IfErr};
 ghost use Rattle.sql_query.specs.Resolved.{query_of};
-ghost use Rattle.sql_texts.specs.Meaning.{names_of as names_in};
+ghost use Rattle.sql_texts.specs.Meaning.{names_of as names_in, names_table as names_there};
 ghost use Rattle.sql_texts.specs.TextFaults.{text_fault};
 ghost use Rattle.sql_texts.specs.Texts.{query_in};
 ghost use Rattle.sql_texts.specs.declared.text.TextError.TheVariants.{NoMemory as WantsMemory};
 
 use crate::text::{TextError, query_of_text};
-use osq_value::{NoMemory, Str, TextList};
-use sql_query::answers::names_of;
+use osq_value::{NoMemory, Str, TableId, TextList};
+use sql_query::answers::{names_of, names_table};
 use sql_query::query::Query;
 use std::alloc::Global;
 use std::marker::Model;
@@ -84,5 +84,13 @@ impl AcceptedQuery {
         ensures { result.now ≡ names_in self.now }
     {
         &self.names
+    }
+
+    /// Whether the text names this table.
+    #[tactic(auto, unfolding(crate::specs::Meaning::names_table))]
+    pub fn names_table(&self, table: TableId) -> bool
+        ensures { result ≡ names_there self.now table.0 }
+    {
+        names_table(&self.query, table)
     }
 }
