@@ -1,6 +1,6 @@
 -- The columns of the result stand where the mentions of the items do.
 use Rattle.std.proofs.Common.{◌≡◌, ℕ, ◌+◌, ◌++◌, Bool, true, false, List, [], ◌∷◌, length, map, None, refl, sym, ◌∙◌, arith, append_assoc, length-append}
-use Rattle.std.specs.Prelude.{◌&&◌, if◌then◌else◌}
+use Rattle.std.specs.Prelude.{◌&&◌, ◌||◌, if◌then◌else◌}
 use Rattle.sql_tree.specs.Select.{ItemTree, all, all_of, one}
 use Rattle.sql_scope.specs.declared.mention.Clause.TheVariants as clause
 use Rattle.sql_scope.specs.declared.mention.Mention.{Mention}
@@ -37,7 +37,7 @@ columns_stand tables grouped hides seen front [] number is e n = tt
 columns_stand tables grouped hides seen front (column ∷ columns) number is e n =
     let many = length-append front (column ∷ []) in
     let here = column_here tables seen number column is (get_at seen.columns front column columns number e n) in
-    shown_unless tables grouped (hides && is_listed column.name seen.joined) (column_shown seen number column) (columns_from hides seen (number + 1) columns) (here, λ none. here)
+    shown_unless tables grouped (column.hidden || hides && is_listed column.name seen.joined) (column_shown seen number column) (columns_from hides seen (number + 1) columns) (here, λ none. here)
     (columns_stand tables grouped hides seen (front ++ column ∷ []) columns (number + 1) is (e ∙ sym (append_assoc front (column ∷ []) columns)) (omega arith))
 
 all_stand : (tables : List (List SourceColumn)) (grouped : Bool) (scope : List Seen) → AreSeen tables scope → AreShown tables grouped (all_columns scope)
@@ -61,12 +61,12 @@ fine_plain names grouped (m ∷ found) none fine = (
   fine_plain names grouped found (lesser_right (aggregate_place m.what) (least (map (λ (m : Mention). aggregate_place m.what) found)) none) fine.1,
 )
 
-pub items_stand : (tables : List (List SourceColumn)) (grouped : Bool) (names : Names) (items : List ItemTree) → AreSeen tables names.scope → AreFine names grouped (mentions_of_items items) → AreShown tables grouped (results (whole_names names.text names.scope []) items)
+pub items_stand : (tables : List (List SourceColumn)) (grouped : Bool) (names : Names) (items : List ItemTree) → AreSeen tables names.scope → AreFine names grouped (mentions_of_items items) → AreShown tables grouped (results (whole_names names.derived names.text names.scope []) items)
 items_stand tables grouped names [] seen fine = tt
 items_stand tables grouped names (all place ∷ items) seen fine =
-    shown_append tables grouped (all_columns names.scope) (results (whole_names names.text names.scope []) items) (all_stand tables grouped names.scope seen) (items_stand tables grouped names items seen fine)
+    shown_append tables grouped (all_columns names.scope) (results (whole_names names.derived names.text names.scope []) items) (all_stand tables grouped names.scope seen) (items_stand tables grouped names items seen fine)
 items_stand tables grouped names (all_of table ∷ items) seen fine =
-    shown_append tables grouped (known_columns (name_text names.text table) names.scope) (results (whole_names names.text names.scope []) items) (known_stand tables grouped (name_text names.text table) names.scope seen) (items_stand tables grouped names items seen fine)
+    shown_append tables grouped (known_columns (name_text names.text table) names.scope) (results (whole_names names.derived names.text names.scope []) items) (known_stand tables grouped (name_text names.text table) names.scope seen) (items_stand tables grouped names items seen fine)
 items_stand tables grouped names (one t span alias ∷ items) seen fine =
     let here = fine_left names grouped (mentions clause.Item false t) (mentions_of_items items) fine in (
       (

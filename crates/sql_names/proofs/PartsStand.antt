@@ -1,8 +1,9 @@
 -- Conditions, the joins of FROM, GROUP BY and ORDER BY stand where their mentions do.
 use Rattle.std.proofs.Common.{◌≡◌, ℕ, zero, suc, ◌+◌, ◌++◌, Bool, true, false, List, [], ◌∷◌, length, take, map, Option, Some, None, refl, ap, sym, ◌∙◌, subst, arith, inl, inr}
-use Rattle.std.specs.Prelude.{slice_get, ◌<◌, ◌≤◌, not, ◌||◌, if◌then◌else◌, is_some}
+use Rattle.std.specs.Prelude.{slice_get, ◌⊎◌, ◌-◌, ◌<◌, ◌≤◌, not, ◌||◌, if◌then◌else◌, is_some}
 use Rattle.std.specs.List.{AllByRecursion}
-use Rattle.std.specs.Option.{option_map_or}
+use Rattle.std.specs.Option.{option_map_or, option_or}
+use Rattle.std.proofs.lemmas.Bool.{le-leb}
 use Rattle.std.proofs.lemmas.List.{map-append, take-take}
 use Rattle.std.proofs.lemmas.List.Quantifiers.{position-Some}
 use Rattle.std.proofs.lemmas.Option.{none-some, same_Some, slice_get_cases}
@@ -17,7 +18,9 @@ use Rattle.sql_tree.specs.Tree as tree
 use Rattle.sql_tree.specs.Select.{RefTree, TermTree}
 use Rattle.sql_scope.specs.declared.mention.Clause.{Clause}
 use Rattle.sql_scope.specs.declared.mention.Clause.TheVariants as clause
+use Rattle.sql_query.specs.declared.derived.Derived.{Derived}
 use Rattle.sql_query.specs.declared.query.SourceColumn.{SourceColumn}
+use Rattle.sql_query.specs.Tables.{FIRST_DERIVED, derived_at}
 use Rattle.sql_names.specs.declared.results.Numbered.{Numbered}
 use Rattle.sql_query.specs.declared.place.Place.{Place}
 use Rattle.sql_scope.specs.declared.scope.Seen.{Seen}
@@ -29,10 +32,10 @@ use Rattle.sql_scope.specs.Naming.{expr_of}
 use Rattle.sql_query.specs.Resolved.{SourceTree, OrderTree}
 use Rattle.sql_names.specs.Making.{joined_name, join_exprs, source_tree, source_trees, key_exprs, orders}
 use Rattle.sql_names.specs.Results.{are_ands, right_of, rights_of, conjuncts, condition, index_in, numbered, term_by}
-use Rattle.sql_scope.specs.Scope.{place_in, plain_place, columns_seen, table_number}
+use Rattle.sql_scope.specs.Scope.{derived_from, table_meant, place_in, plain_place, columns_seen, table_number}
 use Rattle.sql_scope.specs.Shown.{ShownTree, Names}
-use Rattle.sql_scope.specs.Spelling.{name_text}
-use Rattle.sql_query.specs.Standing.{IsScoped, IsOfCatalogue, columns_in}
+use Rattle.sql_scope.specs.Spelling.{name_text, same_name}
+use Rattle.sql_query.specs.Standing.{IsScoped, IsOfTables, columns_in}
 use Rattle.sql_names.proofs.Places.{AreSeen, seen_take, get_take, plain_place_is, place_at_is}
 use Rattle.sql_names.proofs.Fines.{AreFine, lesser_left, lesser_right, fine_left, fine_right}
 use Rattle.sql_names.proofs.Standings.{allowed, Reads, AreShown, place_stands, expr_stands, reads_columns, reads_shown, shown_stands, shown_plain}
@@ -124,20 +127,48 @@ unfolding id_of
 known_by name None e some = absurd (let no : ⊥ = cc in no)
 known_by name (Some id) e some = (position-Some (λ (known : Table). str_eq_ignore_ascii_case known.name name) catalogue id (table [] Evented []) e).0
 
-is_known : (name : List ℕ) → is_some (id_of name) ≡ true → table_number name < length catalogue
-unfolding table_number
-is_known name some = known_by name (id_of name) refl some
+-- a derived table of these has that number, where the first of them has the first
+abbrev IsNumbered : List Derived → ℕ → ℕ → Type 0
+IsNumbered derived first id = (first ≤ id) × ((table : Derived) × (slice_get derived (id - first) ≡ Some table))
+
+numbered_if : (first id : ℕ) (known : Derived) (rest : List Derived) (is : Bool) (later : Option ℕ) → (if is then Some first else later) ≡ Some id → (later ≡ Some id → IsNumbered rest (first + 1) id) → IsNumbered (known ∷ rest) first id
+numbered_if first id known rest true later e behind =
+    let here : first ≡ id = same_Some first id e in
+    let begins : id - first ≡ 0 = omega arith in (omega arith, (known, ap (slice_get (known ∷ rest)) begins))
+numbered_if first id known rest false later e behind =
+    let found = behind e in
+    let from = found.0 in
+    let further : id - first ≡ suc (id - (first + 1)) = omega arith in (omega arith, (found.1.0, ap (slice_get (known ∷ rest)) further ∙ found.1.1))
+
+derived_numbered : (name : List ℕ) (derived : List Derived) (first id : ℕ) → derived_from name first derived ≡ Some id → IsNumbered derived first id
+derived_numbered name [] first id e = absurd (none-some id e)
+derived_numbered name (known ∷ rest) first id e = numbered_if first id known rest (same_name known.name name) (derived_from name (first + 1) rest) e (derived_numbered name rest (first + 1) id)
+
+abbrev IsKnown : List Derived → ℕ → Type 0
+IsKnown derived id = (id < length catalogue) ⊎ ((table : Derived) × (derived_at derived id ≡ Some table))
+
+derived_known : (derived : List Derived) (id : ℕ) → IsNumbered derived FIRST_DERIVED id → IsKnown derived id
+unfolding derived_at
+derived_known derived id is = inr (is.1.0, ap (λ (b : Bool). if b then slice_get derived (id - FIRST_DERIVED) else None) (le-leb FIRST_DERIVED id is.0) ∙ is.1.1)
+
+known_as : (derived : List Derived) (name : List ℕ) (found : Option ℕ) → derived_from name FIRST_DERIVED derived ≡ found → is_some (option_or found (id_of name)) ≡ true → IsKnown derived (option_map_or (λ (id : ℕ). id) (option_or found (id_of name)) 255)
+known_as derived name None e some = inl (known_by name (id_of name) refl some)
+known_as derived name (Some id) e some = derived_known derived id (derived_numbered name derived FIRST_DERIVED id e)
+
+is_known : (derived : List Derived) (name : List ℕ) → is_some (table_meant derived name) ≡ true → IsKnown derived (table_number derived name)
+unfolding table_number table_meant
+is_known derived name some = known_as derived name (derived_from name FIRST_DERIVED derived) refl some
 
 not_missing : (found : Bool) (place : ℕ) → place_if (not found) place ≡ None → found ≡ true
 not_missing true place e = refl
 not_missing false place e = absurd (let no : ⊥ = cc in no)
 
-pub sources_are : (names : Names) (number : ℕ) (refs : List RefTree) → least (map (table_missing names.text) refs) ≡ None → AllByRecursion IsOfCatalogue (source_trees names number refs)
+pub sources_are : (names : Names) (number : ℕ) (refs : List RefTree) → least (map (table_missing names.derived names.text) refs) ≡ None → AllByRecursion (IsOfTables names.derived) (source_trees names number refs)
 sources_are names number [] none = tt
 sources_are names number (ref ∷ refs) none =
-    let here = lesser_left (table_missing names.text ref) (least (map (table_missing names.text) refs)) none in (
-      record { is_known = is_known (name_text names.text ref.table) (not_missing (is_some (id_of (name_text names.text ref.table))) (place_of ref.table) here); has_name = refl; has_columns = refl },
-      sources_are names (number + 1) refs (lesser_right (table_missing names.text ref) (least (map (table_missing names.text) refs)) none),
+    let here = lesser_left (table_missing names.derived names.text ref) (least (map (table_missing names.derived names.text) refs)) none in (
+      record { is_known = is_known names.derived (name_text names.text ref.table) (not_missing (is_some (table_meant names.derived (name_text names.text ref.table))) (place_of ref.table) here); has_name = refl; has_columns = refl },
+      sources_are names (number + 1) refs (lesser_right (table_missing names.derived names.text ref) (least (map (table_missing names.derived names.text) refs)) none),
     )
 
 pub as_many_sources : (names : Names) (number : ℕ) (refs : List RefTree) → length (source_trees names number refs) ≡ length refs
@@ -151,9 +182,9 @@ few_by refs (Some ref) e none = absurd (let no : ⊥ = cc in no)
 pub few_tables : (refs : List RefTree) → too_many_tables refs ≡ None → length refs ≤ 16
 few_tables refs none = few_by refs (slice_get refs 16) refl none
 
-pub source_columns : (names : Names) (number : ℕ) (refs : List RefTree) → columns_in (source_trees names number refs) ≡ map (columns_seen names.text) refs
+pub source_columns : (names : Names) (number : ℕ) (refs : List RefTree) → columns_in (source_trees names number refs) ≡ map (columns_seen names.derived names.text) refs
 source_columns names number [] = refl
-source_columns names number (ref ∷ refs) = ap (λ (tables : List (List SourceColumn)). columns_seen names.text ref ∷ tables) (source_columns names (number + 1) refs)
+source_columns names number (ref ∷ refs) = ap (λ (tables : List (List SourceColumn)). columns_seen names.derived names.text ref ∷ tables) (source_columns names (number + 1) refs)
 
 index_stands : (tables : List (List SourceColumn)) (grouped : Bool) (shown : List ShownTree) (n : Numbered) (index : Option ℕ) → AreShown tables grouped shown → IsScoped tables grouped (option_map_or (λ (s : ShownTree). s.expr) (option_map_or (slice_get shown) index None) (literal (Int n.value)))
 index_stands tables grouped shown n None are = tt

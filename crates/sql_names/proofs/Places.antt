@@ -5,6 +5,7 @@ use Rattle.std.specs.Option.{option_map_or, option_or}
 use Rattle.std.proofs.lemmas.List.{take_at, take-map}
 use Rattle.std.proofs.lemmas.Option.{slice_get_within, none-some, same_Some}
 use Rattle.sql_tree.specs.Select.{RefTree}
+use Rattle.sql_query.specs.declared.derived.Derived.{Derived}
 use Rattle.sql_query.specs.declared.query.SourceColumn.{SourceColumn}
 use Rattle.sql_query.specs.declared.place.Place.{Place}
 use Rattle.sql_scope.specs.declared.scope.Seen.{Seen}
@@ -38,39 +39,39 @@ get_take (x ∷ xs) n zero within = absurd (omega arith)
 get_take (x ∷ xs) zero (suc m) within = refl
 get_take (x ∷ xs) (suc n) (suc m) within = get_take xs n m (omega arith)
 
-seen_here : (text : List ℕ) (before rest : List (List SourceColumn)) (ref : RefTree) (source at : ℕ) → source ≡ length before → at ≡ row_width before → IsSeen (before ++ columns_seen text ref ∷ rest) (seen_at text source at ref)
-seen_here text before rest ref source at s a = record {
-  of_table = get_at _ before (columns_seen text ref) rest source refl s;
-  begins = a ∙ sym (ap row_width (take_at before (columns_seen text ref ∷ rest) source (sym s)));
-  ends = let all = row_width-append before (columns_seen text ref ∷ rest) in omega arith;
+seen_here : (derived : List Derived) (text : List ℕ) (before rest : List (List SourceColumn)) (ref : RefTree) (source at : ℕ) → source ≡ length before → at ≡ row_width before → IsSeen (before ++ columns_seen derived text ref ∷ rest) (seen_at derived text source at ref)
+seen_here derived text before rest ref source at s a = record {
+  of_table = get_at _ before (columns_seen derived text ref) rest source refl s;
+  begins = a ∙ sym (ap row_width (take_at before (columns_seen derived text ref ∷ rest) source (sym s)));
+  ends = let all = row_width-append before (columns_seen derived text ref ∷ rest) in omega arith;
 }
 
-scope_seen : (text : List ℕ) (before : List (List SourceColumn)) (refs : List RefTree) (source at : ℕ) → source ≡ length before → at ≡ row_width before → AreSeen (before ++ map (columns_seen text) refs) (scope_from text source at refs)
-scope_seen text before [] source at s a = tt
-scope_seen text before (ref ∷ refs) source at s a =
-    let many = length-append before (columns_seen text ref ∷ []) in
-    let wide = row_width-append before (columns_seen text ref ∷ []) in (
-      seen_here text before (map (columns_seen text) refs) ref source at s a,
-      subst (λ (tables : List (List SourceColumn)). AreSeen tables (scope_from text (source + 1) (at + length (columns_seen text ref)) refs)) (append_assoc before (columns_seen text ref ∷ []) (map (columns_seen text) refs))
-          (scope_seen text (before ++ columns_seen text ref ∷ []) refs (source + 1) (at + length (columns_seen text ref)) (omega arith) (omega arith)),
+scope_seen : (derived : List Derived) (text : List ℕ) (before : List (List SourceColumn)) (refs : List RefTree) (source at : ℕ) → source ≡ length before → at ≡ row_width before → AreSeen (before ++ map (columns_seen derived text) refs) (scope_from derived text source at refs)
+scope_seen derived text before [] source at s a = tt
+scope_seen derived text before (ref ∷ refs) source at s a =
+    let many = length-append before (columns_seen derived text ref ∷ []) in
+    let wide = row_width-append before (columns_seen derived text ref ∷ []) in (
+      seen_here derived text before (map (columns_seen derived text) refs) ref source at s a,
+      subst (λ (tables : List (List SourceColumn)). AreSeen tables (scope_from derived text (source + 1) (at + length (columns_seen derived text ref)) refs)) (append_assoc before (columns_seen derived text ref ∷ []) (map (columns_seen derived text) refs))
+          (scope_seen derived text (before ++ columns_seen derived text ref ∷ []) refs (source + 1) (at + length (columns_seen derived text ref)) (omega arith) (omega arith)),
     )
 
-scope_take : (text : List ℕ) (source at n : ℕ) (refs : List RefTree) → take n (scope_from text source at refs) ≡ scope_from text source at (take n refs)
-scope_take text source at zero refs = refl
-scope_take text source at (suc n) [] = refl
-scope_take text source at (suc n) (ref ∷ refs) = ap (λ (scope : List Seen). seen_at text source at ref ∷ scope) (scope_take text (source + 1) (at + length (columns_seen text ref)) n refs)
+scope_take : (derived : List Derived) (text : List ℕ) (source at n : ℕ) (refs : List RefTree) → take n (scope_from derived text source at refs) ≡ scope_from derived text source at (take n refs)
+scope_take derived text source at zero refs = refl
+scope_take derived text source at (suc n) [] = refl
+scope_take derived text source at (suc n) (ref ∷ refs) = ap (λ (scope : List Seen). seen_at derived text source at ref ∷ scope) (scope_take derived text (source + 1) (at + length (columns_seen derived text ref)) n refs)
 
 -- what stands at FROM's first n tables sees these
-pub seen_up_to : (text : List ℕ) (n : ℕ) (refs : List RefTree) → AreSeen (take n (map (columns_seen text) refs)) (take n (scope_of text refs))
+pub seen_up_to : (derived : List Derived) (text : List ℕ) (n : ℕ) (refs : List RefTree) → AreSeen (take n (map (columns_seen derived text) refs)) (take n (scope_of derived text refs))
 unfolding scope_of
-seen_up_to text n refs =
-    subst (λ (scope : List Seen). AreSeen (take n (map (columns_seen text) refs)) scope) (sym (scope_take text 0 0 n refs))
-    (subst (λ (tables : List (List SourceColumn)). AreSeen tables (scope_from text 0 0 (take n refs))) (sym (take-map (columns_seen text) n refs))
-    (scope_seen text [] (take n refs) 0 0 refl refl))
+seen_up_to derived text n refs =
+    subst (λ (scope : List Seen). AreSeen (take n (map (columns_seen derived text) refs)) scope) (sym (scope_take derived text 0 0 n refs))
+    (subst (λ (tables : List (List SourceColumn)). AreSeen tables (scope_from derived text 0 0 (take n refs))) (sym (take-map (columns_seen derived text) n refs))
+    (scope_seen derived text [] (take n refs) 0 0 refl refl))
 
-pub all_seen : (text : List ℕ) (refs : List RefTree) → AreSeen (map (columns_seen text) refs) (scope_of text refs)
+pub all_seen : (derived : List Derived) (text : List ℕ) (refs : List RefTree) → AreSeen (map (columns_seen derived text) refs) (scope_of derived text refs)
 unfolding scope_of
-all_seen text refs = scope_seen text [] refs 0 0 refl refl
+all_seen derived text refs = scope_seen derived text [] refs 0 0 refl refl
 
 pub seen_take : (tables : List (List SourceColumn)) (n : ℕ) (scope : List Seen) → AreSeen tables scope → AreSeen tables (take n scope)
 seen_take tables zero scope seen = tt

@@ -12,6 +12,7 @@ use Rattle.sql_names.specs.declared.error.NameKind.{NameKind}
 use Rattle.sql_names.specs.declared.error.NameKind.TheVariants as kind
 use Rattle.sql_scope.specs.declared.mention.Clause.TheVariants as clause
 use Rattle.sql_scope.specs.declared.mention.Mention.{Mention}
+use Rattle.sql_query.specs.declared.derived.Derived.{Derived}
 use Rattle.sql_query.specs.declared.query.Query.{Query}
 use Rattle.sql_query.specs.declared.query.SourceColumn.{SourceColumn}
 use Rattle.sql_names.specs.Bare.{bare_column_of}
@@ -19,13 +20,13 @@ use Rattle.sql_query.specs.Exprs.{ExprTree}
 use Rattle.sql_names.specs.Kinds.{names_in, too_many_tables, table_missing, no_table, no_column, ambiguous, bad_aggregate, key_wrong, mentioned_wrong, has_aggregate, has_keys, is_grouped, having_wrong}
 use Rattle.sql_names.specs.Least.{lesser, least}
 use Rattle.sql_scope.specs.Mentions.{mentions_of_select, mentions_of_option, mentions_of_items, mentions_of_sources, mentions_of_keys, mentions_of_having, mentions_of_terms}
-use Rattle.sql_names.specs.Resolve.{names_within, names_of_select, fault_of, fault_among, fault_within, name_fault, unless_fault, resolved}
+use Rattle.sql_names.specs.Resolve.{names_within, names_of_select, fault_of, fault_among, fault_within, name_fault_with, unless_fault, resolved_with}
 use Rattle.sql_query.specs.Resolved.{ResultTree, OrderTree, QueryTree, query_of}
 use Rattle.sql_names.specs.Making.{source_trees, result_tree, key_exprs, orders, having_tree, query_tree}
 use Rattle.sql_names.specs.Results.{condition}
 use Rattle.sql_scope.specs.Scope.{scope_of, columns_seen}
 use Rattle.sql_scope.specs.Shown.{ShownTree, Names}
-use Rattle.sql_query.specs.Standing.{IsScoped, StandAll, IsOfCatalogue, columns_in, IsStanding}
+use Rattle.sql_query.specs.Standing.{IsScoped, StandAll, IsOfTables, columns_in, IsStanding}
 use Rattle.sql_names.proofs.Places.{AreSeen, all_seen, seen_up_to}
 use Rattle.sql_names.proofs.Fines.{AreFine, lesser_left, lesser_right, fine_all, fine_left, fine_right}
 use Rattle.sql_names.proofs.Standings.{AreShown, reads_columns, reads_shown}
@@ -79,12 +80,12 @@ fine_parts names grouped select fine =
     }
 
 -- over the tables of FROM, which the query's sources name again
-tree_stands : (names : Names) (select : SelectTree) (found : List Mention) (tables : List (List SourceColumn)) → tables ≡ columns_in (source_trees names 0 select.sources) → ((n : ℕ) → AreSeen (take n tables) (take n names.scope)) → AreSeen tables names.scope → AreShown tables (is_grouped select.keys found) names.shown → AreFineParts names (is_grouped select.keys found) select → length select.sources ≤ 16 → least (map (table_missing names.text) select.sources) ≡ None → least (map (key_wrong names.shown) select.keys) ≡ None → having_wrong (is_grouped select.keys found) select.having ≡ None → IsStanding (query_tree names select found)
+tree_stands : (names : Names) (select : SelectTree) (found : List Mention) (tables : List (List SourceColumn)) → tables ≡ columns_in (source_trees names 0 select.sources) → ((n : ℕ) → AreSeen (take n tables) (take n names.scope)) → AreSeen tables names.scope → AreShown tables (is_grouped select.keys found) names.shown → AreFineParts names (is_grouped select.keys found) select → length select.sources ≤ 16 → least (map (table_missing names.derived names.text) select.sources) ≡ None → least (map (key_wrong names.shown) select.keys) ≡ None → having_wrong (is_grouped select.keys found) select.having ≡ None → IsStanding names.derived (query_tree names select found)
 tree_stands names select found tables e up_to seen are fine few known keys having =
     let grouped = is_grouped select.keys found in
     record {
       few = let many = as_many_sources names 0 select.sources in omega arith;
-      sources = All-from_recursion IsOfCatalogue (source_trees names 0 select.sources) (sources_are names 0 select.sources known);
+      sources = All-from_recursion (IsOfTables names.derived) (source_trees names 0 select.sources) (sources_are names 0 select.sources known);
       ons = λ k source is. subst (λ (ts : List (List SourceColumn)). StandAll (take (k + 1) ts) false source.on) e (All-from_recursion (IsScoped (take (k + 1) tables) false) source.on (ons_stand tables grouped names select.sources 0 k (k + 1) source up_to fine.sources is (omega arith)));
       filter = subst (λ (ts : List (List SourceColumn)). StandAll ts false (condition (names_in names clause.Where) select.filter)) e (All-from_recursion (IsScoped tables false) (condition (names_in names clause.Where) select.filter) (condition_stands (reads_columns tables grouped names clause.Where names.scope names.shown seen) select.filter fine.filter));
       keys = subst (λ (ts : List (List SourceColumn)). StandAll ts false (key_exprs names select.keys)) e (All-from_recursion (IsScoped tables false) (key_exprs names select.keys) (keys_stand tables grouped names select.keys seen are fine.keys keys));
@@ -95,17 +96,17 @@ tree_stands names select found tables e up_to seen are fine few known keys havin
     }
 
 -- of a select whose tables are known and not too many, and that has no bad aggregate
-select_stands : (text : List ℕ) (select : SelectTree) → too_many_tables select.sources ≡ None → no_table (names_of_select text select) select (mentions_of_select select) ≡ None → bad_aggregate (names_of_select text select) select (mentions_of_select select) ≡ None → IsStanding (query_tree (names_of_select text select) select (mentions_of_select select))
+select_stands : (derived : List Derived) (text : List ℕ) (select : SelectTree) → too_many_tables select.sources ≡ None → no_table (names_of_select derived text select) select (mentions_of_select select) ≡ None → bad_aggregate (names_of_select derived text select) select (mentions_of_select select) ≡ None → IsStanding derived (query_tree (names_of_select derived text select) select (mentions_of_select select))
 unfolding names_of_select
-select_stands text select few known none =
-    let names = names_within text (scope_of text select.sources) select in
+select_stands derived text select few known none =
+    let names = names_within derived text (scope_of derived text select.sources) select in
     let found = mentions_of_select select in
     let grouped = is_grouped select.keys found in
-    let tables = map (columns_seen text) select.sources in
+    let tables = map (columns_seen derived text) select.sources in
     let others = lesser_right (having_wrong grouped select.having) (lesser (least (map (key_wrong names.shown) select.keys)) (least (map (mentioned_wrong names) found))) none in
     let fine = fine_parts names grouped select (fine_all names grouped found (lesser_right (least (map (key_wrong names.shown) select.keys)) (least (map (mentioned_wrong names) found)) others) (or_right (has_keys select.keys) (has_aggregate found))) in
-    let seen = all_seen text select.sources in
-    tree_stands names select found tables (sym (source_columns names 0 select.sources)) (λ n. seen_up_to text n select.sources) seen (items_stand tables grouped names select.items seen fine.items) fine (few_tables select.sources few) (lesser_left (least (map (table_missing text) select.sources)) _ known)
+    let seen = all_seen derived text select.sources in
+    tree_stands names select found tables (sym (source_columns names 0 select.sources)) (λ n. seen_up_to derived text n select.sources) seen (items_stand tables grouped names select.items seen fine.items) fine (few_tables select.sources few) (lesser_left (least (map (table_missing derived text) select.sources)) _ known)
     (lesser_left (least (map (key_wrong names.shown) select.keys)) (least (map (mentioned_wrong names) found)) others)
     (lesser_left (having_wrong grouped select.having) (lesser (least (map (key_wrong names.shown) select.keys)) (least (map (mentioned_wrong names) found))) none)
 
@@ -131,23 +132,23 @@ no_bad_aggregate names keys select found none =
     let aggregates = else_right (fault_of kind.Ambiguous (ambiguous names select found)) _ twice in
     no_place kind.BadAggregate (bad_aggregate names select found) (else_left (fault_of kind.BadAggregate (bad_aggregate names select found)) (fault_of kind.BareColumn (bare_column_of names keys select found)) aggregates)
 
-sound_stands : (text : List ℕ) (select : SelectTree) → name_fault text select ≡ None → IsStanding (query_tree (names_of_select text select) select (mentions_of_select select))
-unfolding name_fault
-sound_stands text select none =
-    let names = names_of_select text select in
+sound_stands : (derived : List Derived) (text : List ℕ) (select : SelectTree) → name_fault_with derived text select ≡ None → IsStanding derived (query_tree (names_of_select derived text select) select (mentions_of_select select))
+unfolding name_fault_with
+sound_stands derived text select none =
+    let names = names_of_select derived text select in
     let found = mentions_of_select select in
     let few = else_left (fault_of kind.TooManyTables (too_many_tables select.sources)) (fault_within names select) none in
     let others = else_right (fault_of kind.TooManyTables (too_many_tables select.sources)) (fault_within names select) none in
-    select_stands text select (no_place kind.TooManyTables (too_many_tables select.sources) few) (no_missing_table names (key_exprs names select.keys) select found others) (no_bad_aggregate names (key_exprs names select.keys) select found others)
+    select_stands derived text select (no_place kind.TooManyTables (too_many_tables select.sources) few) (no_missing_table names (key_exprs names select.keys) select found others) (no_bad_aggregate names (key_exprs names select.keys) select found others)
 
-stands_unless : (fault : Option NameError) (tree query : QueryTree) → (fault ≡ None → IsStanding tree) → unless_fault fault tree ≡ Some query → IsStanding query
-stands_unless None tree query stands e = subst IsStanding (same_Some tree query e) (stands refl)
-stands_unless (Some fault) tree query stands e = absurd (none-some query e)
+stands_unless : (derived : List Derived) (fault : Option NameError) (tree query : QueryTree) → (fault ≡ None → IsStanding derived tree) → unless_fault fault tree ≡ Some query → IsStanding derived query
+stands_unless derived None tree query stands e = subst (IsStanding derived) (same_Some tree query e) (stands refl)
+stands_unless derived (Some fault) tree query stands e = absurd (none-some query e)
 
-pub resolved_stands : (text : List ℕ) (select : SelectTree) (query : QueryTree) → resolved text select ≡ Some query → IsStanding query
-unfolding resolved
-resolved_stands text select query is = stands_unless (name_fault text select) (query_tree (names_of_select text select) select (mentions_of_select select)) query (sound_stands text select) is
+pub resolved_stands : (derived : List Derived) (text : List ℕ) (select : SelectTree) (query : QueryTree) → resolved_with derived text select ≡ Some query → IsStanding derived query
+unfolding resolved_with
+resolved_stands derived text select query is = stands_unless derived (name_fault_with derived text select) (query_tree (names_of_select derived text select) select (mentions_of_select select)) query (sound_stands derived text select) is
 
-pub result_stands : (text : List ℕ) (select : SelectTree) (result : Result Query NameError) → IfOk result (λ (q : Query). resolved text select ≡ Some (query_of q)) → IfOk result (λ (q : Query). IsStanding (query_of q))
-result_stands text select (Ok q) is = resolved_stands text select (query_of q) is
-result_stands text select (Err error) is = tt
+pub result_stands : (derived : List Derived) (text : List ℕ) (select : SelectTree) (result : Result Query NameError) → IfOk result (λ (q : Query). resolved_with derived text select ≡ Some (query_of q)) → IfOk result (λ (q : Query). IsStanding derived (query_of q))
+result_stands derived text select (Ok q) is = resolved_stands derived text select (query_of q) is
+result_stands derived text select (Err error) is = tt

@@ -141,7 +141,7 @@ mutual
   )
 
 -- where a plain name is a column or a word
-pub reads_columns : (tables : List (List SourceColumn)) (grouped : Bool) (names : Names) (c : Clause) (scope : List Seen) (shown : List ShownTree) → AreSeen tables scope → Reads tables grouped names c (record { text = names.text; scope = scope; shown = shown; rule = rule.Columns })
+pub reads_columns : (tables : List (List SourceColumn)) (grouped : Bool) (names : Names) (c : Clause) (scope : List Seen) (shown : List ShownTree) → AreSeen tables scope → Reads tables grouped names c (record { derived = names.derived; text = names.text; scope = scope; shown = shown; rule = rule.Columns })
 unfolding meaning_of
 reads_columns tables grouped names c scope shown seen = record {
   text = refl;

@@ -1,7 +1,6 @@
 -- The faults of a select's names, by kind: the least place of each kind, where there is one.
 use Rattle.std.specs.Prelude.{ℕ, ◌+◌, ◌&&◌, ◌||◌, Bool, true, false, not, if◌then◌else◌, nat_lt, List, [], ◌∷◌, length, take, map, Option, Some, None, slice_get, is_some}
 use Rattle.std.specs.Option.{option_map_or}
-use Rattle.osq_value.specs.Catalogue.{id_of}
 use Rattle.sql_tree.specs.declared.tree.Name.{Name}
 use Rattle.sql_tree.specs.Tree.{Tree}
 use Rattle.sql_tree.specs.Select.{ItemTree, RefTree, HavingTree, TermTree, SelectTree, all, all_of, one}
@@ -16,10 +15,11 @@ use Rattle.sql_scope.specs.declared.naming.Meaning.{Meaning}
 use Rattle.sql_scope.specs.declared.naming.Meaning.TheVariants as meaning
 use Rattle.sql_scope.specs.declared.scope.Seen.{Seen}
 use Rattle.sql_scope.specs.Spelling.{name_text}
-use Rattle.sql_scope.specs.Scope.{is_known, plain_place, known_place, place_in, owners}
+use Rattle.sql_scope.specs.Scope.{table_meant, is_known, plain_place, known_place, place_in, owners}
 use Rattle.sql_scope.specs.Shown.{ShownTree, Names}
 use Rattle.sql_scope.specs.Naming.{meaning_of}
 use Rattle.sql_names.specs.declared.results.Numbered.{Numbered}
+use Rattle.sql_query.specs.declared.derived.Derived.{Derived}
 use Rattle.sql_query.specs.declared.place.Place.{Place}
 use Rattle.sql_names.specs.Results.{numbered, index_in}
 use Rattle.sql_names.specs.Least.{lesser, least}
@@ -51,15 +51,15 @@ rule_of clause.Term = rule.AliasFirst
 
 -- these names as an expression of a clause takes them
 abbrev pub names_in : Names → Clause → Names
-names_in names c = record { text = names.text; scope = seen_from c names.scope; shown = names.shown; rule = rule_of c }
+names_in names c = record { derived = names.derived; text = names.text; scope = seen_from c names.scope; shown = names.shown; rule = rule_of c }
 
 -- TooManyTables: at the 17th table
 abbrev pub too_many_tables : List RefTree → Option ℕ
 too_many_tables sources = option_map_or (λ (ref : RefTree). Some (place_of ref.table)) (slice_get sources 16) None
 
 -- NoTable: a name of FROM that is no table's
-abbrev pub table_missing : List ℕ → RefTree → Option ℕ
-table_missing text ref = place_if (not (is_some (id_of (name_text text ref.table)))) (place_of ref.table)
+abbrev pub table_missing : List Derived → List ℕ → RefTree → Option ℕ
+table_missing derived text ref = place_if (not (is_some (table_meant derived (name_text text ref.table)))) (place_of ref.table)
 
 -- `x.*` or `x.c` where no table of FROM is known as x
 abbrev pub unknown_table : Names → Name → Option ℕ
@@ -78,7 +78,7 @@ mentioned_unknown names (mentioned.Aggregate place fold) = None
 -- The faults of each kind: of the select with these mentions, the names of which stand for what these names say
 abbrev pub no_table : Names → SelectTree → List Mention → Option ℕ
 no_table names select found =
-    lesser (least (map (table_missing names.text) select.sources))
+    lesser (least (map (table_missing names.derived names.text) select.sources))
     (lesser (least (map (item_unknown names) select.items))
     (least (map (λ (m : Mention). mentioned_unknown names m.what) found)))
 

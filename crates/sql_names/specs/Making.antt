@@ -1,6 +1,5 @@
 -- The query that a select stands for.
 use Rattle.std.specs.Prelude.{ℕ, ◌+◌, List, [], ◌∷◌, ◌++◌, map, take, Option, Some, None}
-use Rattle.osq_value.specs.Catalogue.{table_name}
 use Rattle.sql_tree.specs.declared.tree.Name.{Name}
 use Rattle.sql_tree.specs.declared.tree.Operator.TheVariants as operator
 use Rattle.sql_tree.specs.Tree.{Tree}
@@ -9,6 +8,7 @@ use Rattle.sql_scope.specs.declared.mention.Clause.TheVariants as clause
 use Rattle.sql_scope.specs.declared.mention.Mention.{Mention}
 use Rattle.sql_scope.specs.Spelling.{name_text}
 use Rattle.sql_scope.specs.Scope.{table_number, columns_seen, plain_place}
+use Rattle.sql_query.specs.Tables.{name_at}
 use Rattle.sql_query.specs.Exprs.{ExprTree}
 use Rattle.sql_query.specs.Exprs as expr
 use Rattle.sql_query.specs.Resolved.{SourceTree, ResultTree, OrderTree, QueryTree}
@@ -25,7 +25,7 @@ equality names number name =
 abbrev pub joined_name : Names → ℕ → Name → ExprTree
 joined_name names number name = equality names number (name_text names.text name)
 
--- a FROM table: by its catalogue's name, and by its alias or else that name
+-- a FROM table: by its own name, and by its alias or else that name
 abbrev pub source_alias : List ℕ → List ℕ → Option Name → List ℕ
 source_alias text name None = name
 source_alias text name (Some alias) = name_text text alias
@@ -36,10 +36,10 @@ join_exprs names number ref = condition (names_in names (clause.On (number + 1))
 
 abbrev pub source_tree : Names → ℕ → RefTree → SourceTree
 source_tree names number ref = record {
-  table = table_number (name_text names.text ref.table);
-  name = table_name (table_number (name_text names.text ref.table));
-  alias = source_alias names.text (table_name (table_number (name_text names.text ref.table))) ref.alias;
-  columns = columns_seen names.text ref;
+  table = table_number names.derived (name_text names.text ref.table);
+  name = name_at names.derived (table_number names.derived (name_text names.text ref.table));
+  alias = source_alias names.text (name_at names.derived (table_number names.derived (name_text names.text ref.table))) ref.alias;
+  columns = columns_seen names.derived names.text ref;
   is_outer = ref.is_outer;
   on = join_exprs names number ref;
 }

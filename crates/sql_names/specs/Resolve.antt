@@ -8,6 +8,7 @@ use Rattle.sql_names.specs.declared.error.NameKind.TheVariants as kind
 use Rattle.sql_scope.specs.declared.mention.Mention.{Mention}
 use Rattle.sql_scope.specs.declared.naming.Rule.TheVariants as rule
 use Rattle.sql_scope.specs.declared.scope.Seen.{Seen}
+use Rattle.sql_query.specs.declared.derived.Derived.{Derived}
 use Rattle.sql_query.specs.Exprs.{ExprTree}
 use Rattle.sql_scope.specs.Scope.{scope_of}
 use Rattle.sql_scope.specs.Mentions.{mentions_of_select}
@@ -19,18 +20,18 @@ use Rattle.sql_query.specs.Resolved.{QueryTree}
 use Rattle.sql_names.specs.Making.{key_exprs, query_tree}
 
 -- the names of a whole select, by its tables and the columns of its result
-abbrev pub whole_names : List ℕ → List Seen → List ShownTree → Names
-whole_names text scope shown = record { text = text; scope = scope; shown = shown; rule = rule.Columns }
+abbrev pub whole_names : List Derived → List ℕ → List Seen → List ShownTree → Names
+whole_names derived text scope shown = record { derived = derived; text = text; scope = scope; shown = shown; rule = rule.Columns }
 
 -- the columns of the result stand for columns of the tables alone
-abbrev pub shown_in : List ℕ → List Seen → SelectTree → List ShownTree
-shown_in text scope select = results (whole_names text scope []) select.items
+abbrev pub shown_in : List Derived → List ℕ → List Seen → SelectTree → List ShownTree
+shown_in derived text scope select = results (whole_names derived text scope []) select.items
 
-abbrev pub names_within : List ℕ → List Seen → SelectTree → Names
-names_within text scope select = whole_names text scope (shown_in text scope select)
+abbrev pub names_within : List Derived → List ℕ → List Seen → SelectTree → Names
+names_within derived text scope select = whole_names derived text scope (shown_in derived text scope select)
 
-unfoldable pub names_of_select : List ℕ → SelectTree → Names
-names_of_select text select = names_within text (scope_of text select.sources) select
+unfoldable pub names_of_select : List Derived → List ℕ → SelectTree → Names
+names_of_select derived text select = names_within derived text (scope_of derived text select.sources) select
 
 abbrev pub fault_of : NameKind → Option ℕ → Option NameError
 fault_of kind None = None
@@ -47,9 +48,9 @@ fault_among names keys select found =
 abbrev pub fault_within : Names → SelectTree → Option NameError
 fault_within names select = fault_among names (key_exprs names select.keys) select (mentions_of_select select)
 
--- the first kind that has a fault, with that kind's least place
-unfoldable pub name_fault : List ℕ → SelectTree → Option NameError
-name_fault text select = option_or (fault_of kind.TooManyTables (too_many_tables select.sources)) (fault_within (names_of_select text select) select)
+-- the first kind that has a fault, with that kind's least place, where FROM may mean these derived tables too
+unfoldable pub name_fault_with : List Derived → List ℕ → SelectTree → Option NameError
+name_fault_with derived text select = option_or (fault_of kind.TooManyTables (too_many_tables select.sources)) (fault_within (names_of_select derived text select) select)
 
 abbrev pub unless_fault : Option NameError → QueryTree → Option QueryTree
 unless_fault None query = Some query
@@ -59,5 +60,12 @@ abbrev pub resolved_within : Names → SelectTree → Option QueryTree
 resolved_within names select = unless_fault (fault_within names select) (query_tree names select (mentions_of_select select))
 
 -- the query of a select without a fault
+unfoldable pub resolved_with : List Derived → List ℕ → SelectTree → Option QueryTree
+resolved_with derived text select = unless_fault (name_fault_with derived text select) (query_tree (names_of_select derived text select) select (mentions_of_select select))
+
+-- the same where FROM means tables of the catalogue alone
+unfoldable pub name_fault : List ℕ → SelectTree → Option NameError
+name_fault text select = name_fault_with [] text select
+
 unfoldable pub resolved : List ℕ → SelectTree → Option QueryTree
-resolved text select = unless_fault (name_fault text select) (query_tree (names_of_select text select) select (mentions_of_select select))
+resolved text select = resolved_with [] text select

@@ -1,5 +1,5 @@
 -- The columns of the result, conditions, and what GROUP BY and ORDER BY stand for.
-use Rattle.std.specs.Prelude.{ℕ, ℤ, pos, negsuc, ◌+◌, ◌-◌, ◌&&◌, Bool, true, false, if◌then◌else◌, nat_le, List, [], ◌∷◌, ◌++◌, length, map, Option, Some, None, slice_get, is_some}
+use Rattle.std.specs.Prelude.{ℕ, ℤ, pos, negsuc, ◌+◌, ◌-◌, ◌&&◌, ◌||◌, Bool, true, false, if◌then◌else◌, nat_le, List, [], ◌∷◌, ◌++◌, length, map, Option, Some, None, slice_get, is_some}
 use Rattle.std.specs.Option.{option_map_or}
 use Rattle.osq_value.specs.declared.value.Value.TheVariants as value
 use Rattle.sql_tree.specs.declared.span.Span.{Span}
@@ -30,11 +30,11 @@ use Rattle.sql_names.specs.Least.{least}
 abbrev pub column_shown : Seen → ℕ → SourceColumn → ShownTree
 column_shown seen number column = record { name = column.name; expr = expr.column seen.source number (seen.at + number) column.affinity; is_alias = false; aggregate = None }
 
--- the columns of a table; `*` alone hides those that USING joins to an earlier table
+-- the columns of a table that are not hidden; `*` alone passes over those too that USING joins to an earlier table
 abbrev pub columns_from : Bool → Seen → ℕ → List SourceColumn → List ShownTree
 columns_from hides seen number [] = []
 columns_from hides seen number (column ∷ columns) =
-    if hides && is_listed column.name seen.joined then columns_from hides seen (number + 1) columns else column_shown seen number column ∷ columns_from hides seen (number + 1) columns
+    if column.hidden || hides && is_listed column.name seen.joined then columns_from hides seen (number + 1) columns else column_shown seen number column ∷ columns_from hides seen (number + 1) columns
 
 -- `*`
 abbrev pub all_columns : List Seen → List ShownTree

@@ -11,13 +11,14 @@ ghost use Rattle.sql_scope.specs.declared.mention.Mentioned.TheVariants.{Column 
 ghost use Rattle.sql_scope.specs.Shown.{shown_of, names_of};
 
 use crate::results::{index_in, lesser, number_term};
-use osq_value::{NoMemory, table_of};
+use osq_value::NoMemory;
+use sql_query::derived::Derived;
 use sql_query::place::Place;
 use sql_scope::mention::{Clause, Mention, Mentioned};
 use sql_scope::naming::{Meaning, Names, Rule, Shown, meaning_of};
 use sql_scope::scope::{Seen, has_two_owners, is_known, known_place, place_in, plain_place};
 use sql_scope::spelling::name_text;
-use sql_scope::tables::table_number;
+use sql_scope::tables::table_meant;
 use sql_tree::select::{Having, Item, Select, TableRef, Term};
 use sql_tree::tree::{Name, Node};
 use std::alloc::Global;
@@ -68,6 +69,7 @@ pub(crate) fn names_in<'a>(names: &Names<'a>, clause: Clause) -> Names<'a>
     ensures narrow { AreNarrow result.scope.now }
 {
     Names {
+        derived: names.derived,
         text: names.text,
         scope: seen_from(clause, names.scope),
         shown: names.shown,
@@ -86,11 +88,17 @@ pub(crate) fn too_many_tables(sources: &[TableRef]) -> Option<usize>
     }
 }
 
-fn table_missing(alloc: Global, text: &str, source: &TableRef) -> Result<Option<usize>, NoMemory>
-    ensures { IfOk result (λ place. place ≡ missing_table text.now (ref_of source.now)) }
+fn table_missing(
+    alloc: Global,
+    derived: &[Derived],
+    text: &str,
+    source: &TableRef,
+) -> Result<Option<usize>, NoMemory>
+    requires { length derived.now ≤ 100 }
+    ensures { IfOk result (λ place. place ≡ missing_table derived.now text.now (ref_of source.now)) }
 {
     let name = name_text(alloc, text, source.table)?;
-    let is_missing = table_of(name.as_str()).is_none();
+    let is_missing = table_meant(derived, name.as_str()).is_none();
     Ok(place_if(is_missing, source.table.span.start))
 }
 
@@ -130,14 +138,16 @@ fn mentioned_unknown(
 
 fn tables_missing(
     alloc: Global,
+    derived: &[Derived],
     text: &str,
     sources: &[TableRef],
 ) -> Result<Option<usize>, NoMemory>
-    ensures { IfOk result (λ place. place ≡ least (map (missing_table text.now) (map ref_of sources.now))) }
+    requires { length derived.now ≤ 100 }
+    ensures { IfOk result (λ place. place ≡ least (map (missing_table derived.now text.now) (map ref_of sources.now))) }
 {
     let mut place = None;
     for source in sources {
-        place = lesser(place, table_missing(alloc, text, source)?);
+        place = lesser(place, table_missing(alloc, derived, text, source)?);
     }
     Ok(place)
 }
@@ -173,9 +183,10 @@ pub(crate) fn no_table(
     select: &Select,
     found: &[Mention],
 ) -> Result<Option<usize>, NoMemory>
+    requires { length names.now.derived.now ≤ 100 }
     ensures { IfOk result (λ place. place ≡ least_table (names_of names.now) (select_of select.now) found.now) }
 {
-    let of_sources = tables_missing(alloc, names.text, select.sources.as_slice())?;
+    let of_sources = tables_missing(alloc, names.derived, names.text, select.sources.as_slice())?;
     let of_items = items_unknown(alloc, names, select.items.as_slice())?;
     let of_mentions = mentions_unknown(alloc, names, found)?;
     Ok(lesser(of_sources, lesser(of_items, of_mentions)))

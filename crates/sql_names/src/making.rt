@@ -1,10 +1,11 @@
 //! The query that a select stands for.
 
-ghost use Rattle.std.specs.Prelude.{◌≡◌, ◌++◌, ◌+◌, ◌<◌, ◌^◌, [], ◌∷◌, map, take, length, option_map, IfOk, OnOk};
+ghost use Rattle.std.specs.Prelude.{◌≡◌, ◌≤◌, ◌++◌, ◌+◌, ◌<◌, ◌^◌, [], ◌∷◌, map, take, length, option_map, IfOk, OnOk};
 ghost use Rattle.osq_value.specs.Catalogue.{table_name as name_of_table};
 ghost use Rattle.sql_tree.specs.View.{tree_of};
 ghost use Rattle.sql_tree.specs.Select.{ref_of, having_of, term_of, select_of};
 ghost use Rattle.sql_tree.specs.declared.tree.Operator.TheVariants.{Equal as EqualSign};
+ghost use Rattle.sql_query.specs.Tables.{name_at};
 ghost use Rattle.sql_query.specs.Exprs.{chain as chain_tree, then as then_step, no_steps as no_expr_steps, binary as binary_step};
 ghost use Rattle.sql_scope.specs.declared.mention.Clause.TheVariants.{Where as WhereClause};
 ghost use Rattle.sql_names.specs.Kinds.{names_in as names_for};
@@ -21,8 +22,9 @@ use crate::aggregates::is_grouped;
 use crate::conditions::{condition, whole_condition};
 use crate::faults::{names_in, place_at, place_before};
 use crate::results::{index_in, number_term};
-use osq_value::{NoMemory, Sequence, Str, TableId, Value, table_desc};
+use osq_value::{Copied, NoMemory, Sequence, Str, TableId, Value, table_desc};
 use sql_query::copy::copy_expr;
+use sql_query::derived::{Derived, derived_at};
 use sql_query::place::Place;
 use sql_query::query::{
     Condition, ExprList, Order, OrderList, Query, QueryItem, QueryItemList, QuerySource,
@@ -32,7 +34,6 @@ use sql_query::tree::{Expr, ExprStep};
 use sql_scope::expression::resolve_node;
 use sql_scope::mention::{Clause, Mention};
 use sql_scope::naming::{Names, Rule, Shown, column_at, word};
-use sql_scope::scope::Seen;
 use sql_scope::spelling::name_text;
 use sql_scope::tables::{columns_seen, table_number};
 use sql_tree::select::{Having, Select, TableRef, Term};
@@ -95,7 +96,7 @@ fn push_equalities(
 }
 
 /// The catalogue's name of a table.
-fn table_name(alloc: Global, table: TableId) -> Result<Str, NoMemory>
+fn name_in_catalogue(alloc: Global, table: TableId) -> Result<Str, NoMemory>
     ensures { IfOk result (λ name. name ≡ name_of_table table.0) }
 {
     match table_desc(table) {
@@ -104,17 +105,29 @@ fn table_name(alloc: Global, table: TableId) -> Result<Str, NoMemory>
     }
 }
 
-/// The alias of a FROM table, or its catalogue's name.
+/// A table's own name.
+#[tactic(auto, unfolding(sql_query::specs::Tables::name_at))]
+fn table_name(alloc: Global, derived: &[Derived], table: TableId) -> Result<Str, NoMemory>
+    ensures { IfOk result (λ name. name ≡ name_at derived.now table.0) }
+{
+    match derived_at(derived, table) {
+        Some(found) => found.name.copy(alloc),
+        None => name_in_catalogue(alloc, table),
+    }
+}
+
+/// The alias of a FROM table, or its own name.
 fn source_alias(
     alloc: Global,
+    derived: &[Derived],
     text: &str,
     table: TableId,
     alias: Option<Name>,
 ) -> Result<Str, NoMemory>
-    ensures { IfOk result (λ made. made ≡ alias_of_source text.now (name_of_table table.0) alias) }
+    ensures { IfOk result (λ made. made ≡ alias_of_source text.now (name_at derived.now table.0) alias) }
 {
     match alias {
-        None => table_name(alloc, table),
+        None => table_name(alloc, derived, table),
         Some(alias) => name_text(alloc, text, alias),
     }
 }
@@ -145,16 +158,17 @@ fn source(
 ) -> Result<QuerySource, NoMemory>
     requires narrow { AreNarrow names.now.scope.now }
     requires few { number + 1 < 2 ^ 64 }
+    requires numbered { length names.now.derived.now ≤ 100 }
     ensures { IfOk result (λ made. source_of made ≡ source_tree (names_of names.now) number (ref_of source.now)) }
 {
     let name = name_text(alloc, names.text, source.table)?;
-    let table = table_number(name.as_str());
+    let table = table_number(names.derived, name.as_str());
     let on = join_condition(alloc, names, number, source)?;
     Ok(QuerySource {
         table,
-        name: table_name(alloc, table)?,
-        alias: source_alias(alloc, names.text, table, source.alias)?,
-        columns: columns_seen(alloc, table)?,
+        name: table_name(alloc, names.derived, table)?,
+        alias: source_alias(alloc, names.derived, names.text, table, source.alias)?,
+        columns: columns_seen(alloc, names.derived, table)?,
         is_outer: source.is_outer,
         on: Condition::of(on),
     })
@@ -162,7 +176,8 @@ fn source(
 
 /// The FROM tables.
 fn sources(alloc: Global, names: &Names, tables: &[TableRef]) -> Result<QuerySourceList, NoMemory>
-    requires { AreNarrow names.now.scope.now }
+    requires narrow { AreNarrow names.now.scope.now }
+    requires numbered { length names.now.derived.now ≤ 100 }
     ensures { IfOk result (λ made. map source_of made ≡ source_trees (names_of names.now) 0 (map ref_of tables.now)) }
 {
     let mut made = Sequence::new(alloc);
@@ -268,24 +283,25 @@ fn items_of(alloc: Global, shown: Vec<Shown>) -> Result<QueryItemList, NoMemory>
     Ok(items)
 }
 
-/// The query of a select with these mentions, by its tables, the columns of its result and the
-/// expressions of its GROUP BY.
+/// The query of a select with these mentions, by what its tables name, the columns of its result
+/// and the expressions of its GROUP BY.
 pub(crate) fn query_of_select(
     alloc: Global,
-    text: &str,
-    scope: &[Seen],
+    tables: &Names,
     shown: Vec<Shown>,
     keys: ExprList,
     select: &Select,
     found: &[Mention],
 ) -> Result<Query, NoMemory>
-    requires narrow { AreNarrow scope.now }
-    requires keys { map expr_of keys ≡ key_exprs (whole_names text.now scope.now (map shown_of shown.items)) (map tree_of select.now.keys) }
-    ensures { IfOk result (λ q. query_of q ≡ query_tree (whole_names text.now scope.now (map shown_of shown.items)) (select_of select.now) found.now) }
+    requires narrow { AreNarrow tables.now.scope.now }
+    requires numbered { length tables.now.derived.now ≤ 100 }
+    requires keys { map expr_of keys ≡ key_exprs (whole_names tables.now.derived.now tables.now.text.now tables.now.scope.now (map shown_of shown.items)) (map tree_of select.now.keys) }
+    ensures { IfOk result (λ q. query_of q ≡ query_tree (whole_names tables.now.derived.now tables.now.text.now tables.now.scope.now (map shown_of shown.items)) (select_of select.now) found.now) }
 {
     let names = Names {
-        text,
-        scope,
+        derived: tables.derived,
+        text: tables.text,
+        scope: tables.scope,
         shown: shown.as_slice(),
         rule: Rule::Columns,
     };

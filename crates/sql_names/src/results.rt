@@ -31,7 +31,7 @@ pub struct Numbered {
     pub value: i64,
 }
 
-/// Adds a column of a table, or hides it.
+/// Adds a column of a table, or passes over it.
 fn push_column(
     alloc: Global,
     shown: &mut Vec<Shown>,
@@ -43,7 +43,7 @@ fn push_column(
     requires { seen.now.at + number < 2 ^ 32 }
     ensures { OnOk result ((rest : List SourceColumn) → map shown_of shown.new.items ++ columns_from hides seen.now (number + 1) rest ≡ map shown_of shown.old.items ++ columns_from hides seen.now number (column.now ∷ rest)) }
 {
-    if hides && is_listed(column.name.as_str(), seen.joined.as_slice()) {
+    if column.hidden || hides && is_listed(column.name.as_str(), seen.joined.as_slice()) {
         return Ok(());
     }
     shown.push(Shown {
@@ -60,7 +60,7 @@ fn push_column(
     Ok(())
 }
 
-/// Adds the columns of a table, or those that its USING does not list.
+/// Adds the columns of a table that aren't hidden, or those of them that its USING does not list.
 fn push_columns(
     alloc: Global,
     shown: &mut Vec<Shown>,

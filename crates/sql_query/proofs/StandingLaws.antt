@@ -1,25 +1,14 @@
 -- What follows where columns and aggregates stand: over more tables, and where an aggregate may stand too.
-use Rattle.std.proofs.Common.{◌≡◌, ℕ, zero, suc, ◌+◌, ◌++◌, Bool, true, false, List, [], ◌∷◌, length, take, drop, Option, Some, ap, sym, ◌∙◌, subst, arith}
-use Rattle.std.specs.Prelude.{slice_get, ◌≤◌, ◌*◌}
-use Rattle.std.specs.List.{AllByRecursion}
-use Rattle.std.proofs.lemmas.List.{length-map, take-append-drop, take-append-le}
-use Rattle.std.proofs.lemmas.List.Elements.{recursion_from_All}
+use Rattle.std.proofs.Common.{◌≡◌, ℕ, zero, suc, ◌+◌, ◌++◌, Bool, true, false, List, [], ◌∷◌, take, drop, Option, Some, ap, sym, ◌∙◌, subst, arith}
+use Rattle.std.specs.Prelude.{slice_get}
+use Rattle.std.proofs.lemmas.List.{take-append-drop, take-append-le}
 use Rattle.std.proofs.lemmas.Option.{slice_get_within, none-some}
 use Rattle.osq_value.specs.declared.catalogue.Affinity.{Affinity}
-use Rattle.osq_value.specs.Catalogue.{columns_of, width_of}
 use Rattle.sql_query.specs.declared.query.SourceColumn.{SourceColumn}
-use Rattle.sql_query.specs.Resolved.{source_column}
 use Rattle.sql_query.specs.Exprs.{ExprTree, OneExprStep, ExprSteps, Exprs}
 use Rattle.sql_query.specs.Exprs as expr
-use Rattle.sql_query.specs.Resolved.{SourceTree, QueryTree}
-use Rattle.sql_query.specs.Standing.{row_width, IsColumn, IsScoped, IsStepScoped, AreStepsScoped, AreExprsScoped, IsOfCatalogue, columns_in, IsStanding}
+use Rattle.sql_query.specs.Standing.{row_width, IsColumn, IsScoped, IsStepScoped, AreStepsScoped, AreExprsScoped}
 use Rattle.sql_query.proofs.Widths.{row_width-append}
-use Rattle.sql_query.proofs.Widths.{columns_few}
-
--- a FROM table has as many columns as the catalogue gives it
-pub source_width : (source : SourceTree) → IsOfCatalogue source → length source.columns ≡ width_of source.table
-unfolding width_of
-source_width source is = ap length is.has_columns ∙ length-map (columns_of source.table) source_column
 
 get_before : {A : Type 0} (xs more : List A) (k : ℕ) (x : A) → slice_get xs k ≡ Some x → slice_get (xs ++ more) k ≡ Some x
 get_before [] more k x e = absurd (none-some x e)
@@ -85,18 +74,3 @@ stands_folding tables may_fold e stands = stands_wider (record { columns = λ so
 -- what stands over the first tables stands over all
 pub stands_over_all : (tables : List (List SourceColumn)) (n : ℕ) (may_fold : Bool) (e : ExprTree) → IsScoped (take n tables) may_fold e → IsScoped tables may_fold e
 stands_over_all tables n may_fold e stands = subst (λ (all : List (List SourceColumn)). IsScoped all may_fold e) (take-append-drop n tables) (stands_further (take n tables) (drop n tables) may_fold e stands)
-
-sources_narrow : (sources : List SourceTree) → AllByRecursion IsOfCatalogue sources → row_width (columns_in sources) ≤ 13 * length sources
-sources_narrow [] are = omega arith
-sources_narrow (source ∷ sources) are =
-    let here : length source.columns ≡ length (columns_of source.table) = ap length are.0.has_columns ∙ length-map (columns_of source.table) source_column in
-    let few = columns_few source.table in
-    let later = sources_narrow sources are.1 in
-    omega arith
-
--- a row of the product has at most 208 values
-pub row_narrow : (query : QueryTree) → IsStanding query → row_width (columns_in query.sources) ≤ 208
-row_narrow query is =
-    let narrow = sources_narrow query.sources (recursion_from_All IsOfCatalogue query.sources is.sources) in
-    let few = is.few in
-    omega arith

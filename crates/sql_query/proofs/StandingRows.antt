@@ -12,7 +12,7 @@ use Rattle.sql_query.specs.Exprs as expr
 use Rattle.sql_query.specs.Standing.{IsScoped}
 
 abbrev a_column : List ℕ → Affinity → SourceColumn
-a_column name affinity = record { name = name; affinity = Some affinity }
+a_column name affinity = record { name = name; affinity = Some affinity; hidden = false }
 
 abbrev users : List SourceColumn
 users = a_column (codes "uid") Integer ∷ a_column (codes "username") Text ∷ []

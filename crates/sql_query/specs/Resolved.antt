@@ -1,5 +1,5 @@
 -- What contracts see of a query whose names are resolved.
-use Rattle.std.specs.Prelude.{ℕ, ℤ, Bool, List, map, Option, Some}
+use Rattle.std.specs.Prelude.{ℕ, ℤ, Bool, false, List, map, Option, Some}
 use Rattle.osq_value.specs.Catalogue.{Column}
 use Rattle.sql_query.specs.declared.query.SourceColumn.{SourceColumn}
 use Rattle.sql_query.specs.declared.query.QuerySource.{QuerySource}
@@ -11,7 +11,7 @@ use Rattle.sql_query.specs.View.{expr_of}
 
 -- a column as the catalogue gives it to a FROM table
 abbrev pub source_column : Column → SourceColumn
-source_column column = record { name = column.name; affinity = Some column.affinity }
+source_column column = record { name = column.name; affinity = Some column.affinity; hidden = false }
 
 pub record SourceTree : Type 0 where
   pub table : ℕ

@@ -1,10 +1,11 @@
 -- Where the columns and the aggregates of a query stand.
-use Rattle.std.specs.Prelude.{◌≡◌, ℕ, ◌+◌, ◌<◌, ◌≤◌, Bool, false, List, [], ◌∷◌, length, take, map, slice_get, Option, Some, IsTrue, ⊤}
+use Rattle.std.specs.Prelude.{◌≡◌, ◌⊎◌, ℕ, ◌+◌, ◌<◌, ◌≤◌, Bool, false, List, [], ◌∷◌, length, take, map, slice_get, Option, Some, IsTrue, ⊤}
 use Rattle.std.specs.List.{All}
 use Rattle.osq_value.specs.declared.catalogue.Affinity.{Affinity}
-use Rattle.osq_value.specs.Catalogue.{tables as catalogue, table_name, columns_of}
+use Rattle.osq_value.specs.Catalogue.{tables as catalogue}
+use Rattle.sql_query.specs.declared.derived.Derived.{Derived}
 use Rattle.sql_query.specs.declared.query.SourceColumn.{SourceColumn}
-use Rattle.sql_query.specs.Resolved.{source_column}
+use Rattle.sql_query.specs.Tables.{derived_at, columns_at, name_at}
 use Rattle.sql_query.specs.Exprs.{ExprTree, OneExprStep, ExprSteps, Exprs}
 use Rattle.sql_query.specs.Exprs as expr
 use Rattle.sql_query.specs.Resolved.{SourceTree, ResultTree, OrderTree, QueryTree}
@@ -54,19 +55,19 @@ abbrev mutual
 abbrev pub StandAll : List (List SourceColumn) → Bool → List ExprTree → Type 0
 StandAll tables may_fold exprs = All (IsScoped tables may_fold) exprs
 
--- a FROM table is one of the catalogue's, with the name and the columns that the catalogue gives it
-pub record IsOfCatalogue (source : SourceTree) : Type 0 where
-  pub is_known : source.table < length catalogue
-  pub has_name : source.name ≡ table_name source.table
-  pub has_columns : source.columns ≡ map source_column (columns_of source.table)
+-- a FROM table is one of the catalogue's or a derived one, with the name and the columns that it has there
+pub record IsOfTables (derived : List Derived) (source : SourceTree) : Type 0 where
+  pub is_known : (source.table < length catalogue) ⊎ ((table : Derived) × (derived_at derived source.table ≡ Some table))
+  pub has_name : source.name ≡ name_at derived source.table
+  pub has_columns : source.columns ≡ columns_at derived source.table
 
 abbrev pub columns_in : List SourceTree → List (List SourceColumn)
 columns_in sources = map (λ (s : SourceTree). s.columns) sources
 
--- A query whose columns and aggregates stand where they may: those of an ON see the tables up to its own, all others see all tables; aggregates stand in the columns of the result, in HAVING and in ORDER BY alone, and only where rows are grouped, as GROUP BY and HAVING do.
-pub record IsStanding (query : QueryTree) : Type 0 where
+-- A query over the catalogue and these derived tables whose columns and aggregates stand where they may: those of an ON see the tables up to its own, all others see all tables; aggregates stand in the columns of the result, in HAVING and in ORDER BY alone, and only where rows are grouped, as GROUP BY and HAVING do.
+pub record IsStanding (derived : List Derived) (query : QueryTree) : Type 0 where
   pub few : length query.sources ≤ 16
-  pub sources : All IsOfCatalogue query.sources
+  pub sources : All (IsOfTables derived) query.sources
   pub ons : (k : ℕ) (source : SourceTree) → slice_get query.sources k ≡ Some source → StandAll (take (k + 1) (columns_in query.sources)) false source.on
   pub filter : StandAll (columns_in query.sources) false query.filter
   pub keys : StandAll (columns_in query.sources) false query.keys

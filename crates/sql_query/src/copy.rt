@@ -141,6 +141,7 @@ impl Copied for SourceColumn {
         Ok(SourceColumn {
             name: self.name.copy(alloc)?,
             affinity: self.affinity,
+            hidden: self.hidden,
         })
     }
 }

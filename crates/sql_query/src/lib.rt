@@ -3,6 +3,7 @@
 
 pub mod answers;
 pub mod copy;
+pub mod derived;
 pub mod exprs;
 pub mod place;
 pub mod query;

@@ -29,10 +29,12 @@ impl Condition {
 /// A column of a FROM table.
 #[derive(Drop)]
 pub struct SourceColumn {
-    /// The catalogue's name of the column.
+    /// The table's name of the column.
     pub name: Str,
-    /// The column's affinity.
+    /// The column's affinity. Each column of the catalogue has one.
     pub affinity: Option<Affinity>,
+    /// Whether `*` passes over the column, which is found by its name all the same. None of the catalogue is hidden.
+    pub hidden: bool,
 }
 
 /// Columns in their order.
@@ -41,13 +43,13 @@ pub type SourceColumnList = Sequence<SourceColumn>;
 /// A FROM table.
 #[derive(Drop)]
 pub struct QuerySource {
-    /// The table of the catalogue.
+    /// The number of the table: one of the catalogue, or a derived one.
     pub table: TableId,
-    /// The catalogue's name of the table.
+    /// The table's own name.
     pub name: Str,
-    /// The alias, or the catalogue's name where the text has none.
+    /// The alias, or the table's own name where the text has none.
     pub alias: Str,
-    /// The columns of the table, in the catalogue's order.
+    /// The columns of the table, in the table's order.
     pub columns: SourceColumnList,
     /// Whether LEFT JOIN brings this table in.
     pub is_outer: bool,

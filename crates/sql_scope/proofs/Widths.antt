@@ -1,21 +1,18 @@
--- Where the columns of FROM stand.
-use Rattle.std.proofs.Common.{◌≡◌, ℕ, ◌≤◌, ◌+◌, ◌*◌, ◌<◌, ◌^◌, ◌++◌, List, [], ◌∷◌, length, arith, append_assoc, refl, suc, zero, take, get_or, sym, subst}
-use Rattle.sql_tree.specs.Select.{RefTree}
+-- The tables of FROM, one after another, and that the places of their columns are narrow.
+use Rattle.std.proofs.Common.{◌≡◌, ℕ, ◌+◌, ◌<◌, ◌∙◌, ap, refl, append_assoc, ◌++◌, List, [], ◌∷◌, length, arith, suc, zero, take, get_or, sym, subst}
 use Rattle.sql_scope.specs.declared.scope.Seen.{Seen}
-use Rattle.sql_scope.specs.Scope.{columns_seen, seen_at, scope_from, IsNarrow, AreNarrow, table_number}
-use Rattle.sql_scope.specs.Spelling.{name_text}
-use Rattle.std.proofs.lemmas.List.{length-map}
-use Rattle.sql_query.proofs.Widths.{columns_few}
+use Rattle.sql_tree.specs.Select.{RefTree}
+use Rattle.sql_query.specs.declared.derived.Derived.{Derived}
+use Rattle.sql_scope.specs.Scope.{columns_seen, seen_at, scope_from, IsNarrow, AreNarrow}
 
-pub seen_few : (text : List ℕ) (ref : RefTree) → length (columns_seen text ref) ≤ 13
-seen_few text ref = let few = columns_few (table_number (name_text text ref.table)) in rw (length-map) few
+pub scope_next : (derived : List Derived) (text : List ℕ) (before new : List Seen) (source at behind : ℕ) (seen : Seen) (ref : RefTree) (refs : List RefTree) → seen ≡ seen_at derived text source at ref → behind ≡ seen.at + length seen.columns → new ≡ before ++ seen ∷ [] → new ++ scope_from derived text (source + 1) behind refs ≡ before ++ scope_from derived text source at (ref ∷ refs)
+scope_next derived text before new source at behind seen ref refs made behind-is pushed =
+    let place : behind ≡ at + length (columns_seen derived text ref) = behind-is ∙ ap (λ (s : Seen). s.at + length s.columns) made in
+    let all : new ≡ before ++ seen_at derived text source at ref ∷ [] = pushed ∙ ap (λ (s : Seen). before ++ s ∷ []) made in rw (all, place, append_assoc) refl
 
-pub scope_step : (text : List ℕ) (before : List Seen) (source at width : ℕ) (ref : RefTree) (refs : List RefTree) → width ≡ length (columns_seen text ref) → (before ++ seen_at text source at ref ∷ []) ++ scope_from text (source + 1) (at + width) refs ≡ before ++ scope_from text source at (ref ∷ refs)
-scope_step text before source at width ref refs e = rw (e, append_assoc) refl
-
-pub scope_narrow : (text : List ℕ) (source at : ℕ) (refs : List RefTree) → at + 13 * length refs < 2 ^ 32 → AreNarrow (scope_from text source at refs)
-scope_narrow text source at [] small = tt
-scope_narrow text source at (ref ∷ refs) small = let few = seen_few text ref in (omega arith, scope_narrow text (source + 1) (at + length (columns_seen text ref)) refs (omega arith))
+pub narrow_push : (scope : List Seen) (seen : Seen) → AreNarrow scope → IsNarrow seen → AreNarrow (scope ++ seen ∷ [])
+narrow_push [] seen narrow here = (here, tt)
+narrow_push (first ∷ scope) seen narrow here = (narrow.0, narrow_push scope seen narrow.1 here)
 
 pub narrow_take : (scope : List Seen) (n : ℕ) → AreNarrow scope → AreNarrow (take n scope)
 narrow_take [] zero narrow = tt

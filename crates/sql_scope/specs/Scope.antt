@@ -2,36 +2,53 @@
 use Rattle.std.specs.Prelude.{ℕ, ◌+◌, ◌^◌, ◌<◌, ◌&&◌, if◌then◌else◌, Bool, true, false, not, List, [], ◌∷◌, length, map, is_some, Option, Some, None}
 use Rattle.std.specs.Option.{option_map_or, option_or}
 use Rattle.osq_value.specs.declared.value.TheConstants.TableId.{NONE}
-use Rattle.osq_value.specs.Catalogue.{id_of, columns_of}
+use Rattle.osq_value.specs.Catalogue.{id_of}
 use Rattle.sql_tree.specs.Select.{RefTree}
 use Rattle.sql_query.specs.declared.query.SourceColumn.{SourceColumn}
 use Rattle.sql_scope.specs.declared.scope.Seen.{Seen}
 use Rattle.sql_query.specs.declared.place.Place.{Place}
-use Rattle.sql_query.specs.Resolved.{source_column}
+use Rattle.sql_query.specs.declared.derived.Derived.{Derived}
+use Rattle.sql_query.specs.Tables.{FIRST_DERIVED, columns_at}
 use Rattle.sql_scope.specs.Spelling.{name_text, same_name}
 
--- The number of the table of that name. A name that the catalogue lacks, which is a fault, has a number that the catalogue lacks.
-unfoldable pub table_number : List ℕ → ℕ
-table_number name = option_map_or (λ (id : ℕ). id) (id_of name) NONE.0
+-- the number of the first of these derived tables that has the name; the first of those here has that number
+abbrev pub derived_from : List ℕ → ℕ → List Derived → Option ℕ
+derived_from name number [] = None
+derived_from name number (known ∷ derived) = if same_name known.name name then Some number else derived_from name (number + 1) derived
+
+-- the number of the table that a name of FROM means: of a derived one, or else of one of the catalogue
+unfoldable pub table_meant : List Derived → List ℕ → Option ℕ
+table_meant derived name = option_or (derived_from name FIRST_DERIVED derived) (id_of name)
+
+-- The same. A name that means no table, which is a fault, has a number that no table has.
+unfoldable pub table_number : List Derived → List ℕ → ℕ
+table_number derived name = option_map_or (λ (id : ℕ). id) (table_meant derived name) NONE.0
 
 -- A table is known by its alias, or else by its name.
 unfoldable pub known_as : List ℕ → RefTree → List ℕ
 known_as text ref = option_map_or (name_text text) ref.alias (name_text text ref.table)
 
-abbrev pub columns_seen : List ℕ → RefTree → List SourceColumn
-columns_seen text ref = map source_column (columns_of (table_number (name_text text ref.table)))
+abbrev pub columns_seen : List Derived → List ℕ → RefTree → List SourceColumn
+columns_seen derived text ref = columns_at derived (table_number derived (name_text text ref.table))
 
 -- a FROM table, by its number among them and the place of its first column in a row of the product
-abbrev pub seen_at : List ℕ → ℕ → ℕ → RefTree → Seen
-seen_at text source at ref = record { source = source; at = at; table = record { 0 = table_number (name_text text ref.table) }; known = known_as text ref; columns = columns_seen text ref; joined = map (name_text text) ref.using }
+abbrev pub seen_at : List Derived → List ℕ → ℕ → ℕ → RefTree → Seen
+seen_at derived text source at ref = record {
+  source = source;
+  at = at;
+  table = record { 0 = table_number derived (name_text text ref.table) };
+  known = known_as text ref;
+  columns = columns_seen derived text ref;
+  joined = map (name_text text) ref.using;
+}
 
-abbrev pub scope_from : List ℕ → ℕ → ℕ → List RefTree → List Seen
-scope_from text source at [] = []
-scope_from text source at (ref ∷ refs) = seen_at text source at ref ∷ scope_from text (source + 1) (at + length (columns_seen text ref)) refs
+abbrev pub scope_from : List Derived → List ℕ → ℕ → ℕ → List RefTree → List Seen
+scope_from derived text source at [] = []
+scope_from derived text source at (ref ∷ refs) = seen_at derived text source at ref ∷ scope_from derived text (source + 1) (at + length (columns_seen derived text ref)) refs
 
 -- the FROM tables of a select, in their order
-unfoldable pub scope_of : List ℕ → List RefTree → List Seen
-scope_of text refs = scope_from text 0 0 refs
+unfoldable pub scope_of : List Derived → List ℕ → List RefTree → List Seen
+scope_of derived text refs = scope_from derived text 0 0 refs
 
 -- the first of a table's columns that has the name; the first of those here is the table's column of that number
 abbrev pub place_from : Seen → List ℕ → ℕ → List SourceColumn → Option Place

@@ -1,5 +1,6 @@
 -- What the columns of the result are to names, and what names may stand for.
 use Rattle.std.specs.Prelude.{ℕ, Bool, List, map, Option}
+use Rattle.sql_query.specs.declared.derived.Derived.{Derived}
 use Rattle.sql_scope.specs.declared.scope.Seen.{Seen}
 use Rattle.sql_scope.specs.declared.naming.Rule.{Rule}
 use Rattle.sql_scope.specs.declared.naming.Shown.{Shown}
@@ -14,8 +15,9 @@ pub record ShownTree : Type 0 where
   pub is_alias : Bool
   pub aggregate : Option ℕ
 
--- what names may stand for where an expression stands: the tables that are seen from there, the columns of the result, and which of them a plain name is first
+-- what names may stand for where an expression stands: the derived tables that FROM may mean, the tables that are seen from there, the columns of the result, and which of them a plain name is first
 pub record Names : Type 0 where
+  pub derived : List Derived
   pub text : List ℕ
   pub scope : List Seen
   pub shown : List ShownTree
@@ -25,4 +27,4 @@ abbrev pub shown_of : Shown → ShownTree
 shown_of s = record { name = s.name; expr = expr_of s.expr; is_alias = s.is_alias; aggregate = s.aggregate }
 
 abbrev pub names_of : NamesValue → Names
-names_of n = record { text = n.text.now; scope = n.scope.now; shown = map shown_of n.shown.now; rule = n.rule }
+names_of n = record { derived = n.derived.now; text = n.text.now; scope = n.scope.now; shown = map shown_of n.shown.now; rule = n.rule }

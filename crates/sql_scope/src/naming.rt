@@ -11,6 +11,7 @@ use crate::scope::{Seen, known_place, plain_place};
 use crate::spelling::{is_named, name_text};
 use osq_value::{NoMemory, Str, Value};
 use sql_query::copy::copy_expr;
+use sql_query::derived::Derived;
 use sql_query::place::Place;
 use sql_query::tree::Expr;
 use sql_tree::tree::Name;
@@ -53,6 +54,8 @@ pub struct Shown {
 /// What names may stand for where an expression stands.
 #[derive(Clone, Copy)]
 pub struct Names<'a> {
+    /// The derived tables, which a name of FROM means before one of the catalogue.
+    pub derived: &'a [Derived],
     /// The text of the query, in which names are byte places.
     pub text: &'a str,
     /// The tables that are seen from there.

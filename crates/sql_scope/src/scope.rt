@@ -15,11 +15,11 @@ pub struct Seen {
     pub source: u32,
     /// The place of its first column in a row of the product.
     pub at: u32,
-    /// The table of the catalogue.
+    /// The table's number.
     pub table: TableId,
     /// What the table is known by: its alias, or else its name.
     pub known: Str,
-    /// The columns of the table, in the catalogue's order.
+    /// The columns of the table, in the table's order.
     pub columns: SourceColumnList,
     /// The columns that its USING lists.
     pub joined: TextList,

@@ -1,5 +1,5 @@
 -- What the text `SELECT * FROM file_events` asks for.
-use Rattle.std.proofs.Common.{◌≡◌, ℕ, ◌+◌, List, [], ◌∷◌, Some, None, refl, map, ap}
+use Rattle.std.proofs.Common.{◌≡◌, ℕ, ◌+◌, List, [], ◌∷◌, Some, None, refl, ap}
 use Rattle.std.specs.Prelude.{codes, true, false}
 use Rattle.sql_tokens.specs.declared.token.Token.{Token}
 use Rattle.sql_tokens.specs.declared.token.Kind.TheVariants as kind
@@ -14,13 +14,13 @@ use Rattle.osq_value.specs.Catalogue.{id_of, columns_of, table_name, tables}
 use Rattle.sql_query.specs.declared.query.SourceColumn.{SourceColumn}
 use Rattle.sql_query.specs.Exprs.{column}
 use Rattle.sql_scope.specs.Mentions.{mentions_of_select}
-use Rattle.sql_names.specs.Resolve.{resolved, name_fault, names_of_select, names_within, whole_names}
+use Rattle.sql_names.specs.Resolve.{resolved_with, name_fault_with, names_of_select, names_within, whole_names}
 use Rattle.sql_query.specs.Resolved.{ResultTree, QueryTree}
 use Rattle.sql_names.specs.Making.{query_tree}
 use Rattle.sql_scope.specs.Shown.{ShownTree}
 use Rattle.sql_scope.specs.declared.scope.Seen.{Seen}
-use Rattle.sql_scope.specs.Scope.{table_number, known_as, scope_of}
-use Rattle.sql_query.specs.Resolved.{source_column}
+use Rattle.sql_scope.specs.Scope.{table_meant, table_number, known_as, scope_of}
+use Rattle.sql_query.specs.Tables.{derived_at, columns_at, name_at}
 use Rattle.sql_tree.specs.declared.tree.Name.{Name}
 use Rattle.sql_texts.specs.TextTree.{select_of_tokens}
 use Rattle.sql_texts.specs.Texts.{query_in}
@@ -94,10 +94,10 @@ pub select-known : select_of_tokens known_tokens ≡ Some known_select
 select-known = given_unfaulted known_tokens known_select unfaulted-known derived-known
 
 abbrev pub integers : List ℕ → SourceColumn
-integers name = record { name = name; affinity = Some affinity.Integer }
+integers name = record { name = name; affinity = Some affinity.Integer; hidden = false }
 
 abbrev pub texts : List ℕ → SourceColumn
-texts name = record { name = name; affinity = Some affinity.Text }
+texts name = record { name = name; affinity = Some affinity.Text; hidden = false }
 
 abbrev pub known_columns : List SourceColumn
 known_columns =
@@ -155,45 +155,45 @@ name-known = lossy-known
 abbrev pub known_seen : Seen
 known_seen = record { source = 0; at = 0; table = record { 0 = 2 }; known = known_bytes; columns = known_columns; joined = [] }
 
-number-known : table_number known_bytes ≡ 2
-unfolding table_number id_of tables
+number-known : table_number [] known_bytes ≡ 2
+unfolding table_number table_meant id_of tables
 number-known = refl
 
-columns-known : map source_column (columns_of 2) ≡ known_columns
-unfolding columns_of tables
+columns-known : columns_at [] 2 ≡ known_columns
+unfolding columns_at derived_at columns_of tables
 columns-known = refl
 
-heading-known : table_name 2 ≡ known_bytes
-unfolding table_name tables
+heading-known : name_at [] 2 ≡ known_bytes
+unfolding name_at derived_at table_name tables
 heading-known = refl
 
-id-known : id_of known_bytes ≡ Some 2
-unfolding id_of tables
+id-known : table_meant [] known_bytes ≡ Some 2
+unfolding table_meant id_of tables
 id-known = refl
 
-pub scope-known : scope_of known_text known_select.sources ≡ known_seen ∷ []
+pub scope-known : scope_of [] known_text known_select.sources ≡ known_seen ∷ []
 unfolding scope_of known_as
 scope-known = rw (name-known, number-known, columns-known) refl
 
 abbrev pub known_shown : List ShownTree
 known_shown = shown_trees 0 known_columns
 
-pub names-known : names_of_select known_text known_select ≡ whole_names known_text (known_seen ∷ []) known_shown
+pub names-known : names_of_select [] known_text known_select ≡ whole_names [] known_text (known_seen ∷ []) known_shown
 unfolding names_of_select
-names-known = ap (λ (scope : List Seen). names_within known_text scope known_select) scope-known
+names-known = ap (λ (scope : List Seen). names_within [] known_text scope known_select) scope-known
 
-pub unfaulted_names-known : name_fault known_text known_select ≡ None
-unfolding name_fault mentions_of_select
+pub unfaulted_names-known : name_fault_with [] known_text known_select ≡ None
+unfolding name_fault_with mentions_of_select
 unfaulted_names-known = rw (names-known, name-known, id-known) refl
 
-pub query-known : query_tree (names_of_select known_text known_select) known_select (mentions_of_select known_select) ≡ known_query
+pub query-known : query_tree (names_of_select [] known_text known_select) known_select (mentions_of_select known_select) ≡ known_query
 unfolding mentions_of_select
 query-known = rw (names-known, name-known, number-known, columns-known, heading-known) refl
 
-pub resolved-known : resolved known_text known_select ≡ Some known_query
-unfolding resolved
+pub resolved-known : resolved_with [] known_text known_select ≡ Some known_query
+unfolding resolved_with
 resolved-known = rw (unfaulted_names-known, query-known) refl
 
 pub query_in-known : query_in known_text ≡ Some known_query
-unfolding query_in
+unfolding query_in query_with_in
 query_in-known = rw (tokens-known, unfaulted-known, select-known) resolved-known

@@ -1,25 +1,31 @@
 -- The fault of a text: that of its grammar, else that of its names.
-use Rattle.std.specs.Prelude.{ℕ, List, Option, Some, None, codes}
+use Rattle.std.specs.Prelude.{ℕ, List, [], Option, Some, None, codes}
 use Rattle.std.specs.Option.{option_map}
 use Rattle.sql_faults.specs.declared.error.ParseError.{ParseError}
 use Rattle.sql_faults.specs.declared.error.ParseKind.{ParseKind}
 use Rattle.sql_faults.specs.declared.error.ParseKind.TheVariants as parse
 use Rattle.sql_tree.specs.Select.{SelectTree}
 use Rattle.sql_parser.specs.Text.{select_fault}
+use Rattle.sql_query.specs.declared.derived.Derived.{Derived}
 use Rattle.sql_names.specs.declared.error.NameKind.{NameKind}
 use Rattle.sql_names.specs.declared.error.NameKind.TheVariants as name
 use Rattle.sql_texts.specs.TextTree.{select_of_text}
 use Rattle.sql_texts.specs.declared.text.TextError.{TextError}
 use Rattle.sql_texts.specs.declared.text.TextError.TheVariants.{Parse, Name, NoMemory}
-use Rattle.sql_names.specs.Resolve.{name_fault}
+use Rattle.sql_names.specs.Resolve.{name_fault_with}
 
-abbrev pub fault_or : Option ParseError → List ℕ → Option SelectTree → Option TextError
-fault_or (Some fault) text tree = Some (Parse fault)
-fault_or None text None = None
-fault_or None text (Some tree) = option_map Name (name_fault text tree)
+abbrev pub fault_or : List Derived → Option ParseError → List ℕ → Option SelectTree → Option TextError
+fault_or derived (Some fault) text tree = Some (Parse fault)
+fault_or derived None text None = None
+fault_or derived None text (Some tree) = option_map Name (name_fault_with derived text tree)
 
+-- where FROM may mean these derived tables too
+unfoldable pub text_fault_with : List Derived → List ℕ → Option TextError
+text_fault_with derived text = fault_or derived (select_fault text) text (select_of_text text)
+
+-- where FROM means tables of the catalogue alone
 unfoldable pub text_fault : List ℕ → Option TextError
-text_fault text = fault_or (select_fault text) text (select_of_text text)
+text_fault text = text_fault_with [] text
 
 abbrev pub place_of_fault : TextError → ℕ
 place_of_fault (Parse error) = error.place

@@ -1,6 +1,6 @@
 //! What a text asks for.
 
-ghost use Rattle.std.specs.Prelude.{List, ℕ, ◌≡◌, ◌≢◌, Some, None, IfOk, IfErr, OnOk};
+ghost use Rattle.std.specs.Prelude.{List, [], ℕ, ◌≡◌, ◌≢◌, ◌≤◌, length, Some, None, IfOk, IfErr, OnOk};
 ghost use Rattle.sql_faults.specs.declared.error.ParseKind.TheVariants.{NoMemory as ParseWantsMemory};
 ghost use Rattle.sql_names.specs.declared.error.NameKind.TheVariants.{NoMemory as NameWantsMemory};
 ghost use Rattle.sql_texts.specs.declared.text.TextError.TheVariants.{Parse, Name, NoMemory};
@@ -11,13 +11,14 @@ ghost use Rattle.sql_tree.specs.Select.{SelectTree};
 ghost use Rattle.sql_parser.specs.SelectGrammar.{IsSelect};
 ghost use Rattle.sql_parser.specs.Text.{select_fault};
 ghost use Rattle.sql_texts.specs.TextTree.{select_of_text};
-ghost use Rattle.sql_texts.specs.Texts.{query_in};
-ghost use Rattle.sql_texts.specs.TextFaults.{text_fault, place_of_fault, parse_kind_name, name_kind_name, name_of_fault};
+ghost use Rattle.sql_texts.specs.Texts.{query_in, query_with_in};
+ghost use Rattle.sql_texts.specs.TextFaults.{text_fault, text_fault_with, place_of_fault, parse_kind_name, name_kind_name, name_of_fault};
 
 use sql_names::error::{NameError, NameKind};
-use sql_names::resolve::resolve;
+use sql_names::resolve::resolve_with;
 use sql_parser::parse::parse;
 use sql_parser::{ParseError, ParseKind};
+use sql_query::derived::Derived;
 use sql_query::query::Query;
 use std::alloc::Global;
 use thiserror::Error;
@@ -114,9 +115,28 @@ fn not_resolved(error: NameError) -> TextError
     }
 }
 
-/// The query that a text asks for, or its fault: that of its grammar, else that of its names.
+/// The query that a text asks for where its FROM may mean these derived tables too, or its fault:
+/// that of its grammar, else that of its names.
 ///
-/// Parse holds what `parse` refuses, and Name what `resolve` does. Both have a byte place in the text, from 0.
+/// Parse holds what `parse` refuses, and Name what `resolve_with` does. Both have a byte place in the text, from 0.
+pub fn query_with(alloc: Global, text: &str, derived: &[Derived]) -> Result<Query, TextError>
+    requires few { length derived.now ≤ 100 }
+    ensures ok { IfOk result (λ q. query_with_in derived.now text.now ≡ Some (query_of q)) }
+    ensures standing { IfOk result (λ q. IsStanding derived.now (query_of q)) }
+    ensures sound { OnOk result (text_fault_with derived.now text.now ≡ None) }
+    ensures fault { IfErr result (λ e. e ≢ NoMemory → text_fault_with derived.now text.now ≡ Some e) }
+    ensures refused { IfErr result (λ e. e ≢ NoMemory → query_with_in derived.now text.now ≡ None) }
+{
+    match parse(alloc, text) {
+        Err(error) => Err(not_parsed(error)),
+        Ok(select) => match resolve_with(alloc, text, &select, derived) {
+            Err(error) => Err(not_resolved(error)),
+            Ok(query) => Ok(query),
+        },
+    }
+}
+
+/// The query that a text asks for, or its fault, as `query_with` says them where there is no derived table.
 ///
 /// ```
 /// let query = query_of_text(alloc, "SELECT uid FROM users")?;
@@ -124,20 +144,15 @@ fn not_resolved(error: NameError) -> TextError
 /// query_of_text(alloc, "SELECT x FROM users")
 /// // Err(TextError::Name(NameError { place: 7, kind: NameKind::NoColumn }))
 /// ```
+#[tactic(auto, unfolding(crate::specs::Texts::query_in, crate::specs::TextFaults::text_fault))]
 pub fn query_of_text(alloc: Global, text: &str) -> Result<Query, TextError>
     ensures ok { IfOk result (λ q. query_in text.now ≡ Some (query_of q)) }
-    ensures standing { IfOk result (λ q. IsStanding (query_of q)) }
+    ensures standing { IfOk result (λ q. IsStanding [] (query_of q)) }
     ensures sound { OnOk result (text_fault text.now ≡ None) }
     ensures fault { IfErr result (λ e. e ≢ NoMemory → text_fault text.now ≡ Some e) }
     ensures refused { IfErr result (λ e. e ≢ NoMemory → query_in text.now ≡ None) }
 {
-    match parse(alloc, text) {
-        Err(error) => Err(not_parsed(error)),
-        Ok(select) => match resolve(alloc, text, &select) {
-            Err(error) => Err(not_resolved(error)),
-            Ok(query) => Ok(query),
-        },
-    }
+    query_with(alloc, text, &[])
 }
 
 /// The tree of a text, as a function of the text, is the one that the grammar derives from its tokens.

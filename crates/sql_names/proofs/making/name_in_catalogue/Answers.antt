@@ -2,7 +2,7 @@ use Rattle.std.proofs.Common.{◌≡◌, ◌∙◌}
 use Rattle.osq_value.specs.Catalogue.{table_name}
 use Rattle.osq_value.specs.Described.{heading}
 use Rattle.sql_names.proofs.Labels.{label, no_label}
-use Rattle.sql_names.proofs.making.table_name.Goals as goal
+use Rattle.sql_names.proofs.making.name_in_catalogue.Goals as goal
 
 pub returns-in-Some : goal.returns-in-Some
 returns-in-Some c =
