@@ -1,14 +1,15 @@
 -- Characters that an ASCII sign doesn't fit can be left out at the front of a text.
-use Rattle.std.proofs.Common.{◌≡◌, ◌≢◌, ℕ, ◌+◌, ◌<◌, ◌==◌, ◌||◌, ◌&&◌, ◌⊎◌, inl, inr, ⊎_elim, Bool, true, false, List, [], ◌∷◌, ◌++◌, length, take, drop, refl, ap, sym, subst, ◌∙◌, arith, eqb-true, eq-eqb, get_or-take, take-append-drop, append-nil, length-take, length-append, get_or-append-add}
+use Rattle.std.proofs.Common.{◌≡◌, ◌≢◌, ℕ, suc, ◌+◌, ◌<◌, ◌==◌, ◌||◌, ◌&&◌, ◌⊎◌, inl, inr, ⊎_elim, Bool, true, false, List, [], ◌∷◌, ◌++◌, length, take, drop, refl, ap, sym, subst, ◌∙◌, arith, eqb-true, eq-eqb, get_or-take, take-append-drop, append-nil, length-take, length-append, length-drop, get_or-append-add, drop-cons, drop-drop, get_or-drop}
 use Rattle.std.specs.Prelude.{slice_index}
 use Rattle.std.specs.Char.{to_ascii_lowercase, to_ascii_uppercase, encode_utf8}
-use Rattle.std.specs.Str.{chars, IsUtf8, NonePass, encode_utf8_all}
+use Rattle.std.specs.Str.{chars, IsUtf8, IsCharBoundary, NonePass, encode_utf8_all}
 use Rattle.std.proofs.lemmas.Bool.{false_from_ne_true, cases_lt, or_right, or_left}
-use Rattle.std.proofs.lemmas.Str.{chars-append, encodes-chars, encode_ascii, IsCharBoundary-before_ascii, IsUtf8-take}
+use Rattle.std.proofs.lemmas.Str.{chars-append, chars-nil, chars_past_char, IsUtf8-drop, encodes-chars, encode_ascii, IsCharBoundary-before_ascii, IsCharBoundary-after_ascii, IsUtf8-take}
 use Rattle.std.proofs.lemmas.Str.Ascii.{lowercase_is, uppercase_is, lowercase_ascii, uppercase_ascii}
-use Rattle.memchr.specs.Find.{Nowhere, Passes, NoneBefore, is_byte2}
+use Rattle.memchr.specs.Find.{Nowhere, Passes, NoneBefore, is_byte, is_byte2}
 use Rattle.sql_scalar.specs.Likeness.{somewhere, one_and, fits_one, is_like}
-use Rattle.sql_scalar.proofs.Retries.{as_one, plain_sign, somewhere-alike}
+use Rattle.sql_scalar.specs.Pieces.{IsEnd, Lacks}
+use Rattle.sql_scalar.proofs.Retries.{as_one, somewhere-alike}
 
 -- the byte of a sign in either case
 abbrev pub in_either_case : ℕ → ℕ → Bool
@@ -127,35 +128,84 @@ skip_all sign lower upper test bytes text ascii plain told is_lower is_upper sam
     (subst (λ l. Missing (is_byte2 l upper) text) is_lower (subst (Missing (is_byte2 lower upper)) same nowhere)) in
     ap (λ t. somewhere (one_and sign test) (chars t)) (sym (append-nil text)) ∙ behind_front sign test text [] ascii plain told nowhere'
 
--- a pattern that begins with the sign
-pub skip_of_pattern : (sign : ℕ) (others pattern text back : List ℕ) → pattern ≡ sign ∷ others → sign ≢ 37
+-- a piece that begins with the sign
+pub skip_of_piece : (sign : ℕ) (others piece text back : List ℕ) → piece ≡ sign ∷ others → Lacks 37 piece
     → ((test : List ℕ → Bool) → somewhere (one_and sign test) text ≡ somewhere (one_and sign test) back)
-    → somewhere (is_like pattern) text ≡ somewhere (is_like pattern) back
-skip_of_pattern sign others pattern text back is plain same =
-    let one = as_one sign others (plain_sign sign plain) in
-    ap (λ p. somewhere (is_like p) text) is
-    ∙ somewhere-alike (is_like (sign ∷ others)) (one_and sign (is_like others)) one text
-    ∙ same (is_like others)
-    ∙ sym (somewhere-alike (is_like (sign ∷ others)) (one_and sign (is_like others)) one back)
-    ∙ ap (λ p. somewhere (is_like p) back) (sym is)
+    → (rest : List ℕ) → somewhere (is_like (piece ++ 37 ∷ rest)) text ≡ somewhere (is_like (piece ++ 37 ∷ rest)) back
+skip_of_piece sign others piece text back is plain same rest =
+    let behind = others ++ 37 ∷ rest in
+    let one = as_one sign behind (subst (Lacks 37) is plain).0 in
+    ap (λ p. somewhere (is_like (p ++ 37 ∷ rest)) text) is
+    ∙ somewhere-alike (is_like (sign ∷ behind)) (one_and sign (is_like behind)) one text
+    ∙ same (is_like behind)
+    ∙ sym (somewhere-alike (is_like (sign ∷ behind)) (one_and sign (is_like behind)) one back)
+    ∙ ap (λ p. somewhere (is_like (p ++ 37 ∷ rest)) back) (sym is)
 
-or-false : (b : Bool) → (b || false) ≡ b
-or-false true = refl
-or-false false = refl
+pub split_end : (text front back : List ℕ) (at : ℕ) → IsUtf8 front → front ≡ take at text → back ≡ drop at text → IsEnd (chars text) (chars back)
+split_end text front back at told is_front is_back = (
+  chars front,
+  ap chars (sym (take-append-drop at text)) ∙ ap (λ l. chars (l ++ drop at text)) (sym is_front)
+      ∙ ap (λ l. chars (front ++ l)) (sym is_back) ∙ chars-append front back told,
+)
 
-one_less : (test : List ℕ → Bool) (char : ℕ) (rest : List ℕ) → somewhere (one_and 95 test) (char ∷ rest) ≡ somewhere test rest
-one_less test char [] = or-false (test [])
-one_less test char (next ∷ rest) = ap (λ b. test (next ∷ rest) || b) (one_less test next rest)
+pub nothing_end : (text : List ℕ) → IsEnd (chars text) (chars [])
+nothing_end text = (chars text, sym (ap (λ l. chars text ++ l) chars-nil ∙ append-nil (chars text)))
 
--- a `_` behind a `%` takes any character
-pub skip_one : (sign char : ℕ) (pattern others text rest : List ℕ) → sign ≡ 95 → pattern ≡ sign ∷ others → text ≡ char ∷ rest
-    → somewhere (is_like pattern) text ≡ somewhere (is_like others) rest
-skip_one sign char pattern others text rest one is has =
-    ap (λ p. somewhere (is_like p) text) (is ∙ ap (λ s. s ∷ others) one) ∙ ap (somewhere (is_like (95 ∷ others))) has
-    ∙ somewhere-alike (is_like (95 ∷ others)) (one_and 95 (is_like others)) (as_one 95 others refl) (char ∷ rest)
-    ∙ one_less (is_like others) char rest
+-- a sign whose byte stands nowhere in the bytes of some characters is none of them
+none_is : (sign : ℕ) → sign < 128 → (cs : List ℕ) → Nowhere (Passes (is_byte sign) (encode_utf8_all cs)) 0 (length (encode_utf8_all cs)) → Lacks sign cs
+none_is sign ascii [] nowhere = tt
+none_is sign ascii (char ∷ cs) nowhere = (
+  (false_from_ne_true (char == sign) (λ is.
+      let same : char ≡ sign = eqb-true char sign is in
+      let alone : encode_utf8 char ≡ char ∷ [] = encode_ascii char (omega (arith, same, ascii)) in
+      let first : slice_index (encode_utf8 char ++ encode_utf8_all cs) 0 ≡ char = ap (λ l. slice_index (l ++ encode_utf8_all cs) 0) alone in
+      nowhere 0 (omega arith) (omega (arith, ap length alone, length-append (encode_utf8 char) (encode_utf8_all cs)))
+      (ap (is_byte sign) first ∙ is))),
+  none_is sign ascii cs (λ k low within passes.
+      nowhere (length (encode_utf8 char) + k) (omega arith) (omega (arith, within, length-append (encode_utf8 char) (encode_utf8_all cs)))
+      (ap (is_byte sign) (get_or-append-add (encode_utf8 char) (encode_utf8_all cs) k 0) ∙ passes)),
+)
 
-pub skip_none : (sign : ℕ) (pattern others text : List ℕ) → sign ≡ 95 → pattern ≡ sign ∷ others → text ≡ []
-    → somewhere (is_like pattern) text ≡ false
-skip_none sign pattern others text one is has =
-    ap (λ p. somewhere (is_like p) text) (is ∙ ap (λ s. s ∷ others) one) ∙ ap (somewhere (is_like (95 ∷ others))) has
+pub lacks_byte : (sign : ℕ) (text bytes : List ℕ) → sign < 128 → IsUtf8 text → bytes ≡ text
+    → Nowhere (Passes (is_byte sign) bytes) 0 (length bytes) → Lacks sign (chars text)
+lacks_byte sign text bytes ascii told same nowhere =
+    none_is sign ascii (chars text)
+    (subst (λ l. Nowhere (Passes (is_byte sign) l) 0 (length l)) (same ∙ sym (encodes-chars text told)) nowhere)
+
+-- a text parted at the first place of a sign
+pub split_at_place : (sign : ℕ) (text bytes front back others : List ℕ) (at : ℕ) → sign < 128 → IsUtf8 text → bytes ≡ text
+    → NoneBefore (Passes (is_byte sign) bytes) 0 (length bytes) at × Passes (is_byte sign) bytes at
+    → front ≡ take at text → back ≡ drop at text → others ≡ drop 1 back
+    → (chars text ≡ chars front ++ sign ∷ chars others) × Lacks sign (chars front) × (length others < length text)
+split_at_place sign text bytes front back others at ascii told same found' is_front is_back is_others =
+    let found : NoneBefore (Passes (is_byte sign) text) 0 (length text) at × Passes (is_byte sign) text at =
+    subst (λ l. NoneBefore (Passes (is_byte sign) l) 0 (length l) at × Passes (is_byte sign) l at) same found' in
+    let within = found.0.high in
+    let byte : slice_index text at ≡ sign = eqb-true (slice_index text at) sign found.1 in
+    let low : slice_index text at < 128 = omega (arith, byte, ascii) in
+    let boundary = IsCharBoundary-before_ascii text at within low in
+    let front_told : IsUtf8 (take at text) = IsUtf8-take text at told boundary in
+    let rest : others ≡ drop (at + 1) text = is_others ∙ ap (drop 1) is_back ∙ drop-drop 1 at text in
+    let cons : drop at text ≡ slice_index text at ∷ drop (at + 1) text =
+    drop-cons text at 0 within ∙ ap (λ n. slice_index text at ∷ drop n text) (let next : suc at ≡ at + 1 = omega arith in next) in
+    let split : drop at text ≡ encode_utf8 sign ++ others =
+    cons ∙ ap (λ b. b ∷ drop (at + 1) text) byte ∙ ap (λ l. sign ∷ l) (sym rest)
+    ∙ ap (λ l. l ++ others) (sym (encode_ascii sign ascii)) in (
+      ap chars (sym (take-append-drop at text)) ∙ chars-append (take at text) (drop at text) front_told
+          ∙ ap (λ l. chars (take at text) ++ l) (chars_past_char (drop at text) others sign (IsUtf8-drop text at told boundary) split)
+          ∙ ap (λ l. chars l ++ sign ∷ chars others) (sym is_front),
+      subst (λ l. Lacks sign (chars l)) (sym is_front)
+          (lacks_byte sign (take at text) (take at text) ascii front_told refl (nowhere_before (is_byte sign) text at within found.0.before)),
+      omega (arith, ap length rest, length-drop (at + 1) text, within),
+    )
+
+-- it may be parted behind the sign too
+pub boundary_behind : (sign : ℕ) (text bytes back : List ℕ) (at : ℕ) → sign < 128 → IsUtf8 back → bytes ≡ text
+    → NoneBefore (Passes (is_byte sign) bytes) 0 (length bytes) at × Passes (is_byte sign) bytes at → back ≡ drop at text → IsCharBoundary back 1
+boundary_behind sign text bytes back at ascii told same found is_back =
+    let byte : slice_index back 0 ≡ sign =
+    ap (λ l. slice_index l 0) is_back ∙ get_or-drop at text 0 0 ∙ ap (slice_index text) (let none : at + 0 ≡ at = omega arith in none)
+    ∙ ap (λ l. slice_index l at) (sym same) ∙ eqb-true (slice_index bytes at) sign found.1 in
+    let within : 0 < length back = omega (arith, ap length is_back, length-drop at text, found.0.high, ap length same) in
+    let low : slice_index back 0 < 128 = omega (arith, byte, ascii) in
+    IsCharBoundary-after_ascii back 0 told within low

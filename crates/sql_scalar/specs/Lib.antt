@@ -6,7 +6,7 @@ pub mod Finds
 pub mod Functions
 pub mod Likeness
 pub mod Operators
+pub mod Pieces
 pub mod Texts
 pub mod Truth
-pub mod Turns
 pub mod Windows

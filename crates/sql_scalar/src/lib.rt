@@ -10,6 +10,7 @@ mod functions;
 mod like;
 mod logic;
 mod operators;
+mod pieces;
 mod skips;
 mod texts;
 mod windows;

@@ -1,60 +1,26 @@
 //! Where a text can first fit a sign of a pattern.
-ghost use Rattle.std.specs.Prelude.{◌≡◌, ◌≢◌, ◌≤◌, ◌<◌, ℕ, Bool, false, List, length, MatchOption};
+ghost use Rattle.std.specs.Prelude.{◌≡◌, ◌≢◌, ◌≤◌, ◌<◌, ◌++◌, ◌∷◌, ℕ, Bool, List, length};
 ghost use Rattle.std.specs.Str.{chars};
+ghost use Rattle.memchr.specs.Find.{IsFirstByte, is_byte2};
 ghost use Rattle.sql_scalar.specs.Likeness.{is_like, one_and, somewhere};
-ghost use Rattle.sql_scalar.specs.Turns.{IsSkip};
+ghost use Rattle.sql_scalar.specs.Pieces.{IsEnd, Lacks};
 
 use crate::characters::split_first_char;
-use memchr::memchr2;
+use memchr::{memchr, memchr2};
 
-/// The pattern without the `_` at its front, and the text from the first place on that the pattern can fit, where a `%` stands before
-/// it. None where the text is too short.
-pub(crate) fn first_place<'a>(pattern: &'a str, text: &'a str) -> Option<(&'a str, &'a str)>
-    ensures { MatchOption result (somewhere (is_like (chars pattern.now)) (chars text.now) ≡ false)
-        (λ place. IsSkip pattern.now text.now place.0.now place.1.now) }
-{
-    match skip_ones(pattern, text) {
-        Some((signs, rest)) => Some((signs, skip_to_fit(signs, rest))),
-        None => None,
-    }
-}
-
-/// The pattern behind the `_` at its front, and the text behind as many characters: where a `%` stands before them, it's the same
-/// which characters those are. None where the text has too few.
-fn skip_ones<'a>(pattern: &'a str, text: &'a str) -> Option<(&'a str, &'a str)>
-    ensures { MatchOption result (somewhere (is_like (chars pattern.now)) (chars text.now) ≡ false)
-        (λ behind. IsSkip pattern.now text.now behind.0.now behind.1.now) }
-{
-    let mut signs = pattern;
-    let mut rest = text;
-    loop {
-        match split_first_char(signs) {
-            Some((sign, others)) if sign == '_' => {
-                let Some((_, later)) = split_first_char(rest) else {
-                    return None;
-                };
-                signs = others;
-                rest = later;
-            }
-            _ => return Some((signs, rest)),
-        }
-    }
-}
-
-/// The text without the characters at its front that can't fit the first sign of the pattern: without any for an empty pattern, which
-/// fits at the end, and the whole text where that sign fits any character, or isn't ASCII.
+/// The text without the characters at its front that can't fit the first sign of a piece before a `%`: the whole text where that sign
+/// fits any character, or isn't ASCII.
 #[inline(always)]
-pub(crate) fn skip_to_fit<'a>(pattern: &str, text: &'a str) -> &'a str
-    ensures same { somewhere (is_like (chars pattern.now)) (chars text.now)
-        ≡ somewhere (is_like (chars pattern.now)) (chars result.now) }
+pub(crate) fn skip_to_fit<'a>(piece: &str, text: &'a str) -> &'a str
+    requires { Lacks 37 (chars piece.now) }
+    ensures same { (others : List ℕ) → somewhere (is_like (chars piece.now ++ 37 ∷ others)) (chars text.now)
+        ≡ somewhere (is_like (chars piece.now ++ 37 ∷ others)) (chars result.now) }
+    ensures end { IsEnd (chars text.now) (chars result.now) }
     ensures shorter { length result.now ≤ length text.now }
 {
-    match split_first_char(pattern) {
-        Some((sign, _)) if sign.is_ascii() && sign != '%' && sign != '_' => skip_to_sign(
-            sign, text,
-        ),
-        Some(_) => text,
-        None => "",
+    match split_first_char(piece) {
+        Some((sign, _)) if sign.is_ascii() && sign != '_' => skip_to_sign(sign, text),
+        _ => text,
     }
 }
 
@@ -66,12 +32,24 @@ fn skip_to_sign(sign: char, text: &str) -> &str
     requires plain { sign ≢ 95 }
     ensures same { (test : List ℕ → Bool) → somewhere (one_and sign test) (chars text.now)
         ≡ somewhere (one_and sign test) (chars result.now) }
+    ensures end { IsEnd (chars text.now) (chars result.now) }
     ensures shorter { length result.now ≤ length text.now }
 {
     let lower = sign.to_ascii_lowercase() as u8;
     let upper = sign.to_ascii_uppercase() as u8;
-    match memchr2(lower, upper, text.as_bytes()) {
+    match first_of(lower, upper, text.as_bytes()) {
         Some(at) => text.split_at(at).1,
         None => "",
+    }
+}
+
+/// The first place of one of two bytes, which are one where the sign is no letter.
+fn first_of(lower: u8, upper: u8, bytes: &[u8]) -> Option<usize>
+    ensures { IsFirstByte (is_byte2 lower upper) bytes.now result }
+{
+    if lower == upper {
+        memchr(lower, bytes)
+    } else {
+        memchr2(lower, upper, bytes)
     }
 }
