@@ -225,15 +225,7 @@ fn push_committed(
 ) -> Result<(), NoMemory> {
     match committed {
         Ok(number) => push_number(text, " batch ", *number),
-        Err(CommitRefusal::Superseded { number, cut: _ }) => {
-            push_number(text, " superseded by ", *number)
-        }
-        Err(CommitRefusal::Stale { position, cut: _ }) => push_number(
-            text,
-            " stale by ",
-            *position,
-        ),
-        Err(CommitRefusal::NumbersSpent { cut: _ }) => tell(text, "numbers spent"),
+        Err(refusal) => Ok(write!(text, " {refusal}")?),
     }
 }
 
