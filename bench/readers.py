@@ -25,12 +25,12 @@ import typing
 
 TOP = pathlib.Path(__file__).resolve().parent.parent
 CRATES = {
-    "osq_value": "arrayvec",
-    "osq_outside": "osq_value",
+    "osq_value": "arrayvec thiserror",
+    "osq_outside": "thiserror osq_value",
     "record_lines": "memchr osq_value",
-    "audit_records": "hex memchr simdutf8 osq_value",
-    "change_records": "memchr serde_json osq_value",
-    "publisher_core": "memchr serde_json osq_value osq_outside record_lines audit_records change_records",
+    "audit_records": "hex memchr simdutf8 thiserror osq_value",
+    "change_records": "fast_float json memchr serde_json simdutf8 thiserror osq_value",
+    "publisher_core": "json memchr serde_json thiserror osq_value osq_outside record_lines audit_records change_records",
 }
 AUPARSE = pathlib.Path("/usr/include/auparse.h")
 MOST_PEAK = 32.0

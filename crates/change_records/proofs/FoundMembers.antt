@@ -1,26 +1,21 @@
 -- One more member of an object, behind those that were walked over.
-use Rattle.std.proofs.Common.{◌≡◌, ℕ, List, refl, sym, ap, ◌∙◌, if◌then◌else◌, Option, Some, None, Ordering, Less, Equal, Greater, nat_cmp, is_eq}
-use Rattle.std.proofs.lemmas.Map.Text.{is_eq-slice_cmp}
-use Rattle.std.specs.Cmp.Lexicographic.{slice_cmp}
-use Rattle.std.specs.Option.{option_or}
-use Rattle.std.specs.Ordering.{match_ordering}
-use Rattle.serde_json.specs.Data.{Data, Members, member}
+use Rattle.std.proofs.Common.{◌≡◌, ℕ, List, Bool, true, false, bytes_eq, refl, sym, ap, ◌∙◌, subst, if◌then◌else◌, Option, Some, option_map}
+use Rattle.std.proofs.lemmas.Bool.{false≢true}
+use Rattle.std.proofs.lemmas.Slice.Eq.{bytes_eq-Decides}
+use Rattle.serde_json.specs.Data.{Data, Members, put}
 use Rattle.serde_json.specs.Find.{get_member}
+use Rattle.serde_json.proofs.Views.{get_member-put, get_member-put_other}
 use Rattle.change_records.specs.Members.{found_with}
+use Rattle.change_records.specs.Tokens.{surface}
 
-one_of : (o : Ordering) (value : Data) (rest : Option Data) → option_or (if is_eq o then Some value else None) rest ≡ match_ordering o rest (Some value) rest
-one_of Less value rest = refl
-one_of Equal value rest = refl
-one_of Greater value rest = refl
+chosen : (key name : List ℕ) (found : Option Data) (d : Data) (ms : Members) (same : Bool) → bytes_eq key name ≡ same → found ≡ option_map surface (get_member key ms)
+    → (if same then Some (surface d) else found) ≡ option_map surface (get_member key (put name d ms))
+chosen key name found d ms true e so_far =
+    subst (λ (k : List ℕ). Some (surface d) ≡ option_map surface (get_member k (put name d ms))) (sym ((bytes_eq-Decides key name).0 e)) (ap (option_map surface) (sym (get_member-put name d ms)))
+chosen key name found d ms false e so_far =
+    so_far ∙ ap (option_map surface) (sym (get_member-put_other key name d ms (λ same. false≢true (sym e ∙ (bytes_eq-Decides key name).1 same))))
 
-pub next_found : (key : List ℕ) (found : Option Data) (name : List ℕ) (value : Data) (rest : Members) → option_or (found_with key found name value) (get_member key rest) ≡ option_or found (get_member key (member name value rest))
-next_found key (Some first) name value rest = refl
-next_found key None name value rest =
-    ap (λ same. option_or (if same then Some value else None) (get_member key rest)) (sym (is_eq-slice_cmp key name))
-    ∙ one_of (slice_cmp nat_cmp key name) value (get_member key rest)
-
--- what is found of a key so far and in the rest is what the whole object has
-pub walked : (key : List ℕ) (old found : Option Data) (name : List ℕ) (value : Data) (before rest all : Members) → before ≡ member name value rest → found ≡ found_with key old name value → option_or old (get_member key before) ≡ get_member key all → option_or found (get_member key rest) ≡ get_member key all
-walked key old found name value before rest all step next so_far =
-    ap (λ (o : Option Data). option_or o (get_member key rest)) next ∙ next_found key old name value rest
-    ∙ ap (λ (ms : Members). option_or old (get_member key ms)) (sym step) ∙ so_far
+-- what is found of a key is what the object has of it, also with one more member
+pub walked : (key name : List ℕ) (old new : Option Data) (v d : Data) (ms : Members) → v ≡ surface d → new ≡ found_with key old name v → old ≡ option_map surface (get_member key ms)
+    → new ≡ option_map surface (get_member key (put name d ms))
+walked key name old new v d ms shown next so_far = next ∙ ap (λ (w : Data). found_with key old name w) shown ∙ chosen key name old d ms (bytes_eq key name) refl so_far

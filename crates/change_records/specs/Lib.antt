@@ -5,3 +5,4 @@ pub mod Members
 pub mod Patterns
 pub mod Reads
 pub mod Rows
+pub mod Tokens

@@ -5,9 +5,11 @@ ghost use Rattle.change_records.specs.Changes.{text_at};
 ghost use Rattle.change_records.specs.Fields.{number_of, text_of};
 ghost use Rattle.change_records.specs.Members.{held};
 ghost use Rattle.change_records.specs.Reads.{Reads};
+ghost use Rattle.change_records.specs.Tokens.{shallow_view};
 
 use crate::error::JsonLineError;
-use osq_value::{NoMemory, Str, Value, int_spelling};
+use crate::token::Shallow;
+use osq_value::{Str, Value, int_spelling};
 use serde_json::Value as Json;
 use std::alloc::Global;
 
@@ -20,7 +22,7 @@ pub fn text_at<'a>(line: &'a Json, key: &str) -> Option<&'a str>
 
 /// The whole number that a member holds, or that its text spells.
 /// BadLine where it holds anything else but null; Null where it is missing.
-pub fn number_in(member: Option<&Json>) -> Result<Value, JsonLineError>
+pub fn number_in(member: Option<Shallow<'_>>) -> Result<Value, JsonLineError>
     ensures { Reads (number_of (held member.entry)) result }
 {
     match member {
@@ -29,36 +31,25 @@ pub fn number_in(member: Option<&Json>) -> Result<Value, JsonLineError>
     }
 }
 
-fn number(value: &Json) -> Option<Value>
-    ensures { result ≡ number_of (Some (view value.now)) }
+fn number(value: Shallow<'_>) -> Option<Value>
+    ensures { result ≡ number_of (Some (shallow_view value.entry)) }
 {
-    if value.is_null() {
-        return Some(Value::Null);
+    match value {
+        Shallow::Null => Some(Value::Null),
+        Shallow::Number(number) => number.as_i64().map(Value::Int),
+        Shallow::Text(text) => int_spelling(text.as_bytes()).map(Value::Int),
+        Shallow::Bool(_) | Shallow::Array | Shallow::Object => None,
     }
-    let number = match value.as_str() {
-        Some(text) => int_spelling(text.as_bytes()),
-        None => value.as_i64(),
-    };
-    number.map(Value::Int)
 }
 
 /// The text that a member holds.
 /// BadLine where it holds anything else but null; Null where it is missing.
-pub fn value_in(alloc: Global, member: Option<&Json>) -> Result<Value, JsonLineError>
+pub fn value_in(alloc: Global, member: Option<Shallow<'_>>) -> Result<Value, JsonLineError>
     ensures { Reads (text_of (held member.entry)) result }
 {
     match member {
-        None => Ok(Value::Null),
-        Some(value) => text(alloc, value),
+        None | Some(Shallow::Null) => Ok(Value::Null),
+        Some(Shallow::Text(text)) => Ok(Value::Text(Str::of(alloc, text)?)),
+        Some(_) => Err(JsonLineError::BadLine),
     }
-}
-
-fn text(alloc: Global, value: &Json) -> Result<Value, JsonLineError>
-    ensures { Reads (text_of (Some (view value.now))) result }
-{
-    if value.is_null() {
-        return Ok(Value::Null);
-    }
-    let text = value.as_str().ok_or(JsonLineError::BadLine)?;
-    Ok(Value::Text(Str::of(alloc, text)?))
 }

@@ -9,6 +9,7 @@ mod members;
 pub mod pattern;
 pub mod read;
 pub mod table;
+mod token;
 
 pub use change::Change;
 pub use error::JsonLineError;

@@ -1,46 +1,64 @@
 //! The members of a line's object that a change has.
 
-ghost use Rattle.std.specs.Prelude.{◌≡◌, codes};
-ghost use Rattle.serde_json.specs.Find.{get, get_member};
-ghost use Rattle.serde_json.specs.View.{members_view, view};
-ghost use Rattle.change_records.specs.Members.{found_with, held};
+ghost use Rattle.std.specs.Prelude.{◌≡◌, ◌<◌, codes, length, Some, None, OnOk, OnErr};
+ghost use Rattle.json.specs.Json.{members, value};
+ghost use Rattle.serde_json.specs.Data.{Members as Object, no_members, object};
+ghost use Rattle.serde_json.specs.Read.{converted, of_members};
+ghost use Rattle.change_records.specs.Members.{AreOf, found_with, held};
+ghost use Rattle.change_records.specs.Tokens.{data_of, shallow_view};
 
-use serde_json::{Map, Value as Json};
+use crate::token::{MOST_DEPTH, Shallow, read};
+use json::{Invalid, Reader, Token};
 
-/// The members of a line that a change has, found in one walk over the line's object.
+/// The members of a line that a change has, found in one walk over the line's tokens.
 #[derive(Clone, Copy)]
 pub struct Members<'a> {
-    pub path: Option<&'a Json>,
-    pub action: Option<&'a Json>,
-    pub inode: Option<&'a Json>,
-    pub uid: Option<&'a Json>,
-    pub gid: Option<&'a Json>,
-    pub size: Option<&'a Json>,
-    pub mtime: Option<&'a Json>,
-    pub mode: Option<&'a Json>,
-    pub time: Option<&'a Json>,
+    pub path: Option<Shallow<'a>>,
+    pub action: Option<Shallow<'a>>,
+    pub inode: Option<Shallow<'a>>,
+    pub uid: Option<Shallow<'a>>,
+    pub gid: Option<Shallow<'a>>,
+    pub size: Option<Shallow<'a>>,
+    pub mtime: Option<Shallow<'a>>,
+    pub mode: Option<Shallow<'a>>,
+    pub time: Option<Shallow<'a>>,
 }
 
 impl<'a> Members<'a> {
-    /// The members of a line. It has none where the line is no object.
-    pub fn of(line: &'a Json) -> Members<'a>
-        ensures path { held result.path ≡ get (codes "path") (view line.now) }
-        ensures action { held result.action ≡ get (codes "action") (view line.now) }
-        ensures inode { held result.inode ≡ get (codes "inode") (view line.now) }
-        ensures uid { held result.uid ≡ get (codes "uid") (view line.now) }
-        ensures gid { held result.gid ≡ get (codes "gid") (view line.now) }
-        ensures size { held result.size ≡ get (codes "size") (view line.now) }
-        ensures mtime { held result.mtime ≡ get (codes "mtime") (view line.now) }
-        ensures mode { held result.mode ≡ get (codes "mode") (view line.now) }
-        ensures time { held result.time ≡ get (codes "time") (view line.now) }
+    /// Reads a line that is an object.
+    pub fn read_line(&mut self, reader: &mut Reader<'a>) -> Result<(), Invalid>
+        requires none { AreOf no_members self.old }
+        ensures ok { OnOk result ((line : Object) × (data_of reader.old ≡ Some (object line)) × AreOf line self.new) }
+        ensures err { OnErr result ((line : Object) → data_of reader.old ≡ Some (object line) → ⊥) }
     {
-        match line.as_object() {
-            Some(object) => Members::of_object(object),
-            None => Members::none(),
+        let Some(token) = reader.next() else {
+            return Err(Invalid);
+        };
+        let Token::BeginObject = token else {
+            return Err(Invalid);
+        };
+        self.read_members(reader, MOST_DEPTH - 1)?;
+        match reader.next() {
+            None => Ok(()),
+            Some(_) => Err(Invalid),
         }
     }
 
-    fn none() -> Members<'a>
+    /// Reads the members of an object and its closing brace. Of equal keys the last counts.
+    fn read_members(&mut self, reader: &mut Reader<'a>, depth: usize) -> Result<(), Invalid>
+        requires none { AreOf no_members self.old }
+        ensures ok { OnOk result ((all : Object) × (converted (λ given. of_members given no_members) (members (value depth) (length reader.old) reader.old) ≡ Some (all, reader.new)) × AreOf all self.new) }
+        ensures err { OnErr result (converted (λ given. of_members given no_members) (members (value depth) (length reader.old) reader.old) ≡ None) }
+    {
+        while let Some(name) = reader.next_key()? {
+            let value = read(reader, depth)?;
+            *self = self.with(name, value);
+        }
+        Ok(())
+    }
+
+    /// No members yet.
+    pub fn none() -> Members<'a>
         ensures path { held result.path ≡ None }
         ensures action { held result.action ≡ None }
         ensures inode { held result.inode ≡ None }
@@ -64,58 +82,46 @@ impl<'a> Members<'a> {
         }
     }
 
-    fn of_object(object: &'a Map<String, Json>) -> Members<'a>
-        ensures path { held result.path ≡ get_member (codes "path") (members_view object.now.entries) }
-        ensures action { held result.action ≡ get_member (codes "action") (members_view object.now.entries) }
-        ensures inode { held result.inode ≡ get_member (codes "inode") (members_view object.now.entries) }
-        ensures uid { held result.uid ≡ get_member (codes "uid") (members_view object.now.entries) }
-        ensures gid { held result.gid ≡ get_member (codes "gid") (members_view object.now.entries) }
-        ensures size { held result.size ≡ get_member (codes "size") (members_view object.now.entries) }
-        ensures mtime { held result.mtime ≡ get_member (codes "mtime") (members_view object.now.entries) }
-        ensures mode { held result.mode ≡ get_member (codes "mode") (members_view object.now.entries) }
-        ensures time { held result.time ≡ get_member (codes "time") (members_view object.now.entries) }
-    {
-        let mut members = Members::none();
-        for (name, value) in object {
-            members = members.with(name.as_str(), value);
-        }
-        members
-    }
-
     /// One more member of the object, behind those that were walked over.
-    fn with(self, name: &str, value: &'a Json) -> Members<'a>
-        ensures path { held result.path ≡ found_with (codes "path") (held self.entry.path) name.now (view value.now) }
-        ensures action { held result.action ≡ found_with (codes "action") (held self.entry.action) name.now (view value.now) }
-        ensures inode { held result.inode ≡ found_with (codes "inode") (held self.entry.inode) name.now (view value.now) }
-        ensures uid { held result.uid ≡ found_with (codes "uid") (held self.entry.uid) name.now (view value.now) }
-        ensures gid { held result.gid ≡ found_with (codes "gid") (held self.entry.gid) name.now (view value.now) }
-        ensures size { held result.size ≡ found_with (codes "size") (held self.entry.size) name.now (view value.now) }
-        ensures mtime { held result.mtime ≡ found_with (codes "mtime") (held self.entry.mtime) name.now (view value.now) }
-        ensures mode { held result.mode ≡ found_with (codes "mode") (held self.entry.mode) name.now (view value.now) }
-        ensures time { held result.time ≡ found_with (codes "time") (held self.entry.time) name.now (view value.now) }
+    #[inline(always)]
+    fn with(self, name: &str, value: Shallow<'a>) -> Members<'a>
+        ensures path { held result.path ≡ found_with (codes "path") (held self.entry.path) name.now (shallow_view value.entry) }
+        ensures action { held result.action ≡ found_with (codes "action") (held self.entry.action) name.now (shallow_view value.entry) }
+        ensures inode { held result.inode ≡ found_with (codes "inode") (held self.entry.inode) name.now (shallow_view value.entry) }
+        ensures uid { held result.uid ≡ found_with (codes "uid") (held self.entry.uid) name.now (shallow_view value.entry) }
+        ensures gid { held result.gid ≡ found_with (codes "gid") (held self.entry.gid) name.now (shallow_view value.entry) }
+        ensures size { held result.size ≡ found_with (codes "size") (held self.entry.size) name.now (shallow_view value.entry) }
+        ensures mtime { held result.mtime ≡ found_with (codes "mtime") (held self.entry.mtime) name.now (shallow_view value.entry) }
+        ensures mode { held result.mode ≡ found_with (codes "mode") (held self.entry.mode) name.now (shallow_view value.entry) }
+        ensures time { held result.time ≡ found_with (codes "time") (held self.entry.time) name.now (shallow_view value.entry) }
     {
         Members {
-            path: first("path", self.path, name, value),
-            action: first("action", self.action, name, value),
-            inode: first("inode", self.inode, name, value),
-            uid: first("uid", self.uid, name, value),
-            gid: first("gid", self.gid, name, value),
-            size: first("size", self.size, name, value),
-            mtime: first("mtime", self.mtime, name, value),
-            mode: first("mode", self.mode, name, value),
-            time: first("time", self.time, name, value),
+            path: last("path", self.path, name, value),
+            action: last("action", self.action, name, value),
+            inode: last("inode", self.inode, name, value),
+            uid: last("uid", self.uid, name, value),
+            gid: last("gid", self.gid, name, value),
+            size: last("size", self.size, name, value),
+            mtime: last("mtime", self.mtime, name, value),
+            mode: last("mode", self.mode, name, value),
+            time: last("time", self.time, name, value),
         }
     }
 }
 
 /// What is found of a key, where one more member follows. A name of another length isn't compared.
 #[inline(always)]
-fn first<'a>(key: &str, found: Option<&'a Json>, name: &str, value: &'a Json) -> Option<&'a Json>
-    ensures { held result ≡ found_with key.now (held found.entry) name.now (view value.now) }
+fn last<'a>(
+    key: &str,
+    found: Option<Shallow<'a>>,
+    name: &str,
+    value: Shallow<'a>,
+) -> Option<Shallow<'a>>
+    ensures { held result ≡ found_with key.now (held found.entry) name.now (shallow_view value.entry) }
 {
-    if found.is_some() || key.len() != name.len() || key != name {
-        found
-    } else {
+    if key.len() == name.len() && key == name {
         Some(value)
+    } else {
+        found
     }
 }

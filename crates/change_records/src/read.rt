@@ -1,15 +1,17 @@
-ghost use Rattle.std.specs.Prelude.{◌≡◌, codes, option_map};
-ghost use Rattle.serde_json.specs.View.{view};
-ghost use Rattle.change_records.specs.Changes.{action_of, change_of, change_with, is_path, numbers_of, path_of};
+ghost use Rattle.std.specs.Prelude.{◌≡◌};
+ghost use Rattle.change_records.specs.Changes.{action_of, change_of, change_with, numbers_of, path_of};
 ghost use Rattle.change_records.specs.Members.{held};
 ghost use Rattle.change_records.specs.Reads.{Reads, ReadsLine};
+ghost use Rattle.change_records.specs.Tokens.{ReadsTokens};
 
 use crate::change::Change;
 use crate::error::JsonLineError;
 use crate::field::{number_in, value_in};
 use crate::members::Members;
+use crate::token::Shallow;
+use json::{Reader, Scratch};
 use osq_value::{Str, Value};
-use serde_json::Value as Json;
+use simdutf8::compat::from_utf8;
 use std::alloc::Global;
 
 /// Reads a change line: one JSON object. `path` begins with `/`, and `action` has 1 to 64 bytes. `inode`, `uid`, `gid`, `size`, `mtime` and
@@ -19,23 +21,34 @@ use std::alloc::Global;
 /// JSON is that of RFC 8259, and of equal keys the last counts.
 ///
 /// ```
-/// let change = read_change(alloc, b"{\"path\":\"/etc/a\",\"action\":\"CREATED\",\"time\":1}")?;
+/// let change = read_change(alloc, &mut scratch, b"{\"path\":\"/etc/a\",\"action\":\"CREATED\",\"time\":1}")?;
 /// change.path.as_str()      // "/etc/a"
 /// change.time               // Value::Int(1)
 /// change.mode               // Value::Null: the line has no such key
-/// read_change(alloc, b"{\"path\":\"etc\",\"action\":\"CREATED\"}")   // Err(JsonLineError::BadLine)
+/// read_change(alloc, &mut scratch, b"{\"path\":\"etc\",\"action\":\"CREATED\"}")   // Err(JsonLineError::BadLine)
 /// ```
-pub fn read_change(alloc: Global, text: &[u8]) -> Result<Change, JsonLineError>
+pub fn read_change(
+    alloc: Global,
+    scratch: &mut Scratch,
+    text: &[u8],
+) -> Result<Change, JsonLineError>
     ensures { ReadsLine change_of text.now result }
 {
-    let line = Json::from_slice(alloc, text)?;
-    change(alloc, &line)
+    let Ok(text) = from_utf8(text) else {
+        return Err(JsonLineError::BadLine);
+    };
+    let mut reader = Reader::new(text, scratch)?;
+    change(alloc, &mut reader)
 }
 
-fn change(alloc: Global, line: &Json) -> Result<Change, JsonLineError>
-    ensures { Reads (change_of (view line.now)) result }
+fn change(alloc: Global, reader: &mut Reader<'_>) -> Result<Change, JsonLineError>
+    ensures { ReadsTokens change_of reader.old result }
 {
-    change_with(alloc, Members::of(line))
+    let mut members = Members::none();
+    let Ok(()) = members.read_line(reader) else {
+        return Err(JsonLineError::BadLine);
+    };
+    change_with(alloc, members)
 }
 
 #[tactic(auto, unfolding(crate::specs::Changes::change_with))]
@@ -57,10 +70,12 @@ fn change_with(alloc: Global, members: Members<'_>) -> Result<Change, JsonLineEr
     })
 }
 
-fn path(alloc: Global, member: Option<&Json>) -> Result<Str, JsonLineError>
+fn path(alloc: Global, member: Option<Shallow<'_>>) -> Result<Str, JsonLineError>
     ensures { Reads (path_of (held member.entry)) result }
 {
-    let path = member.and_then(Json::as_str).ok_or(JsonLineError::BadLine)?;
+    let Some(Shallow::Text(path)) = member else {
+        return Err(JsonLineError::BadLine);
+    };
     if path.as_bytes().first() == Some(&b'/') {
         Ok(Str::of(alloc, path)?)
     } else {
@@ -68,10 +83,12 @@ fn path(alloc: Global, member: Option<&Json>) -> Result<Str, JsonLineError>
     }
 }
 
-fn action(alloc: Global, member: Option<&Json>) -> Result<Str, JsonLineError>
+fn action(alloc: Global, member: Option<Shallow<'_>>) -> Result<Str, JsonLineError>
     ensures { Reads (action_of (held member.entry)) result }
 {
-    let action = member.and_then(Json::as_str).ok_or(JsonLineError::BadLine)?;
+    let Some(Shallow::Text(action)) = member else {
+        return Err(JsonLineError::BadLine);
+    };
     if 1 <= action.len() && action.len() <= 64 {
         Ok(Str::of(alloc, action)?)
     } else {

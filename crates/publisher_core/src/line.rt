@@ -9,6 +9,7 @@ use crate::record::{Gain, Record};
 use crate::subscription::{Callback, Subscription};
 use audit_records::{AuditLine, AuditLineError, read_line};
 use change_records::{JsonLineError, read_change, read_table};
+use json::Scratch;
 use osq_value::{NoMemory, Reading};
 use record_lines::Cut;
 use std::alloc::Global;
@@ -28,6 +29,7 @@ const SKIPPED: Gain = Gain::Event {
 /// What a line of a source of changes gives.
 pub fn change_gain<C: Callback>(
     alloc: Global,
+    scratch: &mut Scratch,
     subscription: &Subscription<C>,
     cut: &Cut,
 ) -> Result<Gain, NoMemory>
@@ -36,7 +38,7 @@ pub fn change_gain<C: Callback>(
     let Cut::Line(line) = cut else {
         return Ok(SKIPPED);
     };
-    match read_change(alloc, line.text.as_slice()) {
+    match read_change(alloc, scratch, line.text.as_slice()) {
         Err(JsonLineError::NoMemory) => Err(NoMemory),
         Err(JsonLineError::BadLine) => Ok(SKIPPED),
         Ok(change) => match subscription.event_of(alloc, Record::Change(change)) {

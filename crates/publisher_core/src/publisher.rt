@@ -20,6 +20,7 @@ use crate::readings::readings_of;
 use crate::record::{Gain, Next, ReadRecord, ReadRecordList, Record};
 use crate::subscription::{Callback, Subscription};
 use audit_records::AuditGroup;
+use json::Scratch;
 use osq_outside::{Source, SourceFault};
 use osq_value::{Event, NoMemory, ReadingList, SourceKind, Str};
 use record_lines::{Cut, LineCutter};
@@ -53,6 +54,7 @@ pub struct Publisher<C> {
     gathering: Gathering,
     ready: VecDeque<AuditRecord>,
     piece: Vec<u8>,
+    scratch: Box<Scratch>,
     is_begun: bool,
     is_ended: bool,
     is_spent: bool,
@@ -143,6 +145,7 @@ impl<C: Callback> Publisher<C> {
             gathering: Gathering::new(alloc),
             ready: VecDeque::new(alloc),
             piece: room(alloc, PIECE_BYTES)?,
+            scratch: Box::new(alloc, Scratch::new(alloc))?,
             is_begun: false,
             is_ended: false,
             is_spent: false,
@@ -383,7 +386,12 @@ impl<C: Callback> Publisher<C> {
                 Err(NoMemory) => Err(NoMemory),
                 Ok(()) => Ok(Next::More),
             },
-            SourceKind::Changes => match change_gain(self.alloc, &self.subscription, cut) {
+            SourceKind::Changes => match change_gain(
+                self.alloc,
+                &mut self.scratch,
+                &self.subscription,
+                cut,
+            ) {
                 Err(NoMemory) => Err(NoMemory),
                 Ok(gain) => Ok(self.give(end, gain)),
             },

@@ -4,6 +4,7 @@ use crate::given::Given;
 use crate::readings::push_maybe_event;
 use case_text::{member_text, push_rows, push_value, push_values};
 use change_records::{Change, JsonLineError, change_event, path_matches, read_change, read_table};
+use json::Scratch;
 use osq_value::{CategoryList, NoMemory, Reading, RowList, TableId};
 use serde_json::Value as Json;
 use std::alloc::Global;
@@ -70,7 +71,8 @@ fn push_read(
     bytes: &[u8],
     given: Given<'_>,
 ) -> Result<(), NoMemory> {
-    match read_change(alloc, bytes) {
+    let mut scratch = Scratch::new(alloc);
+    match read_change(alloc, &mut scratch, bytes) {
         Ok(change) => push_both(alloc, text, change, given),
         Err(error) => push_refused(text, error),
     }

@@ -26,7 +26,8 @@ returns-in-Ok-change_gain-clause-goes g c = λ before given start stream t.
     let end = c.end_of-end.ensures before.cutter.limit at t.line.line t.line.cut_is in
     let gives : ChangeGives c.self.inside.subscription.paths t.line.line c.in-Ok-change_gain.gain = c.in-Ok-change_gain.ensures t.line.line at cut in
     let one = subst (λ (r : Reader). ChangeGives r.paths t.line.line c.in-Ok-change_gain.gain) c.self.view_is gives in
-    let stands = change_given before c.args.self.now c.give.new.self given start stream c.args.cut.now c.in-Ok-change_gain.gain c.end_of-end.result t kind one end c.give.ensures.taken in
+    let taken = c.give.ensures.taken ∙ ap (λ (r : Reader). record r { taken = c.end_of-end.result }) c.self.view_is in
+    let stands = change_given before c.args.self.now c.give.new.self given start stream c.args.cut.now c.in-Ok-change_gain.gain c.end_of-end.result t kind one end taken in
     subst (λ (n : Next). Goes c.give.new.self given start stream n) (sym c.give.ensures.given) stands
 
 pub returns-in-Ok-table_gain-clause-goes : goal.returns-in-Ok-table_gain-clause-goes
