@@ -71,7 +71,7 @@ fn row(alloc: Global, change: Change, category: &Str) -> Result<Row, NoMemory>
 {
     let category = category.copy(alloc)?;
     let mut numbers = change.numbers;
-    let values = Vec::from_array(
+    Row::of_ten(
         alloc,
         [
             Value::Text(change.path),
@@ -85,6 +85,5 @@ fn row(alloc: Global, change: Change, category: &Str) -> Result<Row, NoMemory>
             mem::replace(&mut numbers[4], Value::Null),
             change.time,
         ],
-    )?;
-    Row::from_vec(values).shared(alloc)
+    )
 }
