@@ -23,7 +23,7 @@ use Rattle.sql_scope.specs.Scope.{table_meant, table_number, known_as, scope_of}
 use Rattle.sql_query.specs.Tables.{derived_at, columns_at, name_at}
 use Rattle.sql_tree.specs.declared.tree.Name.{Name}
 use Rattle.sql_texts.specs.TextTree.{select_of_tokens}
-use Rattle.sql_texts.specs.Texts.{query_in}
+use Rattle.sql_texts.specs.Texts.{query_in, query_with_in}
 use Rattle.sql_texts.proofs.DerivedTree.{given_unfaulted}
 use Rattle.sql_tokens.specs.Tokens.{after}
 use Rattle.sql_scope.specs.Spelling.{name_text}
