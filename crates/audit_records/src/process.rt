@@ -67,15 +67,15 @@ fn with_field<'a>(found: CallFields<'a>, field: &'a Field) -> CallFields<'a>
     ensures { found_of result ≡ each_or (found_of found.entry) (placed field.now) }
 {
     let mut found = found;
-    match field.key.as_str() {
-        "pid" => found.pid = found.pid.or(Some(field)),
-        "exe" => found.exe = found.exe.or(Some(field)),
-        "auid" => found.auid = found.auid.or(Some(field)),
-        "uid" => found.uid = found.uid.or(Some(field)),
-        "euid" => found.euid = found.euid.or(Some(field)),
-        "gid" => found.gid = found.gid.or(Some(field)),
-        "egid" => found.egid = found.egid.or(Some(field)),
-        "ppid" => found.ppid = found.ppid.or(Some(field)),
+    match field.key.as_str().as_bytes() {
+        [b'p', b'i', b'd'] => found.pid = found.pid.or(Some(field)),
+        [b'e', b'x', b'e'] => found.exe = found.exe.or(Some(field)),
+        [b'a', b'u', b'i', b'd'] => found.auid = found.auid.or(Some(field)),
+        [b'u', b'i', b'd'] => found.uid = found.uid.or(Some(field)),
+        [b'e', b'u', b'i', b'd'] => found.euid = found.euid.or(Some(field)),
+        [b'g', b'i', b'd'] => found.gid = found.gid.or(Some(field)),
+        [b'e', b'g', b'i', b'd'] => found.egid = found.egid.or(Some(field)),
+        [b'p', b'p', b'i', b'd'] => found.ppid = found.ppid.or(Some(field)),
         _ => {}
     }
     found

@@ -38,7 +38,7 @@ runs_sound : (entries : List Entry) → Legal entries → IsSound (schedule_of e
 runs_sound = over_legal (λ entries. IsSound (schedule_of entries)) none_sound more
   where
     more : (entries : List Entry) (entry : Entry) → Legal entries → IsSound (schedule_of entries) → LegalNext entries entry → IsSound (schedule_of (entries ++ entry ∷ []))
-    more entries (Opened session) legal sound next = subst IsSound (sym (last_of-append schedule_in no_schedule entries (Opened session ∷ []))) none_sound
+    more entries (Opened session rules) legal sound next = subst IsSound (sym (last_of-append schedule_in no_schedule entries (Opened session rules ∷ []))) none_sound
     more entries (Configured document schedule moment) legal sound next =
         subst IsSound (sym (last_of-append schedule_in no_schedule entries (Configured document schedule moment ∷ []))) next.0
     more entries entry legal sound next = subst IsSound (sym (last_of-append schedule_in no_schedule entries (entry ∷ []))) sound

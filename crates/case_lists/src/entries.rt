@@ -192,7 +192,10 @@ fn configured(alloc: Global) -> Entry {
 /// The entry of a word, at this place among the others.
 fn entry_of(alloc: Global, word: &str, at: u64) -> Result<Option<Entry>, NoMemory> {
     Ok(Some(match word {
-        "opened" => Entry::Opened { session: 1 },
+        "opened" => Entry::Opened {
+            session: 1,
+            rules: 1,
+        },
         "configured" => configured(alloc),
         "ticked" => Entry::Ticked { moment: 1000 },
         "appended" => appended(alloc)?,

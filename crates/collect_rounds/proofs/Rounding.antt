@@ -9,7 +9,8 @@ use Rattle.collector_core.specs.Received.{HostDigests}
 use Rattle.collector_answers.specs.Judging.{AreJudged, LIMIT}
 use Rattle.collect_rounds.specs.declared.collector.Collector.{Collector}
 use Rattle.collect_rounds.specs.Rounds.{IsAt, IsRound, TakesNext, TakesRound}
-use Rattle.collect_rounds.specs.Runs.{HasCollected, HasStopped, ROUND_BYTES, Runs, STEP_BYTES, Written}
+use Rattle.record_lines.specs.Limits.{STEP_BYTES}
+use Rattle.collect_rounds.specs.Runs.{HasCollected, HasStopped, ROUND_BYTES, Runs, Written}
 use Rattle.collect_rounds.proofs.Stops.{stopped-before}
 
 module _ {E : Type 0} (recorded : HostDigests) (has_rest : Bool) where

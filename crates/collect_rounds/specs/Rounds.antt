@@ -8,7 +8,8 @@ use Rattle.collector_answers.specs.declared.judging.Judged.{Judged}
 use Rattle.collector_answers.specs.Judging.{AreJudged, LIMIT}
 use Rattle.collect_rounds.specs.declared.collector.Collector.{Collector}
 use Rattle.collect_rounds.specs.Collecting.{added_lines, after_lines, answers_to, behind_rest}
-use Rattle.collect_rounds.specs.Runs.{HasStopped, ROUND_BYTES, STEP_BYTES, Written}
+use Rattle.record_lines.specs.Limits.{STEP_BYTES}
+use Rattle.collect_rounds.specs.Runs.{HasStopped, ROUND_BYTES, Written}
 use Rattle.collect_rounds.specs.Takes.{rest_after}
 
 -- The whole lines of what was given are written and answered, and the cutter has the line that was begun.

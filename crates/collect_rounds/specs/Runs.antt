@@ -6,14 +6,6 @@ use Rattle.collector_answers.specs.declared.judging.Judged.{Judged}
 use Rattle.collector_answers.specs.Judging.{AreJudged}
 use Rattle.collect_rounds.specs.Collecting.{added_lines, after_lines, answers_to, behind_rest}
 
--- a round ends once it has read so many bytes
-abbrev pub STEP_BYTES : ℕ
-STEP_BYTES = 2 ^ 24
-
--- one read takes at most so many bytes
-abbrev pub PIECE_BYTES : ℕ
-PIECE_BYTES = 65536
-
 -- and so reads at most so many
 abbrev pub ROUND_BYTES : ℕ
 ROUND_BYTES = STEP_BYTES + PIECE_BYTES

@@ -8,4 +8,4 @@ pub mod laws;
 pub mod rounds;
 
 pub use error::CollectError;
-pub use rounds::{STEP_BYTES, collect};
+pub use rounds::collect;

@@ -5,7 +5,8 @@ ghost use Rattle.osq_outside.specs.Causes.{FaultHasCause, Rose};
 ghost use Rattle.collector_core.specs.Ledgers.{digests_of};
 ghost use Rattle.collector_core.specs.Received.{HostDigests};
 ghost use Rattle.collect_rounds.specs.Rounds.{IsAt, TakesNext, TakesRound};
-ghost use Rattle.collect_rounds.specs.Runs.{PIECE_BYTES, Runs, Written};
+ghost use Rattle.record_lines.specs.Limits.{PIECE_BYTES};
+ghost use Rattle.collect_rounds.specs.Runs.{Runs, Written};
 ghost use Rattle.collect_rounds.specs.declared.error.CollectError.{CollectError};
 
 use crate::collector::Collector;
@@ -13,13 +14,8 @@ use crate::error::CollectError;
 use collector_ledger::OpenedLedger;
 use osq_outside::{Sink, Source, write_all};
 use osq_value::NoMemory;
+use record_lines::{PIECE_BYTES, STEP_BYTES};
 use std::alloc::Global;
-
-/// A round ends once it has read so many bytes.
-pub const STEP_BYTES: u64 = 16_777_216;
-
-/// One read takes at most so many bytes.
-const PIECE_BYTES: usize = 65_536;
 
 /// Room for a piece.
 fn room(alloc: Global) -> Result<Vec<u8>, NoMemory>

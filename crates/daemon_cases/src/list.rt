@@ -46,7 +46,10 @@ fn is_one_due(entries: &[Entry], key: &QueryKey) -> bool {
 fn outdates(entry: &Entry, key: &QueryKey) -> bool {
     match entry {
         Entry::Committed { batch } => batch.query.is(key),
-        Entry::Opened { session: _ } => true,
+        Entry::Opened {
+            session: _,
+            rules: _,
+        } => true,
         _ => begun_at(entry).is_some(),
     }
 }
@@ -140,6 +143,7 @@ fn next_fault(
             skipped: _,
             moment,
         } if *moment != moment_of(entries) => Ok(Some("events of another moment")),
+        Entry::Opened { session: _, rules } if *rules != 2 => Ok(Some("other rules")),
         Entry::Committed { batch } => batch_fault(alloc, entries, batch),
         _ => Ok(None),
     }

@@ -86,7 +86,7 @@ module _ {S : Type 0} (tells : Type 0) (left : S → List ℕ) (faults : S → �
       configured = Configured documents configures.schedule moment
 
       abbrev opened : Entry
-      opened = Opened (restored.sessions + 1)
+      opened = Opened (restored.sessions + 1) 2
 
       round_is : round_entries begun.counts.moment tables.turns ≡ round_entries restored.moment tables.turns
       round_is = ap (λ (at : ℕ). round_entries at tables.turns) begun_moment
@@ -134,7 +134,7 @@ found_by restored config moment filled state entries configured found is found_a
 -- the packs that are found directly before a session's first configuration
 pub opens_found : {S : Type 0} (tells : Type 0) (left : S → List ℕ) (faults : S → ℕ) (most : ℕ) (restored : Restored) (feeds nexts : List Feeding) (sources rests : List S) (begun filled : Kept) (begins : Begins restored begun) (tables : Rounds tells left faults which.Tables most feeds nexts sources rests begun filled) (config : Config) (documents : List (List ℕ)) (host : Host) (moment : ℕ) (state : Kept) (configures : Configures config documents host moment filled state) (found : List Bool) → IsState filled → found ≡ map (is_found (rows_in (shown_by filled filled.image.last moment))) config.packs → IsFoundBy restored config moment state found
 opens_found tells left faults most restored feeds nexts sources rests begun filled begins tables config documents host moment state configures found is found_are =
-    found_by restored config moment filled state (Opened (restored.sessions + 1) ∷ round_entries begun.counts.moment tables.turns) (Configured documents configures.schedule moment) found is found_are (tables.brings.stands restored (Opened (restored.sessions + 1) ∷ []) begins.stands)
+    found_by restored config moment filled state (Opened (restored.sessions + 1) 2 ∷ round_entries begun.counts.moment tables.turns) (Configured documents configures.schedule moment) found is found_are (tables.brings.stands restored (Opened (restored.sessions + 1) 2 ∷ []) begins.stands)
     (configures.brings.tail ∙ ap (λ (es : List Entry). es ++ Configured documents configures.schedule moment ∷ []) (tables.brings.tail ∙ ap (λ (es : List Entry). es ++ round_entries begun.counts.moment tables.turns) begins.tail))
 
 -- what is open goes on from the keeper's list, where that has these values

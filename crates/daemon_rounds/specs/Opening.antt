@@ -21,7 +21,7 @@ use Rattle.daemon_rounds.specs.declared.turning.Which.TheVariants as which
 -- the entries of an opening: Opened, the entries of what each source of tables gave in one step, source by source, and one Configured
 abbrev pub opening_entries : {S : Type 0} → Restored → List (Turn S) → List (List ℕ) → Schedule → ℕ → List Entry
 opening_entries restored turns documents schedule moment =
-    Opened (restored.sessions + 1) ∷ round_entries restored.moment turns ++ Configured documents schedule moment ∷ []
+    Opened (restored.sessions + 1) 2 ∷ round_entries restored.moment turns ++ Configured documents schedule moment ∷ []
 
 -- the state stands for these entries alone, none of which is sealed, and no tick has begun
 pub record IsOpened (restored : Restored) (entries : List Entry) (state : Kept) : Type 0 where

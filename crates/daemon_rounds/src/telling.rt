@@ -72,7 +72,10 @@ fn form_behind(form: Form, entry: &Entry) -> Form
     ensures { result ≡ form_after form entry.now }
 {
     match entry {
-        Entry::Opened { session: _ } => Form::Event,
+        Entry::Opened {
+            session: _,
+            rules: _,
+        } => Form::Event,
         Entry::Configured {
             document: _,
             schedule,

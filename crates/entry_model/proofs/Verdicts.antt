@@ -1,5 +1,5 @@
 -- What is said of the worked lists is so.
-use Rattle.std.proofs.Common.{◌≡◌, ℕ, zero, suc, ◌+◌, ◌<◌, ◌≤◌, true, false, List, [], ◌∷◌, ◌++◌, length, get_or, Some, None, refl, sym, ap, subst, arith}
+use Rattle.std.proofs.Common.{◌≡◌, ◌≢◌, ◌⊎◌, ℕ, zero, suc, ◌+◌, ◌<◌, ◌≤◌, true, false, List, [], ◌∷◌, ◌++◌, length, get_or, Some, None, refl, sym, ap, ◌∙◌, subst, inl, inr, arith}
 use Rattle.std.specs.Prelude.{All, Contains, codes, bytes_eq}
 use Rattle.std.proofs.lemmas.Bool.Decides.{nat_tests}
 use Rattle.std.proofs.lemmas.List.Elements.{All-nil, All-cons, All-head}
@@ -7,14 +7,14 @@ use Rattle.osq_value.specs.declared.moment.TheConstants.{LAST_MOMENT}
 use Rattle.osq_value.specs.declared.value.Value.{Value}
 use Rattle.osq_value.specs.declared.value.Value.TheVariants.{Null}
 use Rattle.osq_value.specs.Catalogue.{columns_of, tables, width_of}
-use Rattle.sql_texts.proofs.KnownMeaning.{is_accepted-known, names_evented-known}
+use Rattle.sql_texts.proofs.KnownMeaning.{is_accepted-known, names_evented-known, names_table-known}
 use Rattle.pack_rules.specs.declared.schedule.QueryKey.{QueryKey}
 use Rattle.entry_model.specs.declared.entry.Entry.TheVariants.{Opened, Configured, Ticked, Appended, TableSet, Expired, Committed, Acked}
 use Rattle.entry_model.specs.Views.{is_evented_table, owed_floor}
 use Rattle.pack_rules.specs.Sound.{IsRunnable, IsSound}
 use Rattle.entry_model.proofs.Follows.{Legal-push}
 use Rattle.entry_model.specs.Legal.{IsEvent, Legal}
-use Rattle.entry_model.specs.Verdicts.{change, log, bare, started, one_change, five_changes, PlainVerdicts, asked, asking, before_batch, answer, answered, second, AskedVerdicts, Verdicts}
+use Rattle.entry_model.specs.Verdicts.{change, log, bare, started, one_change, five_changes, PlainVerdicts, asked, asking, before_batch, answer, answered, second, asking_first, answer_first, unread, AskedVerdicts, Verdicts}
 
 width_two : width_of 2 ≡ 10
 unfolding width_of columns_of tables
@@ -47,13 +47,13 @@ is_event = record { evented = refl; wide = sym width_two }
 
 started_legal : Legal started
 started_legal =
-    (refl, ((bare_sound, record { later = omega arith; calendar = omega arith }), ((record { later = omega arith; calendar = omega arith }, refl, λ table is. refl), tt)))
+    ((refl, inl refl), ((bare_sound, record { later = omega arith; calendar = omega arith }), ((record { later = omega arith; calendar = omega arith }, refl, λ table is. refl), tt)))
 
-configured_legal : Legal (Opened 1 ∷ Configured [] bare 1000 ∷ [])
-configured_legal = (refl, (started_legal.1.0, tt))
+opened_legal : Legal (Opened 1 1 ∷ [])
+opened_legal = ((refl, inl refl), tt)
 
-opened_legal : Legal (Opened 1 ∷ [])
-opened_legal = (refl, tt)
+configured_legal : Legal (Opened 1 1 ∷ Configured [] bare 1000 ∷ [])
+configured_legal = (opened_legal.0, (started_legal.1.0, tt))
 
 one_legal : Legal one_change
 one_legal =
@@ -64,6 +64,10 @@ five_legal =
     let all : All IsEvent (change ∷ change ∷ change ∷ change ∷ change ∷ []) = All-cons IsEvent change (change ∷ change ∷ change ∷ change ∷ []) is_event (All-cons IsEvent change (change ∷ change ∷ change ∷ []) is_event (All-cons IsEvent change (change ∷ change ∷ []) is_event (All-cons IsEvent change (change ∷ []) is_event (All-cons IsEvent change [] is_event (All-nil IsEvent))))) in
     Legal-push started (Appended log 460 (change ∷ change ∷ change ∷ change ∷ change ∷ []) 0 1000) started_legal (omega arith, refl, all, omega arith)
 
+neither : (rules : ℕ) → rules ≢ 1 → rules ≢ 2 → ¬ ((rules ≡ 1) ⊎ (rules ≡ 2))
+neither rules not_one not_two (inl one) = not_one one
+neither rules not_one not_two (inr two) = not_two two
+
 -- at a tick behind the change of a file, at which none is to expire at the one before
 ticked_legal : (moment : ℕ) → 1000 ≤ moment → moment ≤ LAST_MOMENT → Legal (one_change ++ Ticked moment ∷ [])
 ticked_legal moment later calendar =
@@ -72,9 +76,12 @@ ticked_legal moment later calendar =
 plain : PlainVerdicts
 plain = record {
   nothing = record { legal = tt; has = refl };
-  first_is_two = record { legal = tt; ends = λ h. (let k : 2 ≡ 1 = h.0 in omega (arith, k)) };
-  one_twice = record { legal = opened_legal; ends = λ h. (let k : 1 ≡ 2 = h.1.0 in omega (arith, k)) };
-  two_sessions = record { legal = (refl, (refl, tt)); has = refl };
+  first_is_two = record { legal = tt; ends = λ h. (let k : 2 ≡ 1 = h.0.0 in omega (arith, k)) };
+  one_twice = record { legal = opened_legal; ends = λ h. (let k : 1 ≡ 2 = h.1.0.0 in omega (arith, k)) };
+  rules_none = record { legal = tt; ends = λ h. neither 0 (λ k. omega (arith, k)) (λ k. omega (arith, k)) h.0.1 };
+  rules_two = record { legal = ((refl, inr refl), tt); has = refl };
+  rules_three = record { legal = tt; ends = λ h. neither 3 (λ k. omega (arith, k)) (λ k. omega (arith, k)) h.0.1 };
+  two_sessions = record { legal = ((refl, inl refl), ((refl, inl refl), tt)); has = refl };
   configured_back = record { legal = configured_legal; ends = λ h. (let k : 1000 ≤ 999 = h.1.1.0.1.later in omega (arith, k)) };
   ticked_back = record { legal = configured_legal; ends = λ h. (let k : 1000 ≤ 999 = h.1.1.0.0.later in omega (arith, k)) };
   past_9999 = record { legal = opened_legal; ends = λ h. (let k : 253402300800 ≤ LAST_MOMENT = h.1.0.1.calendar in omega (arith, k)) };
@@ -126,8 +133,8 @@ asking_sound = record {
 
 before_legal : Legal before_batch
 before_legal =
-    Legal-push (Opened 1 ∷ Configured [] asking 1000 ∷ Ticked 1000 ∷ []) (Appended log 184 (change ∷ change ∷ []) 0 1000)
-    (refl, ((asking_sound, record { later = omega arith; calendar = omega arith }), ((record { later = omega arith; calendar = omega arith }, refl, λ table is. refl), tt)))
+    Legal-push (Opened 1 1 ∷ Configured [] asking 1000 ∷ Ticked 1000 ∷ []) (Appended log 184 (change ∷ change ∷ []) 0 1000)
+    ((refl, inl refl), ((asking_sound, record { later = omega arith; calendar = omega arith }), ((record { later = omega arith; calendar = omega arith }, refl, λ table is. refl), tt)))
     (omega arith, refl, All-cons IsEvent change (change ∷ []) is_event (All-cons IsEvent change [] is_event (All-nil IsEvent)), omega arith)
 
 answered_legal : Legal answered
@@ -148,6 +155,43 @@ answered_legal =
 again_legal : (moment : ℕ) → 1000 ≤ moment → moment ≤ LAST_MOMENT → Legal (answered ++ Ticked moment ∷ [])
 again_legal moment later calendar =
     Legal-push answered (Ticked moment) answered_legal (record { later = later; calendar = calendar }, refl, each_evented (λ table. owed_floor answered table ≡ None) refl refl refl)
+
+-- the changes that the query has not read
+first_sound : IsSound (record asking { events_expiry = 30 })
+first_sound = record asking_sound { expiry_least = omega arith; expiry_most = omega arith }
+
+module _ (rules : ℕ) (are : (rules ≡ 1) ⊎ (rules ≡ 2)) where
+  first_legal : Legal (asking_first rules)
+  first_legal =
+      ((refl, are), ((first_sound, record { later = omega arith; calendar = omega arith }), ((record { later = omega arith; calendar = omega arith }, refl, λ table is. refl), tt)))
+
+  first_answered : Legal (asking_first rules ++ Committed (answer_first rules) ∷ [])
+  first_answered =
+      Legal-push (asking_first rules) (Committed (answer_first rules)) first_legal (record {
+        next = refl;
+        bound = omega arith;
+        due = (0, omega arith, refl);
+        within = omega arith;
+        current = refl;
+        lower = refl;
+        upper = refl;
+        now = refl;
+        answer = refl;
+      })
+
+  changed : Legal (asking_first rules ++ Committed (answer_first rules) ∷ Appended log 184 (change ∷ change ∷ []) 0 1000 ∷ [])
+  changed =
+      Legal-push (asking_first rules ++ Committed (answer_first rules) ∷ []) (Appended log 184 (change ∷ change ∷ []) 0 1000) first_answered
+      (omega arith, refl, All-cons IsEvent change (change ∷ []) is_event (All-cons IsEvent change [] is_event (All-nil IsEvent)), omega arith)
+
+  unread_legal : Legal (unread rules)
+  unread_legal =
+      Legal-push (asking_first rules ++ Committed (answer_first rules) ∷ Appended log 184 (change ∷ change ∷ []) 0 1000 ∷ []) (Ticked 1030) changed
+      (record { later = omega arith; calendar = omega arith }, refl, each_evented (λ table. owed_floor (asking_first rules ++ Committed (answer_first rules) ∷ Appended log 184 (change ∷ change ∷ []) 0 1000 ∷ []) table ≡ None) refl refl refl)
+
+-- by rules 2 they stay, since the query names their table
+unread_stay : owed_floor (unread 2) 2 ≡ None
+unread_stay = rw (names_table-known) refl
 
 not_among : (query : QueryKey) → ¬ Contains [] query
 not_among query h = let within : h.0 < 0 = h.1 in omega (arith, within)
@@ -196,6 +240,8 @@ asks = record {
     legal = Legal-push answered (Acked 1) answered_legal (omega arith, omega arith);
     ends = λ h. (let k : 1 < 1 = h.1.1.1.1.1.1.0.0 in omega (arith, k));
   };
+  gone_unread = Legal-push (unread 1) (Expired (record { 0 = 2 }) 2 1030) (unread_legal 1 (inl refl)) (refl, refl, refl);
+  not_gone_unread = record { legal = unread_legal 2 (inr refl); ends = λ h. (let k : None ≡ Some 2 = sym unread_stay ∙ h.1.1.1.1.1.1.0.1 in cc) };
 }
 
 pub verdicts : Verdicts

@@ -51,7 +51,7 @@ abbrev pub bare : Schedule
 bare = record { queries = []; events_expiry = 30; events_max = 3; form = form.Event }
 
 abbrev pub started : List Entry
-started = Opened 1 ∷ Configured [] bare 1000 ∷ Ticked 1000 ∷ []
+started = Opened 1 1 ∷ Configured [] bare 1000 ∷ Ticked 1000 ∷ []
 
 -- up to byte 92 of the log there was one change
 abbrev pub one_change : List Entry
@@ -70,12 +70,15 @@ gone_at moment = record one_value { position = 6; moment = moment; floors = 0 �
 -- sessions, moments, readings, tables, ticks, expiries and acknowledgements
 pub record PlainVerdicts : Type 0 where
   pub nothing : IsLegal [] no_values
-  pub first_is_two : IsLegalTo 0 (Opened 2 ∷ [])
-  pub one_twice : IsLegalTo 1 (Opened 1 ∷ Opened 1 ∷ [])
-  pub two_sessions : IsLegal (Opened 1 ∷ Opened 2 ∷ []) (record no_values { position = 2; sessions = 2 })
-  pub configured_back : IsLegalTo 2 (Opened 1 ∷ Configured [] bare 1000 ∷ Configured [] bare 999 ∷ [])
-  pub ticked_back : IsLegalTo 2 (Opened 1 ∷ Configured [] bare 1000 ∷ Ticked 999 ∷ [])
-  pub past_9999 : IsLegalTo 1 (Opened 1 ∷ Configured [] bare 253402300800 ∷ [])
+  pub first_is_two : IsLegalTo 0 (Opened 2 1 ∷ [])
+  pub one_twice : IsLegalTo 1 (Opened 1 1 ∷ Opened 1 1 ∷ [])
+  pub rules_none : IsLegalTo 0 (Opened 1 0 ∷ [])
+  pub rules_two : IsLegal (Opened 1 2 ∷ []) (record no_values { position = 1; sessions = 1 })
+  pub rules_three : IsLegalTo 0 (Opened 1 3 ∷ [])
+  pub two_sessions : IsLegal (Opened 1 1 ∷ Opened 2 1 ∷ []) (record no_values { position = 2; sessions = 2 })
+  pub configured_back : IsLegalTo 2 (Opened 1 1 ∷ Configured [] bare 1000 ∷ Configured [] bare 999 ∷ [])
+  pub ticked_back : IsLegalTo 2 (Opened 1 1 ∷ Configured [] bare 1000 ∷ Ticked 999 ∷ [])
+  pub past_9999 : IsLegalTo 1 (Opened 1 1 ∷ Configured [] bare 253402300800 ∷ [])
   pub a_change : IsLegal one_change one_value
   pub not_further : IsLegalTo 4 (one_change ++ Appended log 92 [] 0 1000 ∷ [])
   pub at_another_moment : IsLegalTo 3 (started ++ Appended log 92 [] 0 1001 ∷ [])
@@ -105,7 +108,7 @@ pub record PlainVerdicts : Type 0 where
     taken = record { source = log; offset = 460 } ∷ [];
   })
   pub one_too_many : IsLegalTo 4 (five_changes ++ Expired FILE_EVENTS 3 1000 ∷ [])
-  pub acked_unknown : IsLegalTo 1 (Opened 1 ∷ Acked 1 ∷ [])
+  pub acked_unknown : IsLegalTo 1 (Opened 1 1 ∷ Acked 1 ∷ [])
 
 abbrev pub asked : QueryKey
 asked = record { name = codes "q"; text = codes "SELECT * FROM file_events"; mode = Evented }
@@ -115,7 +118,7 @@ abbrev pub asking : Schedule
 asking = record { queries = record { key = asked; interval = 60 } ∷ []; events_expiry = 3600; events_max = 50000; form = form.Event }
 
 abbrev pub before_batch : List Entry
-before_batch = Opened 1 ∷ Configured [] asking 1000 ∷ Ticked 1000 ∷ Appended log 184 (change ∷ change ∷ []) 0 1000 ∷ []
+before_batch = Opened 1 1 ∷ Configured [] asking 1000 ∷ Ticked 1000 ∷ Appended log 184 (change ∷ change ∷ []) 0 1000 ∷ []
 
 -- the batch of the query that is cut after all of these entries
 abbrev pub answer : Batch
@@ -145,6 +148,16 @@ abbrev pub second : ℕ → Batch
 second moment =
     record { number = 2; query = asked; lo = 2; hi = 2; cut = 6; moment = moment; rows = meaning asked.text (view_of (answered ++ Ticked moment ∷ []) 2 moment) }
 
+-- two changes that came behind the query's batch, old at the second tick, in a session by these rules
+abbrev pub asking_first : ℕ → List Entry
+asking_first rules = Opened 1 rules ∷ Configured [] (record asking { events_expiry = 30 }) 1000 ∷ Ticked 1000 ∷ []
+
+abbrev pub answer_first : ℕ → Batch
+answer_first rules = record answer { hi = 0; cut = 3; rows = meaning asked.text (view_of (asking_first rules) 0 1000) }
+
+abbrev pub unread : ℕ → List Entry
+unread rules = asking_first rules ++ Committed (answer_first rules) ∷ Appended log 184 (change ∷ change ∷ []) 0 1000 ∷ Ticked 1030 ∷ []
+
 -- batches
 pub record AskedVerdicts : Type 0 where
   pub tick_while_due : IsLegalTo 4 (before_batch ++ Ticked 1060 ∷ [])
@@ -168,6 +181,8 @@ pub record AskedVerdicts : Type 0 where
   pub acked : IsLegal (answered ++ Acked 1 ∷ []) (record answered_value { position = 6; acked = 1 })
   pub acked_above : IsLegalTo 5 (answered ++ Acked 2 ∷ [])
   pub acked_again : IsLegalTo 6 (answered ++ Acked 1 ∷ Acked 1 ∷ [])
+  pub gone_unread : Legal (unread 1 ++ Expired FILE_EVENTS 2 1030 ∷ [])
+  pub not_gone_unread : IsLegalTo 6 (unread 2 ++ Expired FILE_EVENTS 2 1030 ∷ [])
 
 pub record Verdicts : Type 0 where
   pub plain : PlainVerdicts

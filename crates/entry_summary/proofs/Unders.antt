@@ -70,7 +70,7 @@ appended_next floor K source taken events skipped moment =
 
 -- each entry changes the values by itself, whatever stands in the list
 pub under_next : (floor : ℕ → ℕ) (K : List Entry) (e : Entry) → summary_under floor (K ++ e ∷ []) ≡ next_under floor (summary_under floor K) e
-under_next floor K (Opened session) = quiet_next floor K (Opened session) refl (opened_next_is K session)
+under_next floor K (Opened session rules) = quiet_next floor K (Opened session rules) refl (opened_next_is K session rules)
 under_next floor K (Configured document schedule moment) = quiet_next floor K (Configured document schedule moment) refl (configured_next_is K document schedule moment)
 under_next floor K (Ticked moment) = quiet_next floor K (Ticked moment) refl (ticked_next_is K moment)
 under_next floor K (Appended source taken events skipped moment) = appended_next floor K source taken events skipped moment

@@ -30,7 +30,7 @@ next_under floor r (Appended source taken events skipped moment) =
       taken = with_offset r.taken source taken;
     }
 next_under floor r (Expired table reached moment) = record r { position = r.position + 1 }
-next_under floor r (Opened session) = restored_next r (Opened session)
+next_under floor r (Opened session rules) = restored_next r (Opened session rules)
 next_under floor r (Configured document schedule moment) = restored_next r (Configured document schedule moment)
 next_under floor r (Ticked moment) = restored_next r (Ticked moment)
 next_under floor r (TableSet source table rows taken) = restored_next r (TableSet source table rows taken)

@@ -1,6 +1,6 @@
 -- An image goes with the values of a list.
 use Rattle.std.proofs.Common.{◌≡◌, ℕ, ◌+◌, ◌-◌, ◌<◌, ◌≤◌, ◌≢◌, Bool, true, false, cond, List, [], ◌∷◌, ◌++◌, length, set, get_or, refl, sym, ap, ◌∙◌, subst, arith}
-use Rattle.std.specs.Prelude.{filter, ◌==◌, ◌&&◌, not, nat_lt, nat_le, if◌then◌else◌, unwrap_or, Option, Some, None}
+use Rattle.std.specs.Prelude.{filter, ◌==◌, ◌&&◌, ◌||◌, not, nat_lt, nat_le, if◌then◌else◌, unwrap_or, Option, Some, None}
 use Rattle.std.proofs.lemmas.Bool.Decides.{nat_tests}
 use Rattle.std.proofs.lemmas.List.{get_or-set_same, get_or-set_other}
 use Rattle.std.proofs.lemmas.List.Elements.{filter-append}
@@ -11,8 +11,8 @@ use Rattle.entry_model.specs.declared.entry.Entry.{Entry}
 use Rattle.entry_model.specs.declared.entry.Entry.TheVariants.{Opened, Configured, Ticked, Appended, TableSet, Expired, Committed, Acked}
 use Rattle.entry_model.specs.declared.restored.Live.{Live}
 use Rattle.entry_model.specs.declared.restored.Restored.{Restored}
-use Rattle.entry_model.specs.Values.{schedule_of, moment_of, live_events}
-use Rattle.entry_model.specs.Views.{is_evented_table, is_recorded_table}
+use Rattle.entry_model.specs.Values.{last_of, schedule_of, moment_of, live_events, rules_of}
+use Rattle.entry_model.specs.Views.{is_evented_table, is_recorded_table, is_old, is_crowded_out, is_owed, reached_of}
 use Rattle.entry_model.specs.Legal.{LegalNext}
 use Rattle.entry_model.specs.Summary.{summary, recorded_tables}
 use Rattle.entry_model.specs.Next.{rows_at, restored_next}
@@ -130,7 +130,7 @@ holds_set r source table rows taken old count mine h = record {
 
 -- the values go with the entry as the image does
 pub holds_next : (r : Restored) (entry : Entry) (old new : Contents) → ((table : TableId) (source : List ℕ) (rows : List (List Value)) (taken : ℕ) → entry ≡ TableSet source table rows taken → is_recorded_table table.0 ≡ true) → IsImage old → Holds r old → Follows entry old new → Holds (restored_next r entry) new
-holds_next r (Opened session) old new may is h a = subst (Holds (restored_next r (Opened session))) (sym a) (record { last = h.last; floors = h.floors; live = h.live; rows = h.rows })
+holds_next r (Opened session rules) old new may is h a = subst (Holds (restored_next r (Opened session rules))) (sym a) (record { last = h.last; floors = h.floors; live = h.live; rows = h.rows })
 holds_next r (Configured document schedule moment) old new may is h a =
     subst (Holds (restored_next r (Configured document schedule moment))) (sym a) (record { last = h.last; floors = h.floors; live = h.live; rows = h.rows })
 holds_next r (Ticked moment) old new may is h a = subst (Holds (restored_next r (Ticked moment))) (sym a) (record { last = h.last; floors = h.floors; live = h.live; rows = h.rows })
@@ -147,11 +147,19 @@ sets_recorded K entry may table source rows taken is = (subst (LegalNext K) is m
 pub keeps_up : KeepsUp
 keeps_up K e old new legal may is h a = subst (λ r. Holds r new) (sym (next_is K legal e may)) (holds_next (summary K) e old new (sets_recorded K e may) is h a)
 
+-- by rules 2 the causes are those of the list
+pub owed_by_rules : (K : List Entry) (table : ℕ) → rules_of K ≡ 2 → owed_of (schedule_of K).events_expiry (schedule_of K).events_max (moment_of K) (reached_of K table) (live_events K table) ≡ last_of (λ (event : Live). Some (Some event.number)) None (filter (is_owed K table) (live_events K table))
+owed_by_rules K table rules =
+    λ i. last_of (λ (event : Live). Some (Some event.number)) None (filter (λ (event : Live). is_old K event && (not (sym rules i == 2) || nat_le event.number (reached_of K table)) || is_crowded_out K table event) (live_events K table))
+
 pub values : Values
 values K image legal h = record {
   last = h.last;
   floor = λ table is. ap (λ (floors : List ℕ). get_or floors table 0) h.floors ∙ floor_is K legal table;
   live = h.live;
   rows = λ table is. h.rows table is ∙ ap (λ (o : Option (List (List Value))). unwrap_or o []) (set_is K legal table);
-  owed = λ table is ticked. ap (owed_of (schedule_of K).events_expiry (schedule_of K).events_max (moment_of K)) (h.live table is) ∙ sym (ap (λ (b : Bool). cond b (owed_of (schedule_of K).events_expiry (schedule_of K).events_max (moment_of K) (live_events K table)) None) ticked);
+  owed = λ table is ticked rules.
+      ap (owed_of (schedule_of K).events_expiry (schedule_of K).events_max (moment_of K) (reached_of K table)) (h.live table is)
+      ∙ owed_by_rules K table rules
+      ∙ sym (ap (λ (b : Bool). cond b (last_of (λ (event : Live). Some (Some event.number)) None (filter (is_owed K table) (live_events K table))) None) ticked);
 }

@@ -133,6 +133,6 @@ kept_restored in_order latest r h floors order = record {
         subst (IsInOrder 0 latest) (sym (live_is r table lt)) (order_filter (λ (e : Live). e.table.0 == table) 0 latest r.live (order so))
 
 -- what is owed is above the floor of the table
-pub owed_moves : (in_order : Bool) (latest expiry max moment table : ℕ) (image : Contents) → IsKept in_order latest image → is_evented_table table ≡ true → IfSome (owed_of expiry max moment (live_at image table)) (λ (floor : ℕ). (floor_at image table < floor) × (floor ≤ image.last))
-owed_moves in_order latest expiry max moment table image h is =
-    owed_among (λ (floor : ℕ). (floor_at image table < floor) × (floor ≤ image.last)) expiry max moment (live_at image table) (λ k d within. (h.floors.above table is k d within, (h.image.live table).known k d within))
+pub owed_moves : (in_order : Bool) (latest expiry max moment reached table : ℕ) (image : Contents) → IsKept in_order latest image → is_evented_table table ≡ true → IfSome (owed_of expiry max moment reached (live_at image table)) (λ (floor : ℕ). (floor_at image table < floor) × (floor ≤ image.last))
+owed_moves in_order latest expiry max moment reached table image h is =
+    owed_among (λ (floor : ℕ). (floor_at image table < floor) × (floor ≤ image.last)) expiry max moment reached (live_at image table) (λ k d within. (h.floors.above table is k d within, (h.image.live table).known k d within))

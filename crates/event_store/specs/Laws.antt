@@ -3,8 +3,8 @@ use Rattle.std.specs.Prelude.{◌≡◌, ℕ, true, List, [], ◌∷◌, ◌++�
 use Rattle.osq_value.specs.declared.value.TheConstants.TableId.{TIME, OSQUERY_SCHEDULE, OSQUERY_EVENTS}
 use Rattle.entry_model.specs.declared.entry.Entry.{Entry}
 use Rattle.entry_model.specs.declared.entry.Entry.TheVariants.{Opened, Configured, Ticked, Appended, TableSet, Expired, Committed, Acked}
-use Rattle.entry_model.specs.Values.{last_number, floor_of, live_events, table_set, schedule_of, has_ticked, moment_of}
-use Rattle.entry_model.specs.Views.{is_evented_table, is_recorded_table, view_of, owed_floor}
+use Rattle.entry_model.specs.Values.{last_number, floor_of, live_events, table_set, schedule_of, has_ticked, moment_of, rules_of}
+use Rattle.entry_model.specs.Views.{is_evented_table, is_recorded_table, view_of, reached_of, owed_floor}
 use Rattle.entry_model.specs.Legal.{LegalNext, Legal}
 use Rattle.entry_model.specs.Summary.{summary}
 use Rattle.event_store.specs.Owed.{owed_of}
@@ -17,7 +17,7 @@ StandsFor entries image = Holds (summary entries) image
 
 -- the image changes as the entry says: only these three change it
 abbrev pub Follows : Entry → Contents → Contents → Type 0
-Follows (Opened session) old new = new ≡ old
+Follows (Opened session rules) old new = new ≡ old
 Follows (Configured document schedule moment) old new = new ≡ old
 Follows (Ticked moment) old new = new ≡ old
 Follows (Appended source taken events skipped moment) old new = Appends old events moment new
@@ -37,7 +37,7 @@ pub record HasValues (entries : List Entry) (image : Contents) : Type 0 where
   pub floor : (table : ℕ) → is_evented_table table ≡ true → floor_at image table ≡ floor_of entries table
   pub live : (table : ℕ) → is_evented_table table ≡ true → live_at image table ≡ live_events entries table
   pub rows : (table : ℕ) → is_recorded_table table ≡ true → rows_set image table ≡ unwrap_or (table_set entries table) []
-  pub owed : (table : ℕ) → is_evented_table table ≡ true → has_ticked entries ≡ true → owed_of (schedule_of entries).events_expiry (schedule_of entries).events_max (moment_of entries) (live_at image table) ≡ owed_floor entries table
+  pub owed : (table : ℕ) → is_evented_table table ≡ true → has_ticked entries ≡ true → rules_of entries ≡ 2 → owed_of (schedule_of entries).events_expiry (schedule_of entries).events_max (moment_of entries) (reached_of entries table) (live_at image table) ≡ owed_floor entries table
 
 abbrev pub Values : Type 0
 Values = (entries : List Entry) (image : Contents) → Legal entries → StandsFor entries image → HasValues entries image

@@ -1,5 +1,5 @@
 -- Which events of a table are to expire.
-use Rattle.std.specs.Prelude.{ℕ, ◌-◌, Bool, ◌||◌, nat_lt, nat_le, List, filter, count_by, Option, Some, None}
+use Rattle.std.specs.Prelude.{ℕ, ◌-◌, Bool, ◌&&◌, ◌||◌, nat_lt, nat_le, List, filter, count_by, Option, Some, None}
 use Rattle.entry_model.specs.declared.restored.Live.{Live}
 use Rattle.entry_model.specs.Values.{last_of}
 
@@ -11,10 +11,11 @@ is_aged expiry moment event = nat_le expiry (moment - event.moment)
 abbrev pub is_crowded : ℕ → List Live → Live → Bool
 is_crowded max events event = nat_le max (count_by (λ (other : Live). nat_lt event.number other.number) events)
 
-abbrev pub must_go : ℕ → ℕ → ℕ → List Live → Live → Bool
-must_go expiry max moment events event = is_aged expiry moment event || is_crowded max events event
+-- what was appended long ago goes where its number has been reached, and what is crowded out goes in any case
+abbrev pub must_go : ℕ → ℕ → ℕ → ℕ → List Live → Live → Bool
+must_go expiry max moment reached events event = is_aged expiry moment event && nat_le event.number reached || is_crowded max events event
 
 -- the number of the last event that must go, if one must
-abbrev pub owed_of : ℕ → ℕ → ℕ → List Live → Option ℕ
-owed_of expiry max moment events =
-    last_of (λ (event : Live). Some (Some event.number)) None (filter (must_go expiry max moment events) events)
+abbrev pub owed_of : ℕ → ℕ → ℕ → ℕ → List Live → Option ℕ
+owed_of expiry max moment reached events =
+    last_of (λ (event : Live). Some (Some event.number)) None (filter (must_go expiry max moment reached events) events)

@@ -12,7 +12,7 @@ ghost use Rattle.event_store.specs.Orders.{IsInOrder};
 ghost use Rattle.event_store.specs.Owed.{owed_of};
 
 use crate::loading::restore;
-use crate::owed::floor_owed;
+use crate::owed::{Limits, floor_owed};
 use crate::segments::Segments;
 use crate::steps::Steps;
 use entry_model::restored::Live;
@@ -117,21 +117,14 @@ impl Events {
         })
     }
 
-    /// The number of the last event of the table that must go: one that is `expiry` seconds old at the moment, or after
-    /// which come as many as may be kept. Where the moments are in order it looks at no more than one event that may stay.
-    pub(crate) fn floor_owed(
-        &self,
-        table: usize,
-        in_order: bool,
-        expiry: u64,
-        max: u64,
-        moment: u64,
-    ) -> Option<u64>
+    /// The number of the last event of the table that must go: one that is old and has been reached, or after which come as
+    /// many as may be kept. Where the moments are in order it looks at no more than one event that may stay.
+    pub(crate) fn floor_owed(&self, table: usize, in_order: bool, limits: Limits) -> Option<u64>
         requires table { table < 3 }
         requires rising { IsRisingFrom 0 (slice_index_or self.now.live table []) }
         requires order { in_order ≡ true → (latest : ℕ) × IsInOrder 0 latest (slice_index_or self.now.live table []) }
-        ensures { result ≡ owed_of expiry max moment (slice_index_or self.now.live table []) }
+        ensures { result ≡ owed_of limits.expiry limits.max limits.moment limits.reached (slice_index_or self.now.live table []) }
     {
-        floor_owed(&self.segments, table, in_order, expiry, max, moment)
+        floor_owed(&self.segments, table, in_order, limits)
     }
 }

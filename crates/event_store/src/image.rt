@@ -13,7 +13,7 @@ ghost use Rattle.event_store.specs.Changes.{Appends, with_table, Expires};
 ghost use Rattle.event_store.specs.declared.image.StoreError.{StoreError};
 
 use crate::events::Events;
-use crate::owed::order_of;
+use crate::owed::{Limits, order_of};
 use crate::recorded::{FIRST, add_computed, copy_sets, no_rows, share_tables};
 use crate::shared::SharedRows;
 use crate::slice::{EventSlice, SharedEvents};
@@ -232,13 +232,27 @@ impl Image {
     }
 
     /// Up to which number the events of an evented table are to expire: the greatest number of one that is `expiry`
-    /// seconds old at the moment, or after which come `max` of the table. None exactly where there is no such event.
-    pub fn floor_owed(&self, table: TableId, expiry: u64, max: u64, moment: u64) -> Option<u64>
+    /// seconds old at the moment and has at most the number `reached`, or after which come `max` of the table. None exactly
+    /// where there is no such event. It takes no memory.
+    pub fn floor_owed(
+        &self,
+        table: TableId,
+        expiry: u64,
+        max: u64,
+        moment: u64,
+        reached: u64,
+    ) -> Option<u64>
         requires { is_evented_table table.0 ≡ true }
-        ensures owed { result ≡ owed_of expiry max moment (live_at self.now table.0) }
+        ensures owed { result ≡ owed_of expiry max moment reached (live_at self.now table.0) }
         ensures moves { IfSome result (λ floor. (floor_at self.now table.0 < floor) × (floor ≤ self.now.last)) }
     {
+        let limits = Limits {
+            expiry,
+            max,
+            moment,
+            reached,
+        };
         self.events
-            .floor_owed(table.0 as usize, self.in_order, expiry, max, moment)
+            .floor_owed(table.0 as usize, self.in_order, limits)
     }
 }

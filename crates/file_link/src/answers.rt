@@ -3,14 +3,8 @@
 ghost use Rattle.std.specs.Prelude.{◌≡◌, ◌≤◌, ◌<◌, length, IfOk, OnOk, vec_len};
 
 use osq_value::{Bytes, NoMemory};
-use record_lines::{Cut, LineCutter};
+use record_lines::{Cut, LINE_LIMIT, LineCutter, PIECE_BYTES};
 use std::alloc::{AllocError, Global};
-
-/// The most bytes of a line: an answer has a host of 255 bytes at most, and a few numbers and digests.
-const LINE_LIMIT: u64 = 65_536;
-
-/// One read takes at most so many bytes.
-const PIECE_BYTES: u64 = 65_536;
 
 /// The lines of what was read so far, and how much is still to be read.
 #[derive(Drop)]
@@ -54,7 +48,7 @@ impl AnswerLines {
     pub(crate) fn room(&self) -> Result<Vec<u8>, AllocError>
         ensures { IfOk result (λ piece. vec_len piece ≤ self.now.left) }
     {
-        vec![in self.alloc; 0u8; self.left.min(PIECE_BYTES) as usize]
+        vec![in self.alloc; 0u8; self.left.min(PIECE_BYTES as u64) as usize]
     }
 
     /// Takes a piece that was read. An empty one is the end, also before the size that was told. Where memory is wanting for a piece no further

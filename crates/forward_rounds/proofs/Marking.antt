@@ -11,7 +11,7 @@ use Rattle.event_store.specs.Contents.{live_at}
 use Rattle.event_store.specs.Owed.{owed_of}
 use Rattle.session_state.specs.Kept.{Counts, Kept}
 use Rattle.session_state.specs.StateOf.{Adds}
-use Rattle.session_state.specs.Ticks.{first_due, owed_at}
+use Rattle.session_state.specs.Ticks.{first_due, owed_at, reached_by}
 use Rattle.session_model.specs.Working.{marks_beyond}
 use Rattle.daemon_rounds.specs.Adding.{AddsEntries, counts_after}
 use Rattle.batch_forwarder.specs.Polling.{AreMarks}
@@ -103,7 +103,7 @@ module _ (old new : Kept) (marks : List ℕ) (adds : AddsEntries old (map Acked 
   due_stays = λ i. if ticked i then cursors.first_due (runs i) (schedule i).queries (moment i) else None
 
   pub owed_stays : new.image ≡ old.image → (table : ℕ) → owed_at new table ≡ owed_at old table
-  owed_stays image table = λ i. if ticked i then owed_of (schedule i).events_expiry (schedule i).events_max (moment i) (live_at (image i) table) else None
+  owed_stays image table = λ i. if ticked i then owed_of (schedule i).events_expiry (schedule i).events_max (moment i) (reached_by (runs i) (schedule i).queries (image i).last table) (live_at (image i) table) else None
 
 pub acks_tellable : (marks : List ℕ) → AreTellable (map Acked marks)
 acks_tellable [] = tt

@@ -30,7 +30,7 @@ numbered_next K e legal h may = subst (Numbered 1) (sym (commits-append K (e ∷
     quiet = subst (Numbered 1) (sym (append-nil (commits K))) h
 
     by : (e : Entry) → LegalNext K e → Numbered 1 (commits K ++ commits (e ∷ []))
-    by (Opened session) may = quiet
+    by (Opened session rules) may = quiet
     by (Configured document schedule moment) may = quiet
     by (Ticked moment) may = quiet
     by (Appended source taken events skipped moment) may = quiet
@@ -77,7 +77,7 @@ committed_at : (entries : List Entry) (k : ℕ) (b : Batch) → slice_get (commi
 committed_at [] k b e = absurd (cc)
 committed_at (Committed c ∷ es) zero b e = let here : c ≡ b = cc in record { before = []; after = es; are = ap (λ (x : Batch). Committed x ∷ es) here }
 committed_at (Committed c ∷ es) (suc k) b e = with_first (Committed c) es b (committed_at es k b e)
-committed_at (Opened session ∷ es) k b e = with_first (Opened session) es b (committed_at es k b e)
+committed_at (Opened session rules ∷ es) k b e = with_first (Opened session rules) es b (committed_at es k b e)
 committed_at (Configured document schedule moment ∷ es) k b e = with_first (Configured document schedule moment) es b (committed_at es k b e)
 committed_at (Ticked moment ∷ es) k b e = with_first (Ticked moment) es b (committed_at es k b e)
 committed_at (Appended source taken events skipped moment ∷ es) k b e = with_first (Appended source taken events skipped moment) es b (committed_at es k b e)

@@ -18,7 +18,7 @@ kept_cursor query cursor batch rest true = refl
 kept_cursor query cursor batch rest false = refl
 
 pub cursor_from-cons : (query : QueryKey) (cursor : ℕ) (entry : Entry) (entries : List Entry) → cursor_from query cursor (entry ∷ entries) ≡ cursor_from query (cursor_after query cursor entry) entries
-cursor_from-cons query cursor (Opened session) entries = refl
+cursor_from-cons query cursor (Opened session rules) entries = refl
 cursor_from-cons query cursor (Configured document schedule moment) entries = refl
 cursor_from-cons query cursor (Ticked moment) entries = refl
 cursor_from-cons query cursor (Appended source taken events skipped moment) entries = refl

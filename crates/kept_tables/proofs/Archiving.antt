@@ -47,7 +47,7 @@ numbered_next K e legal h may = subst (Numbered 1) (sym (commits-append K (e ∷
     quiet = subst (Numbered 1) (sym (append-nil (commits K))) h
 
     by : (e : Entry) → LegalNext K e → Numbered 1 (commits K ++ commits (e ∷ []))
-    by (Opened session) may = quiet
+    by (Opened session rules) may = quiet
     by (Configured document schedule moment) may = quiet
     by (Ticked moment) may = quiet
     by (Appended source taken events skipped moment) may = quiet
@@ -196,7 +196,7 @@ module _ (K : List Entry) (legal : Legal K) (a : Archive) (h : Archives a K) whe
       }
 
   archive_next : (e : Entry) → LegalNext K e → (counts : Counts) → Archives (all_archived a (edits_of counts e)) (K ++ e ∷ [])
-  archive_next (Opened session) may counts = same_archive K (Opened session) a refl refl h
+  archive_next (Opened session rules) may counts = same_archive K (Opened session rules) a refl refl h
   archive_next (Configured document schedule moment) may counts = same_archive K (Configured document schedule moment) a refl refl h
   archive_next (Ticked moment) may counts = same_archive K (Ticked moment) a refl refl h
   archive_next (Expired table floor moment) may counts = same_archive K (Expired table floor moment) a refl refl h

@@ -116,7 +116,7 @@ low_floor : (K : List Entry) → Legal K → (table floor : ℕ) → floor_of K 
 low_floor K legal table floor rises = let is = floor_is K legal table in omega (arith, is, rises)
 
 rows_after : (K : List Entry) → Legal K → (e : Entry) → LegalNext K e → IsHeldEntry e → (counts : Counts) → counts.last ≡ last_number K → (kept : Kept) → KeepsRows kept (summary K) → KeepsRows (all_made kept (edits_of counts e)) (restored_next (summary K) e)
-rows_after K legal (Opened session) may held counts at kept h = record { live = h.live; taken = h.taken; held = h.held; tables = h.tables; runs = h.runs }
+rows_after K legal (Opened session rules) may held counts at kept h = record { live = h.live; taken = h.taken; held = h.held; tables = h.tables; runs = h.runs }
 rows_after K legal (Configured document schedule moment) may held counts at kept h = record { live = h.live; taken = h.taken; held = h.held; tables = h.tables; runs = h.runs }
 rows_after K legal (Ticked moment) may held counts at kept h = record { live = h.live; taken = h.taken; held = h.held; tables = h.tables; runs = h.runs }
 rows_after K legal (Acked upto) may held counts at kept h = record { live = h.live; taken = h.taken; held = h.held; tables = h.tables; runs = h.runs }
@@ -149,7 +149,7 @@ rows_after K legal (Committed batch) may held counts at kept h =
     (record { live = h.live; taken = h.taken; held = h.held; tables = h.tables; runs = ap (λ (rs : List Run). with_batch rs batch.query batch.number batch.hi batch.moment) h.runs })
 
 counts_now : (counts : Counts) (r : Restored) (e : Entry) → ShowsCounts counts r → ShowsCounts (counts_after (next counts) e) (restored_next r e)
-counts_now counts r (Opened session) h = record { position = ap (λ (n : ℕ). n + 1) h.position; sessions = ap (λ (n : ℕ). n + 1) h.sessions; moment = h.moment; last = h.last; floors = h.floors; batches = h.batches; acked = h.acked }
+counts_now counts r (Opened session rules) h = record { position = ap (λ (n : ℕ). n + 1) h.position; sessions = ap (λ (n : ℕ). n + 1) h.sessions; moment = h.moment; last = h.last; floors = h.floors; batches = h.batches; acked = h.acked }
 counts_now counts r (Configured document schedule moment) h = record { position = ap (λ (n : ℕ). n + 1) h.position; sessions = h.sessions; moment = refl; last = h.last; floors = h.floors; batches = h.batches; acked = h.acked }
 counts_now counts r (Ticked moment) h = record { position = ap (λ (n : ℕ). n + 1) h.position; sessions = h.sessions; moment = refl; last = h.last; floors = h.floors; batches = h.batches; acked = h.acked }
 counts_now counts r (Appended source taken events skipped moment) h = record { position = ap (λ (n : ℕ). n + 1) h.position; sessions = h.sessions; moment = h.moment; last = ap (λ (n : ℕ). n + length events) h.last; floors = h.floors; batches = h.batches; acked = h.acked }

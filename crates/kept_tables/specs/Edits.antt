@@ -149,7 +149,7 @@ next counts = record counts { position = counts.position + 1 }
 
 -- the statements of an entry, by the counts at it
 abbrev pub edits_of : Counts → Entry → List Edit
-edits_of counts (Opened session) = []
+edits_of counts (Opened session rules) = []
 edits_of counts (Configured document schedule moment) = add_configured counts.position ∷ []
 edits_of counts (Ticked moment) = []
 edits_of counts (Appended source taken events skipped moment) =
@@ -161,7 +161,7 @@ edits_of counts (Acked upto) = acknowledge upto ∷ []
 
 -- the counts behind an entry, by those at it
 abbrev pub counts_after : Counts → Entry → Counts
-counts_after counts (Opened session) = record counts { sessions = counts.sessions + 1 }
+counts_after counts (Opened session rules) = record counts { sessions = counts.sessions + 1 }
 counts_after counts (Configured document schedule moment) = record counts { moment = moment }
 counts_after counts (Ticked moment) = record counts { moment = moment }
 counts_after counts (Appended source taken events skipped moment) = record counts { last = counts.last + length events }

@@ -141,7 +141,10 @@ impl Sealing {
         ensures { OnOk result (self.new ≡ at_entry self.old entry.now) }
     {
         match entry {
-            Entry::Opened { session: _ } => self.open_session(),
+            Entry::Opened {
+                session: _,
+                rules: _,
+            } => self.open_session(),
             Entry::Configured {
                 document: _,
                 schedule: _,

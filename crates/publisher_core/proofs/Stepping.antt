@@ -8,7 +8,8 @@ use Rattle.osq_value.specs.declared.source.SourceKind.{SourceKind}
 use Rattle.osq_value.specs.declared.source.SourceKind.TheVariants.{Audit, Changes, Tables}
 use Rattle.publisher_core.specs.Readings.{joined, readings_of}
 use Rattle.publisher_core.specs.Standing.{Reader, HasPublished}
-use Rattle.publisher_core.specs.Stepping.{GrowsBy, IsDry, SameSource, Reads, UnderWay, Steps, STEP_BYTES}
+use Rattle.record_lines.specs.Limits.{STEP_BYTES}
+use Rattle.publisher_core.specs.Stepping.{GrowsBy, IsDry, SameSource, Reads, UnderWay, Steps}
 
 -- before the first record
 pub begun : (tells : Type 0) (left : List ℕ) (reader : Reader) (given : List ReadRecord) (start : ℕ) (stream : List ℕ) → HasPublished reader given start stream → UnderWay tells left left reader given start stream [] 0

@@ -9,7 +9,7 @@ use Rattle.publisher_core.specs.declared.gathering.AuditRecord.{AuditRecord}
 use Rattle.publisher_core.specs.declared.record.Gain.TheVariants as gain
 use Rattle.publisher_core.specs.declared.record.ReadRecord.{ReadRecord}
 use Rattle.publisher_core.specs.AuditParts.{Item, AreRecordsOf}
-use Rattle.publisher_core.specs.Records.{LINE_LIMIT}
+use Rattle.record_lines.specs.Limits.{LINE_LIMIT}
 
 -- the line, where it is in the grammar and no longer than a line may be
 abbrev pub line_in : List ℕ → Option AuditLine

@@ -20,10 +20,7 @@ use Rattle.publisher_core.specs.declared.record.Gain.{Gain}
 use Rattle.publisher_core.specs.declared.record.Gain.TheVariants as gain
 use Rattle.publisher_core.specs.declared.record.ReadRecord.{ReadRecord}
 
--- a line has at most so many bytes; a longer one is skipped
-abbrev pub LINE_LIMIT : ℕ
-LINE_LIMIT = 65536
-
+-- a table line has at most so many bytes; a longer one is skipped
 abbrev pub TABLE_LIMIT : ℕ
 TABLE_LIMIT = 16777216
 

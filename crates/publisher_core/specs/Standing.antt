@@ -13,7 +13,8 @@ use Rattle.publisher_core.specs.declared.record.ReadRecord.{ReadRecord}
 use Rattle.publisher_core.specs.AuditParts.{AreRecordsOf}
 use Rattle.publisher_core.specs.Gathered as gathered
 use Rattle.publisher_core.specs.Audit.{items_of, AuditGives, IsPieceOf}
-use Rattle.publisher_core.specs.Records.{LINE_LIMIT, TABLE_LIMIT, ended, HaveNoFeed, LinesGive, ChangeGives, TableGives}
+use Rattle.record_lines.specs.Limits.{LINE_LIMIT}
+use Rattle.publisher_core.specs.Records.{TABLE_LIMIT, ended, HaveNoFeed, LinesGive, ChangeGives, TableGives}
 
 -- what contracts see of a publisher
 pub record Reader : Type 0 where

@@ -15,14 +15,6 @@ use Rattle.publisher_core.specs.declared.record.Next.{Next}
 use Rattle.publisher_core.specs.declared.record.Next.TheVariants as next
 use Rattle.publisher_core.specs.Standing.{Reader, HasPublished}
 
--- a step ends once it has read so many bytes
-abbrev pub STEP_BYTES : ℕ
-STEP_BYTES = 16777216
-
--- one read takes at most so many
-abbrev pub PIECE_BYTES : ℕ
-PIECE_BYTES = 65536
-
 -- The lines that are held stand behind all records: in an audit log they have the last group of the lines, which may go on; of other
 -- sources no line is held.
 abbrev pub HoldsLast : SourceKind → ℕ → List (List ℕ) → List (List ℕ) → Type 0

@@ -3,7 +3,8 @@
 ghost use Rattle.std.specs.Prelude.{◌≡◌, ℕ, List, IfOk};
 ghost use Rattle.record_lines.specs.Lines.{cut_of};
 ghost use Rattle.publisher_core.specs.Audit.{line_in};
-ghost use Rattle.publisher_core.specs.Records.{ChangeGives, TableGives, skipped_line, LINE_LIMIT, TABLE_LIMIT};
+ghost use Rattle.record_lines.specs.Limits.{LINE_LIMIT};
+ghost use Rattle.publisher_core.specs.Records.{ChangeGives, TableGives, skipped_line, TABLE_LIMIT};
 
 use crate::record::{Gain, Record};
 use crate::subscription::{Callback, Subscription};
@@ -13,9 +14,6 @@ use json::Scratch;
 use osq_value::{NoMemory, Reading};
 use record_lines::Cut;
 use std::alloc::Global;
-
-/// A line of an audit log or of changes has at most so many bytes. A longer one is skipped.
-pub const LINE_LIMIT: u64 = 65_536;
 
 /// A table line has at most so many bytes.
 pub const TABLE_LIMIT: u64 = 16_777_216;

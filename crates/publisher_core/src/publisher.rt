@@ -2,12 +2,12 @@
 
 ghost use Rattle.std.specs.Prelude.{◌≡◌, ◌≢◌, ◌≤◌, ◌<◌, ◌+◌, ◌⊎◌, ℕ, [], ◌∷◌, ◌++◌, length, List, true, false, Ok, Err, IfOk, OnOk, IfErr, MatchOption, vec_len};
 ghost use Rattle.osq_outside.specs.Causes.{FaultHasCause};
-ghost use Rattle.publisher_core.specs.Stepping.{Goes, Grows, GrowsBy, IsDry, TakesCut, SameSource, Reads, Steps, STEP_BYTES, PIECE_BYTES};
+ghost use Rattle.record_lines.specs.Limits.{LINE_LIMIT, PIECE_BYTES, STEP_BYTES};
+ghost use Rattle.publisher_core.specs.Stepping.{Goes, Grows, GrowsBy, IsDry, TakesCut, SameSource, Reads, Steps};
 ghost use Rattle.publisher_core.specs.Readings.{readings_of};
 ghost use Rattle.publisher_core.specs.Standing.{Reader, HasPublished, is_at_end, limit_of};
 ghost use Rattle.publisher_core.specs.Audit.{IsPieceOf, line_in, event_in};
 ghost use Rattle.publisher_core.specs.Gathered.{Takes};
-ghost use Rattle.publisher_core.specs.Records.{LINE_LIMIT};
 ghost use Rattle.record_lines.specs.Lines.{cut_of};
 ghost use Rattle.publisher_core.specs.declared.error.StepError.{StepError};
 ghost use Rattle.publisher_core.specs.declared.record.ReadRecord.{ReadRecord};
@@ -15,7 +15,7 @@ ghost use Rattle.publisher_core.specs.declared.record.Next.{Next};
 
 use crate::error::StepError;
 use crate::gathering::{AuditRecord, Gathering};
-use crate::line::{LINE_LIMIT, TABLE_LIMIT, audit_line, change_gain, table_gain};
+use crate::line::{TABLE_LIMIT, audit_line, change_gain, table_gain};
 use crate::readings::readings_of;
 use crate::record::{Gain, Next, ReadRecord, ReadRecordList, Record};
 use crate::subscription::{Callback, Subscription};
@@ -23,16 +23,10 @@ use audit_records::AuditGroup;
 use json::Scratch;
 use osq_outside::{Source, SourceFault};
 use osq_value::{Event, NoMemory, ReadingList, SourceKind, Str};
-use record_lines::{Cut, LineCutter};
+use record_lines::{Cut, LINE_LIMIT, LineCutter, PIECE_BYTES, STEP_BYTES};
 use std::alloc::{AllocError, Global};
 use std::collections::VecDeque;
 use std::marker::Model;
-
-/// A step ends once it has read so many bytes.
-pub const STEP_BYTES: u64 = 16_777_216;
-
-/// One read takes at most so many bytes.
-pub const PIECE_BYTES: usize = 65_536;
 
 /// Reads one source, record by record, and gives what a callback makes of them.
 ///
@@ -63,7 +57,7 @@ pub struct Publisher<C> {
 impl<C> Model for Publisher<C> {
     ghost use Rattle.std.specs.Prelude.{◌≡◌, vec_len};
     ghost use Rattle.publisher_core.specs.Standing.{Reader};
-    ghost use Rattle.publisher_core.specs.Stepping.{PIECE_BYTES};
+    ghost use Rattle.record_lines.specs.Limits.{PIECE_BYTES};
 
     ghost Value = { Reader };
 

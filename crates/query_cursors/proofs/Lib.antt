@@ -3,3 +3,4 @@ pub mod Placing
 pub mod Seeking
 pub mod Noting
 pub mod Knowing
+pub mod Least

@@ -1,5 +1,6 @@
 -- Where the queries of a schedule have their runs.
 use Rattle.std.specs.Prelude.{ℕ, if◌then◌else◌, List, length, map, set, slice_get, Option, Some, None, unwrap_or}
+use Rattle.std.specs.Option.{option_map_or}
 use Rattle.pack_rules.specs.declared.schedule.QueryKey.{QueryKey}
 use Rattle.pack_rules.specs.declared.schedule.Scheduled.{Scheduled}
 use Rattle.entry_model.specs.declared.restored.Run.{Run}
@@ -27,6 +28,10 @@ reserved_of c = record { runs = c.runs; room = c.room }
 -- the run at the place that the query at this place of the schedule has
 abbrev pub placed_run : Indexed → ℕ → Option Run
 placed_run c at = run_at c.runs (unwrap_or (slice_get c.places at) None)
+
+-- up to which number the query at this place of the schedule has read the events
+abbrev pub cursor_at : Indexed → ℕ → ℕ
+cursor_at c at = option_map_or (λ (run : Run). run.hi) (placed_run c at) 0
 
 -- the places after a batch of the query at this place of the schedule: a first one makes a run behind the others
 abbrev pub places_noted : Indexed → ℕ → QueryKey → List (Option ℕ)

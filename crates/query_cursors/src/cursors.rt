@@ -1,11 +1,12 @@
 //! The last batches of queries, and which query comes next.
 
-ghost use Rattle.std.specs.Prelude.{◌≡◌, ◌<◌, ◌≤◌, ◌^◌, All, OnOk, OnErr, IfOk, IfSome, [], false, length, find, max, set, slice_get, unwrap_or, Some, None, option_copied};
+ghost use Rattle.std.specs.Prelude.{◌≡◌, ◌<◌, ◌≤◌, ◌^◌, All, OnOk, OnErr, IfOk, IfSome, [], false, length, find, map, max, set, slice_get, unwrap_or, Some, None, option_copied};
 ghost use Rattle.std.specs.Option.{option_map_or};
 ghost use Rattle.pack_rules.specs.Keys.{same_key};
 ghost use Rattle.entry_model.specs.Reserved.{HaveOwnKeys, has_run, noted, place_of};
+ghost use Rattle.entry_model.specs.Views.{least_of, lesser};
 ghost use Rattle.query_cursors.specs.Due.{run_of, first_due, first_free, NoneFree, next_of, cursor_of, number_of};
-ghost use Rattle.query_cursors.specs.Places.{places_of, run_at, reserved_of, placed_run, places_noted};
+ghost use Rattle.query_cursors.specs.Places.{places_of, run_at, reserved_of, placed_run, cursor_at, places_noted};
 
 use crate::index::find_places;
 use crate::interval::due;
@@ -56,6 +57,26 @@ fn number_in(run: Option<&Run>) -> u64
     match run {
         None => 0,
         Some(run) => run.number,
+    }
+}
+
+/// The end of the run, 0 where there is none.
+fn end_in(run: Option<&Run>) -> u64
+    ensures { result ≡ option_map_or (λ run. run.hi) (option_copied run.entry) 0 }
+{
+    match run {
+        None => 0,
+        Some(run) => run.hi,
+    }
+}
+
+/// The number, or the other one where that is less.
+fn lesser(number: u64, other: Option<u64>) -> u64
+    ensures { result ≡ lesser number other }
+{
+    match other {
+        None => number,
+        Some(other) => number.min(other),
     }
 }
 
@@ -125,10 +146,26 @@ impl Cursors {
     pub fn cursor(&self, key: &QueryKey) -> u64
         ensures { result ≡ cursor_of self.now.runs key.now }
     {
-        match self.run(key) {
-            None => 0,
-            Some(run) => run.hi,
+        end_in(self.run(key))
+    }
+
+    /// Up to which number the query at this place of the schedule has read the events, 0 where it has no batch.
+    fn cursor_at(&self, at: usize) -> u64
+        ensures { result ≡ cursor_at self.now at }
+    {
+        end_in(self.placed_run(at))
+    }
+
+    /// The least cursor of the queries at these places of the schedule, or `last` where there are none. One without a batch has
+    /// read nothing. It takes no memory, and one step for each place.
+    pub fn reached(&self, readers: &[usize], last: u64) -> u64
+        ensures { result ≡ unwrap_or (least_of (map (cursor_at self.now) readers.now)) last }
+    {
+        let mut least = None;
+        for at in readers {
+            least = Some(lesser(self.cursor_at(*at), least));
         }
+        least.unwrap_or(last)
     }
 
     /// The number of the query's last batch, 0 where it has none. It takes no memory.

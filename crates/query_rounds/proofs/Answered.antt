@@ -65,7 +65,7 @@ module _ {S : Type 0} (tells : Type 0) (left : S → List ℕ) (faults : S → �
       few = read.runs.few;
       entries = entries;
       takes = taken.takes;
-      means = answers kept (Opened (sessions kept + 1) ∷ entries) legal taken.stands ∙ ap (λ (list : List Entry). meaning text (view_of list 0 moment)) (sym (append_assoc kept (Opened (sessions kept + 1) ∷ []) entries));
+      means = answers kept (Opened (sessions kept + 1) 2 ∷ entries) legal taken.stands ∙ ap (λ (list : List Entry). meaning text (view_of list 0 moment)) (sym (append_assoc kept (Opened (sessions kept + 1) 2 ∷ []) entries));
       whole = λ ended. all_whole tells left given.config.categories kept (opened_behind kept ++ entries) given.sources read.feeds rests told taken.fed (sym read.runs.over ∙ ended);
       more = more_left;
     }

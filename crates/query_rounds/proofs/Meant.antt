@@ -78,7 +78,7 @@ module _ {S : Type 0} (tells : Type 0) (left : S → List ℕ) (faults : S → �
     module _ (restored : Restored) (names : List (List ℕ)) where
       -- behind the opening the state stands for these entries, each for what one of the sources gave, whose names the feeds have
       record HasGained (entries : List Entry) (at : Place S) : Type 0 where
-        stands : IsStateOf restored (Opened (restored.sessions + 1) ∷ entries) at.state
+        stands : IsStateOf restored (Opened (restored.sessions + 1) 2 ∷ entries) at.state
         given : All (IsFrom names) entries
         named : names_of at.feeds ≡ names
 
@@ -87,7 +87,7 @@ module _ {S : Type 0} (tells : Type 0) (left : S → List ℕ) (faults : S → �
           let moment = from.state.counts.moment in
           let named : names_of (feeds_of turns.turns) ≡ names = sym (ap names_of turns.whole.feeds_are) ∙ gained.named in
           record {
-            stands = turns.brings.stands restored (Opened (restored.sessions + 1) ∷ entries) gained.stands;
+            stands = turns.brings.stands restored (Opened (restored.sessions + 1) 2 ∷ entries) gained.stands;
             given = All-append (IsFrom names) entries (round_entries moment turns.turns) gained.given (turns_from names moment turns.turns (subst (All (Contains names)) (sym named) (All-contains_itself names)));
             named = ap names_of turns.whole.nexts_are ∙ turns_named turns.turns turns.each ∙ named;
           }
@@ -118,9 +118,9 @@ module _ {S : Type 0} (tells : Type 0) (left : S → List ℕ) (faults : S → �
   gained : HasGained tells left faults records restored (source_names names) entries end
   gained = all_read.1
 
-  list_is : (before : List Entry) → summary before ≡ restored → before ++ (Opened (restored.sessions + 1) ∷ entries) ≡ opened_behind before ++ entries
+  list_is : (before : List Entry) → summary before ≡ restored → before ++ (Opened (restored.sessions + 1) 2 ∷ entries) ≡ opened_behind before ++ entries
   list_is before same =
-      ap (λ (base : Restored). before ++ (Opened (base.sessions + 1) ∷ entries)) (sym same) ∙ sym (append_assoc before (Opened (sessions before + 1) ∷ []) entries)
+      ap (λ (base : Restored). before ++ (Opened (base.sessions + 1) 2 ∷ entries)) (sym same) ∙ sym (append_assoc before (Opened (sessions before + 1) 2 ∷ []) entries)
 
   pub meant : (keeper_tells : Type 0) (kept : List Entry) → (keeper_tells → restored ≡ summary kept) → (text : List ℕ) (moment : ℕ) (rows : List (List Value)) → AnswersBehind state text moment rows → AnswersSomeContinuation keeper_tells kept names text moment rows
   meant keeper_tells kept is text moment rows answers = record {
@@ -129,5 +129,5 @@ module _ {S : Type 0} (tells : Type 0) (left : S → List ℕ) (faults : S → �
     entries = entries;
     given = gained.given;
     legal = λ before legal same. subst Legal (list_is before same) (gained.stands.values before legal same).legal;
-    means = λ before legal same. answers before (Opened (restored.sessions + 1) ∷ entries) legal (subst (λ (base : Restored). IsStateOf base (Opened (restored.sessions + 1) ∷ entries) state) (sym same) gained.stands) ∙ ap (λ (list : List Entry). meaning text (view_of list 0 moment)) (list_is before same);
+    means = λ before legal same. answers before (Opened (restored.sessions + 1) 2 ∷ entries) legal (subst (λ (base : Restored). IsStateOf base (Opened (restored.sessions + 1) 2 ∷ entries) state) (sym same) gained.stands) ∙ ap (λ (list : List Entry). meaning text (view_of list 0 moment)) (list_is before same);
   }

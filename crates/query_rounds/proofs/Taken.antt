@@ -41,7 +41,7 @@ behind_opening kept entries entry = append_assoc kept (entry ∷ []) entries
 -- Behind the opening the session took these entries in so many rounds: its state stands for them, and its sources are fed.
 pub record HasTaken {S : Type 0} (tells : Type 0) (left : S → List ℕ) (given : Given) (kept : List Entry) (count : ℕ) (entries : List Entry) (at : Place S) : Type 0 where
   pub takes : TakesRounds given (opened_behind kept) count entries
-  pub stands : IsStateOf (summary kept) (Opened (sessions kept + 1) ∷ entries) at.state
+  pub stands : IsStateOf (summary kept) (Opened (sessions kept + 1) 2 ∷ entries) at.state
   pub fed : AreFed tells left given.config.categories kept (opened_behind kept ++ entries) given.sources at.feeds at.sources
   pub have : HaveSteps tells left given.records count kept given.sources at.feeds at.sources
 
@@ -66,7 +66,7 @@ begun_taken {S} tells left faults given kept names objects start are begun = rec
 
     same : (name : List ℕ) → taken_from (opened_behind kept ++ []) name ≡ taken_from kept name
     same name =
-        ap (λ (list : List Entry). taken_from list name) (append-nil (opened_behind kept)) ∙ nothing_behind kept (Opened (sessions kept + 1) ∷ []) (opened_nothing (sessions kept + 1)) name
+        ap (λ (list : List Entry). taken_from list name) (append-nil (opened_behind kept)) ∙ nothing_behind kept (Opened (sessions kept + 1) 2 ∷ []) (opened_nothing (sessions kept + 1) 2) name
 
     fed : AreFed tells left given.config.categories kept (opened_behind kept ++ []) given.sources start.feeds start.sources
     fed =
@@ -85,7 +85,7 @@ module _ {S : Type 0} (tells : Type 0) (left : S → List ℕ) (faults : S → �
 
     at_moment : from.state.counts.moment ≡ moment_of now
     at_moment =
-        sym (ap (λ (counts : Counts). counts.moment) (taken.stands.values kept legal refl).counts) ∙ ap moment_of (sym (behind_opening kept entries (Opened (sessions kept + 1))))
+        sym (ap (λ (counts : Counts). counts.moment) (taken.stands.values kept legal refl).counts) ∙ ap moment_of (sym (behind_opening kept entries (Opened (sessions kept + 1) 2)))
 
     feeds_distinct : IsDistinct bytes_eq (names_of from.feeds)
     feeds_distinct =
@@ -105,7 +105,7 @@ module _ {S : Type 0} (tells : Type 0) (left : S → List ℕ) (faults : S → �
     one_taken : HasTaken tells left given kept (suc count) (entries ++ own) to
     one_taken = record {
       takes = rounds_more given (opened_behind kept) count entries own taken.takes of_round.0;
-      stands = turns.brings.stands (summary kept) (Opened (sessions kept + 1) ∷ entries) taken.stands;
+      stands = turns.brings.stands (summary kept) (Opened (sessions kept + 1) 2 ∷ entries) taken.stands;
       fed = subst (λ (list : List Entry). AreFed tells left given.config.categories kept list given.sources to.feeds to.sources) (append_assoc (opened_behind kept) entries own) of_round.1;
       have = steps_more tells left faults given.config.categories given.records count kept before given.sources from.feeds to.feeds from.sources to.sources turns.turns turns.whole turns.each taken.fed taken.have;
     }
@@ -118,13 +118,13 @@ module _ {S : Type 0} (tells : Type 0) (left : S → List ℕ) (faults : S → �
     abbrev pub spent : List Entry
     spent = overflow_entries tells left faults which.Every given from.feeds to.feeds from.sources to.sources from.state to.state o
 
-    stands_spent : IsStateOf (summary kept) (Opened (sessions kept + 1) ∷ (entries ++ spent)) to.state
+    stands_spent : IsStateOf (summary kept) (Opened (sessions kept + 1) 2 ∷ (entries ++ spent)) to.state
     stands_spent =
-        (overflow_brings tells left faults which.Every given from.feeds to.feeds from.sources to.sources from.state to.state o).stands (summary kept) (Opened (sessions kept + 1) ∷ entries) taken.stands
+        (overflow_brings tells left faults which.Every given from.feeds to.feeds from.sources to.sources from.state to.state o).stands (summary kept) (Opened (sessions kept + 1) 2 ∷ entries) taken.stands
 
     has_spent : HasValues ((opened_behind kept ++ entries) ++ spent) to.state
     has_spent =
-        subst (λ (list : List Entry). HasValues list to.state) (sym (append_assoc (opened_behind kept) entries spent ∙ behind_opening kept (entries ++ spent) (Opened (sessions kept + 1)))) (stands_spent.values kept legal refl)
+        subst (λ (list : List Entry). HasValues list to.state) (sym (append_assoc (opened_behind kept) entries spent ∙ behind_opening kept (entries ++ spent) (Opened (sessions kept + 1) 2))) (stands_spent.values kept legal refl)
 
     pub one_spends : StepsSpend given (opened_behind kept ++ entries) given.sources spent
     one_spends =

@@ -29,7 +29,7 @@ pub record IsGivenFrom {S : Type 0} (left : S → List ℕ) (names : List Source
 
 -- the kept list, and behind it the opening of a session that no one seals
 abbrev pub opened_behind : List Entry → List Entry
-opened_behind kept = kept ++ Opened (sessions kept + 1) ∷ []
+opened_behind kept = kept ++ Opened (sessions kept + 1) 2 ∷ []
 
 -- Each source had the bytes that the kept list has of it. Rounds of the sources were taken behind the opening, and the rows are those that the text means at this moment over all live events and the
 -- tables of the list with all of that behind it. At the end every source was read to behind its last line feed; else all rounds were run, and some

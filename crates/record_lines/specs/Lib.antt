@@ -1,4 +1,5 @@
 pub mod Cutting
 pub mod Held
+pub mod Limits
 pub mod Lines
 pub mod Rests

@@ -31,7 +31,7 @@ use Rattle.replay_rounds.proofs.Stepped.{feeds_of, full_step, nexts_of, objects_
 
 -- an entry of another source leaves how far this one is taken
 taken_other : (name : List ℕ) (entry : Entry) → is_from name entry ≡ false → taken_in name entry ≡ None
-taken_other name (Opened session) other = refl
+taken_other name (Opened session rules) other = refl
 taken_other name (Configured document schedule moment) other = refl
 taken_other name (Ticked moment) other = refl
 taken_other name (Appended source taken events skipped moment) other = ap (λ (t : Bool). cond t (Some taken) None) other
@@ -75,7 +75,7 @@ IsAt now (Appended source taken events skipped moment) = moment ≡ now
 IsAt now _ = Unit {0}
 
 next_at : (before : List Entry) (entry : Entry) (now : ℕ) → moment_of before ≡ now → LegalNext before entry → IsAt now entry
-next_at before (Opened session) now at may = tt
+next_at before (Opened session rules) now at may = tt
 next_at before (Configured document schedule moment) now at may = tt
 next_at before (Ticked moment) now at may = tt
 next_at before (Appended source taken events skipped moment) now at may = may.1 ∙ at

@@ -95,7 +95,7 @@ pub none_opening : {S : Type 0} (tells : Type 0) (left : S → List ℕ) (faults
 none_opening tells left faults most restored config documents host moment feeds nexts sources rests state opens =
     let tables = round_entries restored.moment opens.tables.turns in
     let configured = Configured documents opens.configures.schedule moment in
-    ap ticks_of opens.opened.tail ∙ none_of (Opened (restored.sessions + 1) ∷ tables ++ configured ∷ []) (All-cons NoTick (Opened (restored.sessions + 1)) (tables ++ configured ∷ []) refl (All-append NoTick tables (configured ∷ []) (round_tickless restored.moment opens.tables.turns) (All-cons NoTick configured [] refl (All-nil NoTick))))
+    ap ticks_of opens.opened.tail ∙ none_of (Opened (restored.sessions + 1) 2 ∷ tables ++ configured ∷ []) (All-cons NoTick (Opened (restored.sessions + 1) 2) (tables ++ configured ∷ []) refl (All-append NoTick tables (configured ∷ []) (round_tickless restored.moment opens.tables.turns) (All-cons NoTick configured [] refl (All-nil NoTick))))
 
 -- acknowledgements alone begin none
 pub none_acked : (old : Kept) (marks : List ℕ) (new : Kept) → old.tail ≡ [] → IsAcked old marks new → ticks_of new.tail ≡ 0

@@ -12,7 +12,7 @@ use Rattle.osq_value.specs.declared.source.SourceKind.{SourceKind}
 use Rattle.publisher_core.specs.declared.record.ReadRecord.{ReadRecord}
 use Rattle.publisher_core.specs.Records.{ended}
 use Rattle.publisher_core.specs.Standing.{Gives, is_at_end}
-use Rattle.publisher_core.specs.Stepping.{STEP_BYTES}
+use Rattle.record_lines.specs.Limits.{STEP_BYTES}
 use Rattle.publisher_core.proofs.Given.{not_plain}
 use Rattle.source_feeds.specs.Feeding.{Fed, Feeding}
 use Rattle.source_feeds.specs.Stepping.{IsStep}

@@ -93,7 +93,7 @@ module _ {S C : Type 0} (order : Order) (keeper_tells sink_tells tells : Type 0)
   -- the first tick
   module _ (now : C) (kept next : List Entry) (written : List ℕ) (feeds nexts : List Feeding) (objects rests : List S) (opened_at : ℕ) (old : Kept) (notes : List ℕ) (configuration : IsConfigOf documents config notes) (o : OpensSession left x reads clock now kept feeds objects opened_at old) (going : AreGoing old.counts.taken feeds) (kept_is : keeper_tells → kept ≡ start) where
     abbrev opening : List Entry
-    opening = Opened o.number ∷ o.rest
+    opening = Opened o.number 2 ∷ o.rest
 
     -- the opening has no batch
     first_one : (own : List Entry) → IsOneTick own → HasOneTick (opening ++ own)
@@ -140,18 +140,18 @@ module _ {S C : Type 0} (order : Order) (keeper_tells sink_tells tells : Type 0)
 
     -- where that is
     abbrev pub place : Place
-    place = record { list = start ++ (Opened o.number ∷ o.tables); moment = opened_at }
+    place = record { list = start ++ (Opened o.number 2 ∷ o.tables); moment = opened_at }
 
     opening_places : places_of start opening ≡ place ∷ []
     opening_places =
-        ap (λ (rest : List Entry). places_of start (Opened o.number ∷ rest)) o.rest_is ∙ places-append start (Opened o.number ∷ o.tables) (o.configured ∷ [])
-        ∙ ap (λ (places : List Place). places ++ places_of (start ++ (Opened o.number ∷ o.tables)) (o.configured ∷ [])) (places_none start (Opened o.number ∷ o.tables) o.none)
-        ∙ ap (λ (at : Option ℕ). cons_option (option_map (λ (moment : ℕ). record { list = start ++ (Opened o.number ∷ o.tables); moment = moment }) at) []) o.configures
+        ap (λ (rest : List Entry). places_of start (Opened o.number 2 ∷ rest)) o.rest_is ∙ places-append start (Opened o.number 2 ∷ o.tables) (o.configured ∷ [])
+        ∙ ap (λ (places : List Place). places ++ places_of (start ++ (Opened o.number 2 ∷ o.tables)) (o.configured ∷ [])) (places_none start (Opened o.number 2 ∷ o.tables) o.none)
+        ∙ ap (λ (at : Option ℕ). cons_option (option_map (λ (moment : ℕ). record { list = start ++ (Opened o.number 2 ∷ o.tables); moment = moment }) at) []) o.configures
 
     -- what its notes say is found, discovery finds there
     pub found_first : (restored : Restored) (found : List Bool) → (keeper_tells → restored ≡ summary start) → IsFoundBy restored config opened_at old found → keeper_tells → Legal start → found ≡ found_behind x.given place.list place.moment
     found_first restored found same by told legal =
-        by.of_list start (Opened o.number ∷ o.tables) o.configured legal (sym (same told)) (o.tail ∙ ap (λ (rest : List Entry). Opened o.number ∷ rest) o.rest_is)
+        by.of_list start (Opened o.number 2 ∷ o.tables) o.configured legal (sym (same told)) (o.tail ∙ ap (λ (rest : List Entry). Opened o.number 2 ∷ rest) o.rest_is)
 
     -- and nowhere else in the first tick
     first_places : (own : List Entry) (settled : Kept) → settled.tail ≡ opening ++ own → TickDone order tells left faults setup config documents opened_at opened_at feeds nexts objects rests old settled → places_of start (opening ++ own) ≡ place ∷ []

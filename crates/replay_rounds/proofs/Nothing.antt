@@ -29,8 +29,8 @@ nothing-append xs ys first second name before =
 pub none_nothing : TakeNothing []
 none_nothing name before = refl
 
-pub opened_nothing : (session : ℕ) → TakeNothing (Opened session ∷ [])
-opened_nothing session name before = refl
+pub opened_nothing : (session rules : ℕ) → TakeNothing (Opened session rules ∷ [])
+opened_nothing session rules name before = refl
 
 pub configured_nothing : (documents : List (List ℕ)) (schedule : Schedule) (moment : ℕ) → TakeNothing (Configured documents schedule moment ∷ [])
 configured_nothing documents schedule moment name before = refl

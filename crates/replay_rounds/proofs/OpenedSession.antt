@@ -51,23 +51,23 @@ pub record OpensSession {S C : Type 0} (left : S → List ℕ) (x : Fixed) (read
   pub read : reads clock reading now
   pub number : ℕ
   pub rest : List Entry
-  pub opens : x.keeper_tells → Legal x.start → session.Opens x.source_tells x.given x.start reading (Opened number ∷ rest)
-  pub at : moment ≡ max reading (moment_of (x.start ++ (Opened number ∷ rest)))
-  pub standing : Standing left x (Opened number ∷ rest) kept feeds objects moment s
-  pub tail : s.tail ≡ Opened number ∷ rest
-  pub silent : All NoBatch (Opened number ∷ rest)
-  pub once : configurations (Opened number ∷ rest) ≡ 1
+  pub opens : x.keeper_tells → Legal x.start → session.Opens x.source_tells x.given x.start reading (Opened number 2 ∷ rest)
+  pub at : moment ≡ max reading (moment_of (x.start ++ (Opened number 2 ∷ rest)))
+  pub standing : Standing left x (Opened number 2 ∷ rest) kept feeds objects moment s
+  pub tail : s.tail ≡ Opened number 2 ∷ rest
+  pub silent : All NoBatch (Opened number 2 ∷ rest)
+  pub once : configurations (Opened number 2 ∷ rest) ≡ 1
   pub tables : List Entry
   pub configured : Entry
   pub rest_is : rest ≡ tables ++ configured ∷ []
-  pub none : configurations (Opened number ∷ tables) ≡ 0
+  pub none : configurations (Opened number 2 ∷ tables) ≡ 0
   pub configures : configured_in configured ≡ Some moment
   pub ready : AreGoing s.counts.taken feeds → IsReady feeds moment s
 
 module _ {S : Type 0} (left : S → List ℕ) (faults : S → ℕ) (x : Fixed) (setup : Setup) (restored : Restored) (kept : List Entry) (started feeds : List Feeding) (objects between rests : List S) (moment : ℕ) (state : Kept) (same : x.keeper_tells → restored ≡ summary x.start) (distinct : IsDistinct bytes_eq (source_names setup.sources)) (sources_are : x.given.sources ≡ sources_of left setup.sources objects)
     (starts : IsStarted x.source_tells left faults restored.taken x.given.config.categories setup.sources started objects between) (opens : Opens x.source_tells left faults x.given.records restored x.given.config x.given.documents x.given.host moment started feeds between rests state) where
   abbrev opened : Entry
-  opened = Opened (restored.sessions + 1)
+  opened = Opened (restored.sessions + 1) 2
 
   -- what the tables gave
   abbrev tables : List Entry
@@ -90,7 +90,7 @@ module _ {S : Type 0} (left : S → List ℕ) (faults : S → ℕ) (x : Fixed) (
 
     fed_opened : AreFed x.source_tells left x.given.config.categories x.start (x.start ++ opened ∷ []) x.given.sources started between
     fed_opened =
-        fed_on x.source_tells left x.given.config.categories x.start x.start (x.start ++ opened ∷ []) x.given.sources started between (nothing_behind x.start (opened ∷ []) (opened_nothing (restored.sessions + 1))) fed_started
+        fed_on x.source_tells left x.given.config.categories x.start x.start (x.start ++ opened ∷ []) x.given.sources started between (nothing_behind x.start (opened ∷ []) (opened_nothing (restored.sessions + 1) 2)) fed_started
 
     fed_tables : AreFed x.source_tells left x.given.config.categories x.start ((x.start ++ opened ∷ []) ++ tables) x.given.sources feeds rests
     fed_tables =
@@ -128,9 +128,9 @@ module _ {S : Type 0} (left : S → List ℕ) (faults : S → ℕ) (x : Fixed) (
       by_list reading at = record {
         tables = tables;
         configured = configured;
-        takes = subst (λ (count : ℕ). GivesSteps x.source_tells x.given (x.start ++ Opened (count + 1) ∷ []) (filter (λ (source : Source). is_tables source.kind) x.given.sources) tables) sessions_are steps;
-        configures = subst (λ (m : ℕ). configuring.Configures x.given (x.start ++ (Opened (sessions x.start + 1) ∷ tables)) m configured) (at ∙ ap (max reading) moment_was) (subst (λ (count : ℕ). configuring.Configures x.given (x.start ++ (Opened (count + 1) ∷ tables)) moment configured) sessions_are configures);
-        are = ap (λ (count : ℕ). Opened (count + 1) ∷ tables ++ configured ∷ []) sessions_are;
+        takes = subst (λ (count : ℕ). GivesSteps x.source_tells x.given (x.start ++ Opened (count + 1) 2 ∷ []) (filter (λ (source : Source). is_tables source.kind) x.given.sources) tables) sessions_are steps;
+        configures = subst (λ (m : ℕ). configuring.Configures x.given (x.start ++ (Opened (sessions x.start + 1) 2 ∷ tables)) m configured) (at ∙ ap (max reading) moment_was) (subst (λ (count : ℕ). configuring.Configures x.given (x.start ++ (Opened (count + 1) 2 ∷ tables)) moment configured) sessions_are configures);
+        are = ap (λ (count : ℕ). Opened (count + 1) 2 ∷ tables ++ configured ∷ []) sessions_are;
       }
 
   silent : All NoBatch entries

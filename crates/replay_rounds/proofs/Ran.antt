@@ -182,7 +182,7 @@ module _ {S C : Type 0} (left : S → List ℕ) (x : Fixed) (reads : C → ℕ �
     first_ran written told = record { added = first_added; told = told }
 
 -- lines of the entries of a session that opens are the same, whatever form ran before it
-pub from_opened : (host : List ℕ) (before : Form) (number : ℕ) (added own rest : List Entry) (text : List ℕ) → added ≡ Opened number ∷ rest → AreLinesOf host before (added ++ own) text → AreLinesOf host form.Event (added ++ own) text
+pub from_opened : (host : List ℕ) (before : Form) (number : ℕ) (added own rest : List Entry) (text : List ℕ) → added ≡ Opened number 2 ∷ rest → AreLinesOf host before (added ++ own) text → AreLinesOf host form.Event (added ++ own) text
 from_opened host before number added own rest text begins are =
     subst (λ (es : List Entry). AreLinesOf host form.Event (es ++ own) text) (sym begins) (subst (λ (es : List Entry). AreLinesOf host before (es ++ own) text) begins are)
 

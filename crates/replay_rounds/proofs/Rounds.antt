@@ -39,7 +39,7 @@ none_any [] = refl
 none_any (name ∷ names) = none_any names
 
 pub work_plain : (names : List (List ℕ)) (entry : Entry) → is_work names entry ≡ true → IsPlain entry
-work_plain names (Opened session) is = absurd (true≢false (sym is ∙ none_any names))
+work_plain names (Opened session rules) is = absurd (true≢false (sym is ∙ none_any names))
 work_plain names (Configured document schedule moment) is = absurd (true≢false (sym is ∙ none_any names))
 work_plain names (Ticked moment) is = absurd (true≢false (sym is ∙ none_any names))
 work_plain names (Appended source taken events skipped moment) is =

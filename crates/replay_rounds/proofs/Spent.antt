@@ -262,7 +262,7 @@ module _ {S C : Type 0} (order : Order) (keeper_tells sink_tells tells : Type 0)
       o = over.too_much.overflows
 
       opened : List Entry
-      opened = Opened (restored.sessions + 1) ∷ []
+      opened = Opened (restored.sessions + 1) 2 ∷ []
 
       came : List Entry
       came = overflow_entries tells left faults which.Tables x.given over.started over.nexts over.between rests over.too_much.begun over.too_much.last o
@@ -273,7 +273,7 @@ module _ {S C : Type 0} (order : Order) (keeper_tells sink_tells tells : Type 0)
 
       fed : keeper_tells → AreFed tells left config.categories start (start ++ opened) x.given.sources over.started over.between
       fed told =
-          fed_on tells left config.categories start start (start ++ opened) x.given.sources over.started over.between (nothing_behind start opened (opened_nothing (restored.sessions + 1)))
+          fed_on tells left config.categories start start (start ++ opened) x.given.sources over.started over.between (nothing_behind start opened (opened_nothing (restored.sessions + 1) 2))
           (started_fed tells left faults config.categories start restored.taken setup.sources over.started sources over.between (λ name. ap (λ (r : Restored). offset_at r.taken name) (same told) ∙ taken_is start name) over.starts)
 
       at : keeper_tells → over.too_much.begun.counts.moment ≡ moment_of (start ++ opened)
@@ -319,10 +319,10 @@ module _ {S C : Type 0} (order : Order) (keeper_tells sink_tells tells : Type 0)
   }
     where
       opening : List Entry
-      opening = Opened o.number ∷ o.rest
+      opening = Opened o.number 2 ∷ o.rest
 
-      s : SpendsBehind order x (Opened o.number ∷ o.rest) opened_at
-      s = tick_spends (Opened o.number ∷ o.rest) kept feeds nexts objects rests opened_at opened_at old new o.standing distinct spends
+      s : SpendsBehind order x (Opened o.number 2 ∷ o.rest) opened_at
+      s = tick_spends (Opened o.number 2 ∷ o.rest) kept feeds nexts objects rests opened_at opened_at old new o.standing distinct spends
 
   -- in a further tick, behind what was heard
   pub spent_on : (between now : C) (kept next : List Entry) (feeds nexts : List Feeding) (objects rests : List S) (configured_at moment : ℕ) (old new : Kept) (r : IsAdded left x reads clock between kept feeds objects configured_at old) → IsDistinct bytes_eq (names_of feeds) → IsRead reads between now old.counts.moment moment → (keeper_tells → next ≡ kept)

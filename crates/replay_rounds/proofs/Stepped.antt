@@ -10,7 +10,7 @@ use Rattle.osq_value.specs.declared.source.SourceKind.{SourceKind}
 use Rattle.osq_value.specs.declared.source.SourceKind.TheVariants as kind
 use Rattle.publisher_core.specs.Readings.{readings_of}
 use Rattle.publisher_core.specs.Standing.{is_at_end}
-use Rattle.publisher_core.specs.Stepping.{STEP_BYTES}
+use Rattle.record_lines.specs.Limits.{STEP_BYTES}
 use Rattle.source_feeds.specs.Feeding.{Feeding}
 use Rattle.source_feeds.specs.Joining.{Rise}
 use Rattle.source_feeds.specs.Stepping.{IsStep}

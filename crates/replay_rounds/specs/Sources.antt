@@ -4,7 +4,7 @@ use Rattle.std.specs.List.{list_all}
 use Rattle.osq_value.specs.declared.reading.Category.{Category}
 use Rattle.publisher_core.specs.declared.record.ReadRecord.{ReadRecord}
 use Rattle.publisher_core.specs.Standing.{is_at_end}
-use Rattle.publisher_core.specs.Stepping.{STEP_BYTES}
+use Rattle.record_lines.specs.Limits.{STEP_BYTES}
 use Rattle.source_feeds.specs.Feeding.{Fed, Feeding}
 use Rattle.source_feeds.specs.Taking.{IsBehindLastFeed, ReadsTo}
 use Rattle.entry_model.specs.declared.entry.Entry.{Entry}

@@ -2,7 +2,7 @@
 use Rattle.std.proofs.Common.{◌*◌, ◌≤◌, ◌<◌, false, length, ap, ◌∙◌, arith, length-append, Ok}
 use Rattle.std.proofs.Math.Nat.{le-div_iff_mul-le}
 use Rattle.program_words.specs.declared.command.CollectWords.{CollectWords}
-use Rattle.collect_rounds.specs.Runs.{STEP_BYTES}
+use Rattle.record_lines.specs.Limits.{STEP_BYTES}
 use Rattle.osq_program.specs.declared.status.Status.{Status}
 use Rattle.osq_program.specs.declared.status.Status.TheVariants.{TicksSpent}
 use Rattle.osq_program.specs.Answers.{IsSpentStatus, IsUsageStatus}

@@ -7,7 +7,7 @@ use Rattle.record_lines.specs.Lines.{lines_of}
 use Rattle.record_lines.proofs.Cuts.{lines_of-first}
 use Rattle.osq_value.specs.declared.reading.Category.{Category}
 use Rattle.publisher_core.specs.Records.{ended, HaveNoFeed}
-use Rattle.publisher_core.specs.Stepping.{STEP_BYTES}
+use Rattle.record_lines.specs.Limits.{STEP_BYTES}
 use Rattle.source_feeds.proofs.Cuts.{begins_line}
 use Rattle.entry_model.specs.declared.entry.Entry.{Entry}
 use Rattle.entry_model.specs.declared.entry.Entry.TheVariants.{Ticked}

@@ -20,7 +20,7 @@ use Rattle.publisher_core.specs.declared.record.Gain.TheVariants as gain
 use Rattle.publisher_core.specs.declared.record.ReadRecord.{ReadRecord}
 use Rattle.publisher_core.specs.Readings.{readings_of}
 use Rattle.publisher_core.specs.Records.{ChangeGives, HaveNoFeed, IsChangeLine, LinesGive, ended}
-use Rattle.publisher_core.specs.Stepping.{STEP_BYTES}
+use Rattle.record_lines.specs.Limits.{STEP_BYTES}
 use Rattle.publisher_core.proofs.Given.{size_ended}
 use Rattle.source_feeds.specs.Taking.{Takes, TakesFront, front_lines}
 use Rattle.source_feeds.proofs.Cuts.{begins_line, more_lines}

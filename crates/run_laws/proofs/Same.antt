@@ -134,7 +134,7 @@ module _ (tells : Type 0) (given : Given) where
 
     opening_same : (kept : List Entry) (reading : ℕ) (one other : List Entry) → Opens tells given kept reading one → Opens tells given kept reading other → one ≡ other
     opening_same kept reading one other x y =
-        let opened = Opened (sessions kept + 1) in
+        let opened = Opened (sessions kept + 1) 2 in
         let tables : x.tables ≡ y.tables = steps_same (kept ++ opened ∷ []) (filter (λ (source : Source). is_tables source.kind) given.sources) x.tables y.tables
         (All-filter (λ (source : Source). is_tables source.kind) (GivesOne tells given) given.sources sole) x.takes y.takes in
         let conf : x.configured ≡ y.configured = configures_same given (kept ++ (opened ∷ y.tables)) (max reading (moment_of kept)) x.configured y.configured

@@ -1,7 +1,7 @@
 -- How many ticks are enough for a source.
 use Rattle.std.specs.Prelude.{ℕ, ◌+◌, ◌/◌, ◌≤◌, List, length, drop}
 use Rattle.record_lines.specs.Lines.{lines_of}
-use Rattle.publisher_core.specs.Stepping.{STEP_BYTES}
+use Rattle.record_lines.specs.Limits.{STEP_BYTES}
 use Rattle.entry_model.specs.declared.entry.Entry.{Entry}
 use Rattle.entry_model.specs.Values.{taken_from}
 use Rattle.session_model.specs.Given.{Source}

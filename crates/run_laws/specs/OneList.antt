@@ -9,7 +9,7 @@ use Rattle.osq_config.specs.Values.{config_of}
 use Rattle.config_files.specs.Configurations.{IsConfigOf}
 use Rattle.record_lines.specs.Lines.{lines_of}
 use Rattle.generated_changes.specs.Generated as load
-use Rattle.publisher_core.specs.Stepping.{STEP_BYTES}
+use Rattle.record_lines.specs.Limits.{STEP_BYTES}
 use Rattle.entry_model.specs.declared.entry.Entry.{Entry}
 use Rattle.session_model.specs.Given.{Given, Source}
 use Rattle.session_model.specs.Orders.{in_turn}

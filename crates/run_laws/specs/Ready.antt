@@ -19,7 +19,7 @@ use Rattle.session_model.specs.Orders.{Order, in_turn, at_once}
 use Rattle.replay_rounds.specs.Spent.{RanOutOfNumbers}
 use Rattle.run_laws.specs.Enough.{AreEnough}
 use Rattle.query_rounds.specs.Asking.{Spends}
-use Rattle.collect_rounds.specs.Runs.{STEP_BYTES}
+use Rattle.record_lines.specs.Limits.{STEP_BYTES}
 use Rattle.osq_program.specs.Collecting.{stream}
 use Rattle.osq_program.specs.Observed.{Observed}
 use Rattle.osq_program.specs.Querying.{IsPosed, IsQueryGiven}

@@ -4,7 +4,7 @@
 //! - `{"texts": {NAME: TEXT, ..}}` names texts. Later lines add to the earlier ones, and of two with one name the later is meant.
 //! - `{"plain": RUN}` says what stands for every member that a run lacks.
 //! - `{"story": NAME, "kept": [ENTRY, ..]}` begins over a kept list of these entries, or over an empty one. An entry is `{"opened": N}`,
-//!   `{"ticked": N}` or `{"acked": N}`.
+//!   by rules 1 unless `"rules": N` stands beside it, `{"ticked": N}` or `{"acked": N}`.
 //! - `{"link": {"answers": [TEXT, ..], "fails": [CALL, ..], "polls": N}}` polls a link so often.
 //! - Every other line is a run over the list that the run before it left. It may have `words` (a text or an array) and `text` (a word behind
 //!   `--text`); `files` (texts by their paths), `sources` (TEXT, or `{"text": TEXT, "fails": [CALL, ..]}`), `answers` (those that

@@ -41,10 +41,19 @@ fn push_batch(text: &mut String, batch: &Batch) -> Result<(), NoMemory> {
     Ok(())
 }
 
+/// Adds the number of a session, and its rules where they aren't those of the first lists.
+fn push_opened(text: &mut String, session: u64, rules: u32) -> Result<(), NoMemory> {
+    write!(text, "opened {session}")?;
+    if rules != 1 {
+        write!(text, ", rules {rules}")?;
+    }
+    Ok(())
+}
+
 /// Adds what an entry has but for its events, rows and queries.
 fn push_head(text: &mut String, entry: &Entry) -> Result<(), NoMemory> {
     match entry {
-        Entry::Opened { session } => write!(text, "opened {session}")?,
+        Entry::Opened { session, rules } => push_opened(text, *session, *rules)?,
         Entry::Configured {
             document: _,
             schedule: _,

@@ -17,10 +17,19 @@ fn number_of(item: &Json, key: &str) -> Option<u64> {
     item.get(key)?.as_u64()
 }
 
-/// The entry of an object with one number.
+/// The rules that stand beside the number of a session, 1 where none do.
+fn rules_of(item: &Json) -> Option<u32> {
+    match item.get("rules") {
+        None => Some(1),
+        Some(_) => u32::try_from(number_of(item, "rules")?).ok(),
+    }
+}
+
+/// The entry of an object with one number, or of a session's with its rules.
 fn entry_of(item: &Json) -> Option<Entry> {
     if let Some(session) = number_of(item, "opened") {
-        return Some(Entry::Opened { session });
+        let rules = rules_of(item)?;
+        return Some(Entry::Opened { session, rules });
     }
     if let Some(moment) = number_of(item, "ticked") {
         return Some(Entry::Ticked { moment });

@@ -1,5 +1,5 @@
 -- Worked sessions, checked on the definitions.
-use Rattle.std.proofs.Common.{ℕ, false, List, [], ◌∷◌, Some, None, refl, lit≤}
+use Rattle.std.proofs.Common.{ℕ, inr, false, List, [], ◌∷◌, Some, None, refl, lit≤}
 use Rattle.std.proofs.lemmas.List.Elements.{All-nil}
 use Rattle.osq_config.specs.declared.config.Config.{Config}
 use Rattle.config_files.specs.Configurations.{IsConfigOf}
@@ -28,7 +28,7 @@ module _ (host : Host) (documents : List (List ℕ)) (notes : List ℕ) (is : Is
   given = record { host = host; documents = documents; config = plain; sources = []; records = 10000 }
 
   abbrev entries : List Entry
-  entries = Opened 1 ∷ Configured documents no_queries 1000 ∷ Ticked 1000 ∷ Ticked 1000 ∷ []
+  entries = Opened 1 2 ∷ Configured documents no_queries 1000 ∷ Ticked 1000 ∷ Ticked 1000 ∷ []
 
   sound : IsSound no_queries
   sound = record {
@@ -44,15 +44,15 @@ module _ (host : Host) (documents : List (List ℕ)) (notes : List ℕ) (is : Is
   legal : Legal entries
   legal =
       let on : MayCome 1000 1000 = record { later = lit≤ tt; calendar = lit≤ tt } in
-      let tick : LegalNext (Opened 1 ∷ Configured documents no_queries 1000 ∷ []) (Ticked 1000) = (on, refl, λ table evented. refl) in
-      let again : LegalNext (Opened 1 ∷ Configured documents no_queries 1000 ∷ Ticked 1000 ∷ []) (Ticked 1000) = (on, refl, λ table evented. refl) in
-      (refl, ((sound, record { later = lit≤ tt; calendar = lit≤ tt }), (tick, (again, tt))))
+      let tick : LegalNext (Opened 1 2 ∷ Configured documents no_queries 1000 ∷ []) (Ticked 1000) = (on, refl, λ table evented. refl) in
+      let again : LegalNext (Opened 1 2 ∷ Configured documents no_queries 1000 ∷ Ticked 1000 ∷ []) (Ticked 1000) = (on, refl, λ table evented. refl) in
+      ((refl, inr refl), ((sound, record { later = lit≤ tt; calendar = lit≤ tt }), (tick, (again, tt))))
 
   quiet_session : IsSession in_turn (Unit {0}) given [] (quiet 1000) (record { reading = 940; polled = Some 3 ∷ None ∷ [] } ∷ []) entries
   quiet_session = record {
     notes = notes;
     configuration = is;
-    opening = Opened 1 ∷ Configured documents no_queries 1000 ∷ [];
+    opening = Opened 1 2 ∷ Configured documents no_queries 1000 ∷ [];
     ticks = Ticked 1000 ∷ Ticked 1000 ∷ [];
     opens = record {
       tables = [];

@@ -21,7 +21,7 @@ Forgets tells =
 
 -- no session, tick or schedule begins with the entry
 abbrev pub is_within : Entry → Bool
-is_within (Opened session) = false
+is_within (Opened session rules) = false
 is_within (Configured document schedule moment) = false
 is_within (Ticked moment) = false
 is_within _ = true

@@ -22,9 +22,9 @@ is_tables _ = false
 pub record Opens (tells : Type 0) (given : Given) (kept : List Entry) (reading : ℕ) (entries : List Entry) : Type 0 where
   pub tables : List Entry
   pub configured : Entry
-  pub takes : GivesSteps tells given (kept ++ Opened (sessions kept + 1) ∷ []) (filter (λ (source : Source). is_tables source.kind) given.sources) tables
-  pub configures : Configures given (kept ++ (Opened (sessions kept + 1) ∷ tables)) (max reading (moment_of kept)) configured
-  pub are : entries ≡ Opened (sessions kept + 1) ∷ tables ++ configured ∷ []
+  pub takes : GivesSteps tells given (kept ++ Opened (sessions kept + 1) 2 ∷ []) (filter (λ (source : Source). is_tables source.kind) given.sources) tables
+  pub configures : Configures given (kept ++ (Opened (sessions kept + 1) 2 ∷ tables)) (max reading (moment_of kept)) configured
+  pub are : entries ≡ Opened (sessions kept + 1) 2 ∷ tables ++ configured ∷ []
 
 -- What the world gives a tick: the clock's reading, and of each answer that is polled behind its seal the mark. Of an answer that is none of this host
 -- there is no mark.

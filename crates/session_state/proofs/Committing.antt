@@ -99,7 +99,7 @@ module _ (position : ℕ) where
   -- where no tick is found behind an opening, none has begun
   still_cold : (place : ℕ) (es : List Entry) → position ≤ place → find behind (marks_from place es) ≡ None → last_of tick_in false es ≡ true → false ≡ true
   still_cold place [] low none ticked = ticked
-  still_cold place (Opened session ∷ es) low none ticked = still_cold (suc place) es (omega (arith, low)) none ticked
+  still_cold place (Opened session rules ∷ es) low none ticked = still_cold (suc place) es (omega (arith, low)) none ticked
   still_cold place (Configured document schedule moment ∷ es) low none ticked = found_here place (marks_from (suc place) es) low none
   still_cold place (Ticked moment ∷ es) low none ticked = found_here place (marks_from (suc place) es) low none
   still_cold place (_ ∷ es) low none ticked = still_cold (suc place) es (omega (arith, low)) none ticked
@@ -107,7 +107,7 @@ module _ (position : ℕ) where
   -- where no mark is found and the tick goes on, no session was opened either
   pub clear_behind : (place : ℕ) (es : List Entry) (before : Bool) → position ≤ place → find behind (marks_from place es) ≡ None → last_of tick_in before es ≡ true → list_any is_mark es ≡ false
   clear_behind place [] before low none ticked = refl
-  clear_behind place (Opened session ∷ es) before low none ticked =
+  clear_behind place (Opened session rules ∷ es) before low none ticked =
       absurd (let k = still_cold (suc place) es (omega (arith, low)) none ticked in cc)
   clear_behind place (Configured document schedule moment ∷ es) before low none ticked =
       absurd (let k = found_here place (marks_from (suc place) es) low none in cc)
@@ -144,7 +144,7 @@ module _ (s : Kept) (cut : CutValue) (is : IsState s) (of : IsCutOf s cut) (free
   pub commits_is : (new : Kept) (rows : List (List Value)) → rows ≡ meaning cut.key.text (rows_in cut.view) → Moves s (committed s cut rows) new → Commits s cut rows new
   commits_is new rows answer m = record {
     moves = m;
-    stands = λ base before since cuts stands. stands_next s new (committed s cut rows) is.image m base (before ++ since) stands (may_follow rows answer base before since cuts stands);
+    stands = λ base before since cuts stands. stands_next s new (committed s cut rows) refl is.image m base (before ++ since) stands (may_follow rows answer base before since cuts stands);
     cuts = known_still s new (batch_of cut (s.counts.batches + 1) rows) refl m;
   }
 

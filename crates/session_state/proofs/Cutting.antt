@@ -26,16 +26,12 @@ use Rattle.session_state.specs.Ticks.{first_due}
 use Rattle.session_state.specs.Cut.{CutValue}
 use Rattle.session_state.specs.Cutting.{next_place, lower_at, cut_of, HasCut, CutStands}
 use Rattle.session_state.proofs.Counted.{known_run}
-use Rattle.session_state.proofs.Dues.{due_queries_are, none_pass, no_position}
+use Rattle.session_state.proofs.Dues.{due_queries_are, none_pass, no_position, cursor_same}
 use Rattle.session_state.proofs.Known.{IsAlike, known_alike}
 use Rattle.session_state.proofs.Shown.{run_same, shows}
 
 pub contains_at : {X : Type 0} (xs : List X) (i : ℕ) (x : X) → slice_get xs i ≡ Some x → Contains xs x
 contains_at xs i x e = (i, slice_get_within xs i x e, get_or_from_slice_get xs i x x e)
-
-hi_by : (key : QueryKey) (o : Option Run) → (unwrap_or o (no_run key)).hi ≡ option_map_or (λ (run : Run). run.hi) o 0
-hi_by key None = refl
-hi_by key (Some run) = refl
 
 number_by : (key : QueryKey) (o : Option Run) → (unwrap_or o (no_run key)).number ≡ option_map_or (λ (run : Run). run.number) o 0
 number_by key None = refl
@@ -47,8 +43,7 @@ number_same K s h key =
     ap (λ (run : Run). run.number) (run_same K s h key) ∙ number_by key (cursors.run_of s.counts.runs key)
 
 lower_same : (K : List Entry) (s : Kept) → HasValues K s → (key : QueryKey) (mode : Mode) → lower_at s key mode ≡ begins_at K key mode
-lower_same K s h key Evented =
-    sym (ap (λ (run : Run). run.hi) (run_same K s h key) ∙ hi_by key (cursors.run_of s.counts.runs key))
+lower_same K s h key Evented = sym (cursor_same K s h key)
 lower_same K s h key Snapshot = refl
 
 -- the query that is cut next is due

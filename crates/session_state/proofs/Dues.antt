@@ -2,27 +2,31 @@
 use Rattle.std.proofs.Common.{◌≡◌, ℕ, zero, suc, ◌+◌, ◌≤◌, Bool, true, false, cond, List, [], ◌∷◌, length, map, Option, Some, None, refl, sym, ap, ◌∙◌, arith}
 use Rattle.std.specs.Prelude.{All, Contains, filter, find, position, is_some, unwrap_or, not, if◌then◌else◌, nat_lt, nat_le, ◌==◌, ◌||◌}
 use Rattle.std.specs.List.{position_or_len}
+use Rattle.std.specs.Option.{option_map_or}
 use Rattle.std.proofs.lemmas.Bool.Decides.{nat_tests}
 use Rattle.std.proofs.lemmas.List.Elements.{All-contains, Contains-append_right}
 use Rattle.osq_value.specs.declared.moment.TheConstants.{LAST_MOMENT}
+use Rattle.pack_rules.specs.declared.schedule.QueryKey.{QueryKey}
 use Rattle.pack_rules.specs.declared.schedule.Scheduled.{Scheduled}
 use Rattle.pack_rules.specs.Keys.{same_key}
 use Rattle.entry_model.specs.declared.entry.Entry.{Entry}
 use Rattle.entry_model.specs.declared.entry.Entry.TheVariants.{Ticked, Expired}
 use Rattle.entry_model.specs.declared.restored.Run.{Run}
-use Rattle.entry_model.specs.Values.{batches_of, has_ticked, schedule_of}
-use Rattle.entry_model.specs.Views.{is_due, due_queries, owed_floor, is_evented_table}
+use Rattle.entry_model.specs.Values.{batches_of, cursor_of, has_ticked, schedule_of}
+use Rattle.entry_model.specs.Views.{is_due, due_queries, owed_floor, is_evented_table, is_reader, least_of, reached_of}
 use Rattle.entry_model.specs.Legal.{LegalNext}
 use Rattle.entry_model.specs.Next.{run_at, no_run}
 use Rattle.entry_model.specs.Summary.{run_from}
 use Rattle.entry_model.proofs.Summaries.{run_is}
 use Rattle.query_cursors.specs.Due as cursors
 use Rattle.event_store.specs.Owed.{owed_of}
+use Rattle.event_store.proofs.Bridge.{owed_by_rules}
 use Rattle.session_state.specs.Kept.{Counts, Kept, IsRun}
 use Rattle.session_state.specs.StateOf.{HasValues}
-use Rattle.session_state.specs.Ticks.{first_due, first_owed, owed_at, refusal_of, held_back_by}
+use Rattle.session_state.specs.Ticks.{first_due, first_owed, owed_at, reached_at, refusal_of, held_back_by}
 use Rattle.session_state.specs.Laws as list
 use Rattle.session_state.specs.Laws.{KnowsDues, Dues}
+use Rattle.session_state.proofs.Shown.{run_same}
 
 -- where nothing passes a test, its filter keeps nothing
 pub none_pass : {X : Type 0} (p : X → Bool) (xs : List X) → nat_lt (position_or_len p xs) (length xs) ≡ false → filter p xs ≡ []
@@ -76,9 +80,22 @@ pub due_queries_are : (K : List Entry) (s : Kept) → HasValues K s → All (IsR
 due_queries_are K s h runs =
     λ i. if h.ticked i then map (λ (scheduled : Scheduled). scheduled.key) (filter (λ (scheduled : Scheduled). due_same K s h runs scheduled i) (h.schedule i).queries) else []
 
+hi_by : (key : QueryKey) (o : Option Run) → (unwrap_or o (no_run key)).hi ≡ option_map_or (λ (run : Run). run.hi) o 0
+hi_by key None = refl
+hi_by key (Some run) = refl
+
+-- a query has read as far by its run as by the list
+pub cursor_same : (K : List Entry) (s : Kept) → HasValues K s → (key : QueryKey) → cursor_of K key ≡ cursors.cursor_of s.counts.runs key
+cursor_same K s h key = ap (λ (run : Run). run.hi) (run_same K s h key) ∙ hi_by key (cursors.run_of s.counts.runs key)
+
+reached_same : (K : List Entry) (s : Kept) → HasValues K s → (table : ℕ) → reached_of K table ≡ reached_at s table
+reached_same K s h table =
+    λ i. unwrap_or (least_of (map (λ (scheduled : Scheduled). cursor_same K s h scheduled.key i) (filter (is_reader table) (h.schedule i).queries))) (sym h.image.last i)
+
 pub owed_is : (K : List Entry) (s : Kept) → HasValues K s → (table : ℕ) → is_evented_table table ≡ true → owed_floor K table ≡ owed_at s table
 owed_is K s h table is =
-    λ i. if h.ticked i then owed_of (h.schedule i).events_expiry (h.schedule i).events_max (h.counts i).moment (sym (h.image.live table is) i) else None
+    ap (λ (o : Option ℕ). if has_ticked K then o else None) (sym (owed_by_rules K table h.rules))
+    ∙ (λ i. if h.ticked i then owed_of (h.schedule i).events_expiry (h.schedule i).events_max (h.counts i).moment (reached_same K s h table i) (sym (h.image.live table is) i) else None)
 
 pub none_due : (K : List Entry) (s : Kept) → HasValues K s → All (IsRun s.counts.batches) s.counts.runs → first_due s ≡ None → due_queries K ≡ []
 none_due K s h runs none = due_queries_are K s h runs ∙ by_tick s.ticked refl

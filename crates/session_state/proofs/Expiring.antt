@@ -14,7 +14,7 @@ use Rattle.session_state.specs.Kept.{Counts, Kept, counts_next}
 use Rattle.session_state.specs.Marks.{mark_in}
 use Rattle.session_state.specs.StateOf.{IsStateOf, Adds}
 use Rattle.session_state.proofs.Known.{known_alike}
-use Rattle.session_state.specs.Ticks.{owed_at}
+use Rattle.session_state.specs.Ticks.{owed_at, reached_by}
 use Rattle.session_state.specs.Expiries.{expiry_of, expiries, Stays, AddsAll, AddsSome}
 
 stays_stands : (s t : Kept) → Stays s t → (base : Restored) (added : List Entry) → IsStateOf base added s → IsStateOf base added t
@@ -74,13 +74,13 @@ some_all s t new (Some e) es some all = (t, some, all)
 
 expiry_stays : (s t : Kept) → Stays s t → (table : ℕ) → expiry_of t table ≡ expiry_of s table
 expiry_stays s t same table =
-    λ i. option_map (λ (floor : ℕ). Expired (record { 0 = table }) floor (same.counts i).moment) (if same.ticked i then owed_of (same.schedule i).events_expiry (same.schedule i).events_max (same.counts i).moment (live_at (same.image i) table) else None)
+    λ i. option_map (λ (floor : ℕ). Expired (record { 0 = table }) floor (same.counts i).moment) (if same.ticked i then owed_of (same.schedule i).events_expiry (same.schedule i).events_max (same.counts i).moment (reached_by (same.counts i).runs (same.schedule i).queries (same.image i).last table) (live_at (same.image i) table) else None)
 
 -- what expires of one table changes no other
 expiry_other : (s t : Kept) (expired table floor moment : ℕ) → (table == expired) ≡ false → Adds s (Expired (record { 0 = expired }) floor moment) t → expiry_of t table ≡ expiry_of s table
 expiry_other s t expired table floor moment other a =
     let live = a.moves.image.live table ∙ ap (λ (b : Bool). cond b (above floor (live_at s.image table)) (live_at s.image table)) other in
-    λ i. option_map (λ (floor : ℕ). Expired (record { 0 = table }) floor (a.moves.counts i).moment) (if a.moves.ticked i then owed_of (a.moves.schedule i).events_expiry (a.moves.schedule i).events_max (a.moves.counts i).moment (live i) else None)
+    λ i. option_map (λ (floor : ℕ). Expired (record { 0 = table }) floor (a.moves.counts i).moment) (if a.moves.ticked i then owed_of (a.moves.schedule i).events_expiry (a.moves.schedule i).events_max (a.moves.counts i).moment (reached_by (a.moves.counts i).runs (a.moves.schedule i).queries (a.moves.image.last i) table) (live i) else None)
 
 expiry_kept : (s t : Kept) (expired table : ℕ) → (table == expired) ≡ false → AddsSome s (expiry_of s expired) t → expiry_of t table ≡ expiry_of s table
 expiry_kept s t expired table other h = by_owed (owed_at s expired) h

@@ -127,12 +127,12 @@ quiet old new position batches runs moment schedule ticked marks =
 
 -- the entries that a session adds beside its opening and its batches
 abbrev pub is_told : Entry → Bool
-is_told (Opened session) = false
+is_told (Opened session rules) = false
 is_told (Committed batch) = false
 is_told _ = true
 
 pub known_next : (old new : Kept) (e : Entry) → is_told e ≡ true → Moves old e new → (cut : CutValue) → IsCutOf old cut → IsCutOf new cut
-known_next old new (Opened session) told m = absurd (cc)
+known_next old new (Opened session rules) told m = absurd (cc)
 known_next old new (Committed batch) told m = absurd (cc)
 known_next old new (Configured document schedule moment) told m =
     known_marked old new (ap (λ (c : Counts). c.position) m.counts) (ap (λ (c : Counts). c.batches) m.counts) m.marks

@@ -14,3 +14,4 @@ pub mod Passed
 pub mod Marked
 pub mod Placed
 pub mod Sliced
+pub mod Reading

@@ -30,7 +30,7 @@ counts_of r =
 
 -- these values after one more entry
 abbrev pub counts_next : Counts → Entry → Counts
-counts_next c (Opened session) = record c { position = c.position + 1; sessions = c.sessions + 1 }
+counts_next c (Opened session rules) = record c { position = c.position + 1; sessions = c.sessions + 1 }
 counts_next c (Configured document schedule moment) = record c { position = c.position + 1; moment = moment }
 counts_next c (Ticked moment) = record c { position = c.position + 1; moment = moment }
 counts_next c (Appended source taken events skipped moment) = record c { position = c.position + 1; taken = with_offset c.taken source taken }

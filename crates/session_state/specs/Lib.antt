@@ -14,4 +14,5 @@ pub mod Commits
 pub mod Laws
 pub mod Inside
 pub mod Listed
+pub mod Readers
 pub mod Sealing

@@ -3,7 +3,7 @@ use Rattle.std.specs.Prelude.{◌≡◌, ◌+◌, List, [], ◌∷◌, ◌++◌,
 use Rattle.entry_model.specs.declared.entry.Entry.{Entry}
 use Rattle.entry_model.specs.declared.entry.Entry.TheVariants.{Opened}
 use Rattle.entry_model.specs.declared.restored.Restored.{Restored}
-use Rattle.entry_model.specs.Values.{schedule_in, schedule_of, tick_in, has_ticked, no_schedule}
+use Rattle.entry_model.specs.Values.{schedule_in, schedule_of, tick_in, has_ticked, no_schedule, rules_of}
 use Rattle.entry_model.specs.Legal.{Legal}
 use Rattle.entry_model.specs.Summary.{summary}
 use Rattle.event_store.specs.Contents.{Holds}
@@ -13,13 +13,14 @@ use Rattle.session_state.specs.Cut.{CutValue}
 use Rattle.session_state.specs.CutOf.{IsCutOf}
 use Rattle.session_state.specs.Marks.{mark_in, marks_from}
 
--- the list is legal, and these are its values
+-- the list is legal, its session runs by rules 2, and these are its values
 pub record HasValues (entries : List Entry) (state : Kept) : Type 0 where
   pub legal : Legal entries
   pub counts : counts_of (summary entries) ≡ state.counts
   pub image : StandsFor entries state.image
   pub schedule : schedule_of entries ≡ state.schedule
   pub ticked : has_ticked entries ≡ state.ticked
+  pub rules : rules_of entries ≡ 2
 
 -- the state stands for these entries, added to any legal list with this summary
 pub record IsStateOf (base : Restored) (added : List Entry) (state : Kept) : Type 0 where
@@ -44,11 +45,11 @@ pub record Adds (old : Kept) (entry : Entry) (new : Kept) : Type 0 where
 
 -- the state of a session that opens over these values
 pub record Begins (restored : Restored) (state : Kept) : Type 0 where
-  pub stands : IsStateOf restored (Opened (restored.sessions + 1) ∷ []) state
-  pub counts : state.counts ≡ counts_next (counts_of restored) (Opened (restored.sessions + 1))
+  pub stands : IsStateOf restored (Opened (restored.sessions + 1) 2 ∷ []) state
+  pub counts : state.counts ≡ counts_next (counts_of restored) (Opened (restored.sessions + 1) 2)
   pub image : Holds restored state.image
   pub schedule : state.schedule ≡ no_schedule
   pub ticked : state.ticked ≡ false
   pub marks : state.marks ≡ []
   pub claims : state.claims ≡ []
-  pub tail : state.tail ≡ Opened (restored.sessions + 1) ∷ []
+  pub tail : state.tail ≡ Opened (restored.sessions + 1) 2 ∷ []

@@ -5,6 +5,7 @@ mod computed;
 pub mod cut;
 pub mod laws;
 mod listed;
+mod readers;
 mod readings;
 mod slices;
 pub mod state;

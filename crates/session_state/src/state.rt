@@ -14,13 +14,14 @@ ghost use Rattle.event_store.specs.Slices.{IsSliceOf};
 ghost use Rattle.session_state.specs.Kept.{due_count, IsState};
 ghost use Rattle.session_state.specs.StateOf.{Adds, Begins, IsStateOf};
 ghost use Rattle.entry_model.specs.Views.{is_evented_table, is_recorded_table};
-ghost use Rattle.session_state.specs.Ticks.{held_back_by, first_due, owed_at};
+ghost use Rattle.session_state.specs.Ticks.{held_back_by, first_due, owed_at, reached_at};
 ghost use Rattle.std.specs.List.{cons_option};
 ghost use Rattle.std.specs.Option.{option_map_or};
 ghost use Rattle.osq_value.specs.declared.moment.TheConstants.{LAST_MOMENT};
 ghost use Rattle.query_cursors.specs.Places.{places_of};
 ghost use Rattle.session_state.specs.Computed.{schedule_shown, shown_by};
 ghost use Rattle.session_state.specs.Listed.{AreFresh};
+ghost use Rattle.session_state.specs.Readers.{readers_of};
 ghost use Rattle.session_state.specs.Cut.{CutValue};
 ghost use Rattle.session_state.specs.CutOf.{mark_from, IsCutOf};
 ghost use Rattle.session_state.specs.Marks.{IsRising};
@@ -38,6 +39,7 @@ ghost use Rattle.event_store.specs.Contents.{rows_in};
 use crate::computed::{event_rows, time_rows};
 use crate::cut::Cut;
 use crate::listed::Listed;
+use crate::readers::Readers;
 use crate::readings::{offset_of, offsets_with, refusal};
 use crate::slices::Slices;
 use crate::tail::Tail;
@@ -57,6 +59,9 @@ const MOST: u64 = (1 << 63) - 1;
 
 /// The greatest number that a batch may have.
 const LAST_BATCH: u64 = 1 << 62;
+
+/// The rules of each session that begins: old events wait until each query that reads them has passed them.
+const RULES: u32 = 2;
 
 /// Why a tick does not begin.
 #[derive(Clone, Copy, Debug, Error)]
@@ -122,6 +127,8 @@ pub struct State {
     from: usize,
     /// The rows of `osquery_schedule`, which cuts share.
     listed: Listed,
+    /// The queries of the schedule for which events wait.
+    readers: Readers,
     tail: Tail,
 }
 
@@ -147,6 +154,7 @@ struct Running {
     /// Where each query has its last batch among those of all.
     places: Vec<Option<usize>>,
     listed: Listed,
+    readers: Readers,
 }
 
 /// Makes room for so many commits, whichever queries they are of.
@@ -257,7 +265,7 @@ impl State {
     /// let mut state = State::begin(alloc, Restored::empty(alloc))?;
     /// state.last_number()       // 0: there is no event yet
     /// state.batch_count()       // 0
-    /// state.take_tail(alloc)?   // the one entry Opened { session: 1 }, which is to be sealed
+    /// state.take_tail(alloc)?   // the one entry Opened { session: 1, rules: 2 }, which is to be sealed
     /// ```
     pub fn begin(alloc: Global, restored: Restored) -> Result<State, NoMemory>
         requires { Fits restored }
@@ -271,7 +279,10 @@ impl State {
         image.is_image();
         let session = restored.sessions + 1;
         let mut tail = Tail::new(alloc);
-        tail.push(Entry::Opened { session })?;
+        tail.push(Entry::Opened {
+            session,
+            rules: RULES,
+        })?;
         Ok(State {
             position: restored.position + 1,
             sessions: session,
@@ -293,6 +304,7 @@ impl State {
             claims: Vec::new(alloc),
             from: 0,
             listed,
+            readers: Readers::none(alloc),
             tail,
         })
     }
@@ -366,6 +378,16 @@ impl State {
         Ok(true)
     }
 
+    /// Up to which number each query that reads the evented table has read; where none does, up to the last event. It takes a
+    /// step for each such query.
+    fn reached(&self, table: TableId) -> u64
+        requires { is_evented_table table.0 ≡ true }
+        ensures { result ≡ reached_at self.now table.0 }
+    {
+        self.cursors
+            .reached(self.readers.at(table), self.image.last())
+    }
+
     /// Up to which number the events of an evented table are to expire at the present tick.
     fn owed(&self, table: TableId) -> Option<u64>
         requires { is_evented_table table.0 ≡ true }
@@ -377,7 +399,9 @@ impl State {
         }
         let expiry = self.schedule.events_expiry;
         let most = self.schedule.events_max;
-        self.image.floor_owed(table, expiry, most, self.moment)
+        let reached = self.reached(table);
+        self.image
+            .floor_owed(table, expiry, most, self.moment, reached)
     }
 
     /// The place of the first query that is due at the present tick.
@@ -491,6 +515,7 @@ impl State {
         self.claims = running.claims;
         self.from = 0;
         self.listed = running.listed;
+        self.readers = running.readers;
         self.cursors.set_places(running.places);
         self.schedule = running.schedule;
         self.position += 1;
@@ -505,17 +530,20 @@ impl State {
         ensures claims { IfOk result (λ running. running.claims.items ≡ replicate (length schedule.now.queries) false) }
         ensures places { IfOk result (λ running. running.places.items ≡ places_of self.now.counts.runs schedule.now.queries) }
         ensures listed { IfOk result (λ running. AreFresh (schedule_shown self.now.counts.runs schedule.now.queries) running.listed) }
+        ensures readers { IfOk result (λ running. running.readers ≡ readers_of schedule.now.queries) }
     {
         let kept = schedule.copy(alloc)?;
         let claims = unclaimed(alloc, kept.queries.len())?;
         let queries = kept.queries.as_slice();
         let places = self.cursors.find_places(alloc, queries)?;
         let listed = Listed::of(alloc, queries, &self.cursors, places.as_slice())?;
+        let readers = Readers::of(alloc, queries)?;
         Ok(Running {
             schedule: kept,
             claims,
             places,
             listed,
+            readers,
         })
     }
 

@@ -23,7 +23,7 @@ counts_after-push c (x ∷ es) e = counts_after-push (counts_next c x) es e
 
 -- each entry takes one place
 placed_next : (c : Counts) (e : Entry) → (counts_next c e).position ≡ c.position + 1
-placed_next c (Opened session) = refl
+placed_next c (Opened session rules) = refl
 placed_next c (Configured document schedule moment) = refl
 placed_next c (Ticked moment) = refl
 placed_next c (Appended source taken events skipped moment) = refl

@@ -12,7 +12,8 @@ use Rattle.publisher_core.specs.Audit.{items_of}
 use Rattle.publisher_core.specs.AuditParts.{BeginsWithLine, lines_in}
 use Rattle.publisher_core.specs.Records.{ended, HaveNoFeed}
 use Rattle.publisher_core.specs.Standing.{Gives, Reader, HasPublished, Waits, is_at_end}
-use Rattle.publisher_core.specs.Stepping.{HoldsLast, IsDry, Steps, STEP_BYTES}
+use Rattle.record_lines.specs.Limits.{STEP_BYTES}
+use Rattle.publisher_core.specs.Stepping.{HoldsLast, IsDry, Steps}
 use Rattle.publisher_core.proofs.Given.{ended-append}
 use Rattle.publisher_core.proofs.Standing.{over_dry}
 use Rattle.source_feeds.specs.Feeding.{IsLeft}

@@ -5,7 +5,7 @@ use Rattle.osq_value.specs.declared.reading.Reading.{Reading}
 use Rattle.publisher_core.specs.declared.record.ReadRecord.{ReadRecord}
 use Rattle.publisher_core.specs.Readings.{readings_of, skipped_of}
 use Rattle.publisher_core.specs.Standing.{is_at_end}
-use Rattle.publisher_core.specs.Stepping.{STEP_BYTES}
+use Rattle.record_lines.specs.Limits.{STEP_BYTES}
 use Rattle.source_feeds.specs.Feeding.{Fed, Feeding, counted}
 use Rattle.source_feeds.specs.Taking.{ReadsTo, Takes, TakesAll}
 

@@ -10,7 +10,7 @@ use Rattle.publisher_core.specs.Audit.{items_of}
 use Rattle.publisher_core.specs.AuditParts.{BeginsWithLine, lines_in}
 use Rattle.publisher_core.specs.Records.{ended, HaveNoFeed}
 use Rattle.publisher_core.specs.Standing.{Gives}
-use Rattle.publisher_core.specs.Stepping.{STEP_BYTES}
+use Rattle.record_lines.specs.Limits.{STEP_BYTES}
 
 -- the lines whose line feed is among the first 16777216 of these bytes
 abbrev pub front_lines : List ℕ → List (List ℕ)

@@ -4,3 +4,4 @@ pub mod Kinds
 pub mod Making
 pub mod Bare
 pub mod Resolve
+pub mod Unmeant

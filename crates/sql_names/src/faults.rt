@@ -23,7 +23,7 @@ use sql_tree::select::{Having, Item, Select, TableRef, Term};
 use sql_tree::tree::{Name, Node};
 use std::alloc::Global;
 
-fn place_if(is_fault: bool, place: usize) -> Option<usize>
+pub(crate) fn place_if(is_fault: bool, place: usize) -> Option<usize>
     ensures { result ≡ place_only_if is_fault place }
 {
     if is_fault { Some(place) } else { None }
@@ -317,7 +317,7 @@ fn terms_missing(count: usize, terms: &[Term]) -> Option<usize>
 }
 
 /// Whether a plain name stands for nothing but itself.
-fn is_word(meaning: Meaning) -> bool
+pub(crate) fn is_word(meaning: Meaning) -> bool
     ensures { result ≡ is_a_word meaning }
 {
     match meaning {

@@ -9,6 +9,7 @@ mod faults;
 mod making;
 pub mod resolve;
 pub mod results;
+pub mod unmeant;
 
 pub use sql_query::query::{
     Condition, ExprList, Order, OrderList, Query, QueryItem, QueryItemList, QuerySource,

@@ -72,7 +72,7 @@ fn first_fault(
 }
 
 /// The columns of the result, which stand for columns of the tables alone.
-fn shown_of_select(
+pub(crate) fn shown_of_select(
     alloc: Global,
     derived: &[Derived],
     text: &str,

@@ -53,7 +53,7 @@ const IMAGE_CALLS: [LineKind; 8] = [
     ("expire", &["table", "floor"]),
     (
         "floor_owed",
-        &["table", "events_expiry", "events_max", "moment"],
+        &["table", "events_expiry", "events_max", "moment", "reached"],
     ),
     ("show", &[]),
     ("slice", &["above"]),
@@ -62,10 +62,11 @@ const IMAGE_CALLS: [LineKind; 8] = [
 ];
 
 /// Those of cursors.
-const CURSOR_CALLS: [LineKind; 4] = [
+const CURSOR_CALLS: [LineKind; 5] = [
     ("next_due", &["claimed", "moment"]),
     ("first_due", &["moment"]),
     ("find", &["query", "place"]),
+    ("reached", &["readers", "last"]),
     (
         "record_commit",
         &["query", "place", "number", "hi", "moment"],

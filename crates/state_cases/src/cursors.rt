@@ -127,6 +127,27 @@ fn find(alloc: Global, text: &mut String, cursors: &Cursors, line: &Json) -> Res
     push_known(text, cursors, &key, place)
 }
 
+/// The places that a line gives of readers.
+fn readers_of(alloc: Global, line: &Json) -> Result<Vec<usize>, NoMemory> {
+    let mut readers = Vec::new(alloc);
+    for item in items_in(line, "readers") {
+        let place = usize::try_from(item.as_u64().unwrap_or(u64::MAX));
+        readers.push(place.unwrap_or(usize::MAX))?;
+    }
+    Ok(readers)
+}
+
+fn push_reached(
+    alloc: Global,
+    text: &mut String,
+    cursors: &Cursors,
+    line: &Json,
+) -> Result<(), NoMemory> {
+    let readers = readers_of(alloc, line)?;
+    let reached = cursors.reached(readers.as_slice(), number_of(line, "last"));
+    push_number(text, " ", reached)
+}
+
 /// Makes a call that notes nothing.
 fn ask(
     alloc: Global,
@@ -141,6 +162,7 @@ fn ask(
         "next_due" => next_due(alloc, text, cursors, schedule, line),
         "first_due" => push_first_due(text, cursors, schedule, number_of(line, "moment")),
         "find" => find(alloc, text, cursors, line),
+        "reached" => push_reached(alloc, text, cursors, line),
         _ => tell(text, "no call"),
     }
 }

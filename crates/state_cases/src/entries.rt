@@ -75,10 +75,15 @@ fn push_batch(text: &mut String, batch: &Batch) -> Result<(), NoMemory> {
     push_rows(text, &batch.rows)
 }
 
-/// Adds an entry that has a number alone, or any other.
+fn push_opened(text: &mut String, session: u64, rules: u32) -> Result<(), NoMemory> {
+    push_number(text, "opened ", session)?;
+    push_number(text, ", rules ", u64::from(rules))
+}
+
+/// Adds an entry that has numbers alone, or any other.
 fn push_entry(text: &mut String, entry: &Entry) -> Result<(), NoMemory> {
     match entry {
-        Entry::Opened { session } => push_number(text, "opened ", *session),
+        Entry::Opened { session, rules } => push_opened(text, *session, *rules),
         Entry::Ticked { moment } => push_number(text, "ticked at ", *moment),
         Entry::Acked { upto } => push_number(text, "acked ", *upto),
         _ => push_change(text, entry),

@@ -133,7 +133,8 @@ fn push_floor_owed(text: &mut String, image: &Image, line: &Json) -> Result<(), 
         number_of(line, "events_expiry"),
         number_of(line, "events_max"),
     );
-    let owed = image.floor_owed(table, expiry, most, number_of(line, "moment"));
+    let moment = number_of(line, "moment");
+    let owed = image.floor_owed(table, expiry, most, moment, number_of(line, "reached"));
     push_number_or_none(text, owed)
 }
 

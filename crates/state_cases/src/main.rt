@@ -9,10 +9,10 @@
 //!   `view` (`tables`, `above`, `moment`), `ask` (`text`, `moment`), or `begin`, which opens a session over the values of the last
 //!   `values` line.
 //! - `{"image": CALL, ..}` is one of the image or of its slice: `append` (`events`, `moment`), `set_table` (`table`, `rows`),
-//!   `expire` (`table`, `floor`), `floor_owed` (`table`, `events_expiry`, `events_max`, `moment`), `show`, `slice` (`above`),
+//!   `expire` (`table`, `floor`), `floor_owed` (`table`, `events_expiry`, `events_max`, `moment`, `reached`), `show`, `slice` (`above`),
 //!   `set_computed` (`table`, `rows`) or `view` (`tables`), of which the last two are of the slice.
 //! - `{"cursors": CALL, ..}` is one of the cursors that have the `runs` of the last line that gives some, placed for its
-//!   `queries`: `next_due` (`claimed`, with `1` for each query that is, `moment`), `first_due` (`moment`), `find` (`query`, `place`) or `record_commit` (`query`, `place`,
+//!   `queries`: `next_due` (`claimed`, with `1` for each query that is, `moment`), `first_due` (`moment`), `find` (`query`, `place`), `reached` (`readers`, places from 0, `last`) or `record_commit` (`query`, `place`,
 //!   `number`, `hi`, `moment`).
 //! - `{"due": TEXT, ..}` asks whether a query of this `interval` is due at this `moment`, where its last batch was at `last`.
 //! - `{"fits": TEXT, ..}` asks whether a session may go on from these values, by pairs of runs and by the hashes of runs.

@@ -33,6 +33,7 @@ use Rattle.osq_value.proofs.value.Value.TheSendSync as value
 use Rattle.pack_rules.proofs.schedule.Form.TheSendSync as form
 use Rattle.pack_rules.proofs.schedule.Mode.TheSendSync as mode
 use Rattle.session_state.proofs.listed.Listed.TheSendSync as listed
+use Rattle.session_state.proofs.readers.Readers.TheSendSync as readers
 use Rattle.session_state.proofs.slices.Slices.TheSendSync as slices
 use Rattle.shared_store.below.atomic_table.proofs.owned.Table.TheSendSync as table
 use Rattle.shared_store.below.atomic_table.proofs.send_lease.SendLease.TheSendSync as sendlease
@@ -91,7 +92,7 @@ pub key_field_send : IsSend (QueryKey.the_field).row
 key_field_send = search (key_send, str.the_send, text_send, sendable) depth 24
 
 -- the parts of a store, of which keys are one
-pub ruleset of_stores = (arraystring.the_send, arraystring.the_sync, cells.the_field_send, cells.the_field_sync, cells.the_send, cells.the_sync, fold.the_field_send, fold.the_field_sync, fold.the_send, fold.the_sync, function.the_field_send, function.the_field_sync, function.the_send, function.the_sync, operator.the_field_send, operator.the_field_sync, operator.the_send, operator.the_sync, live.the_field_send, live.the_field_sync, live.the_send, live.the_sync, settable.the_field_send, settable.the_field_sync, settable.the_send, settable.the_sync, taken.the_field_send, taken.the_field_sync, taken.the_send, taken.the_sync, events.the_send, events.the_sync, image.the_send, image.the_sync, partedrows.the_send, partedrows.the_sync, eventqueue.the_send, eventqueue.the_sync, segment.the_field_send, segment.the_field_sync, segment.the_send, segment.the_sync, sharedsegment.the_send, sharedsegment.the_sync, segments.the_field_send, segments.the_field_sync, segments.the_send, segments.the_sync, sharedrows.the_send, sharedrows.the_sync, held.the_field_send, held.the_field_sync, held.the_send, held.the_sync, shownrows.the_send, shownrows.the_sync, eventslice.the_field_send, eventslice.the_field_sync, eventslice.the_send, eventslice.the_sync, sharedevents.the_send, sharedevents.the_sync, cutview.the_send, cutview.the_sync, affinity.the_field_send, affinity.the_field_sync, affinity.the_send, affinity.the_sync, row.the_send, row.the_sync, values.the_field_send, values.the_field_sync, values.the_send, values.the_sync, sequence.the_send, sequence.the_sync, text_held.the_field_send, text_held.the_field_sync, text_held.the_send, text_held.the_sync, str.the_send, str.the_sync, event.the_field_send, event.the_field_sync, event.the_send, event.the_sync, tableid.the_field_send, tableid.the_field_sync, tableid.the_send, tableid.the_sync, value.the_field_send, value.the_field_sync, value.the_send, value.the_sync, form.the_field_send, form.the_field_sync, form.the_send, form.the_sync, mode.the_field_send, mode.the_field_sync, mode.the_send, mode.the_sync, listed.the_send, listed.the_sync, slices.the_send, slices.the_sync, table.the_field_send, table.the_field_sync, table.the_send, table.the_sync, sendlease.the_send, sendlease.the_sync, seat.the_send, shared.the_send, shared.the_sync, sourcecolumn.the_field_send, sourcecolumn.the_field_sync, sourcecolumn.the_send, sourcecolumn.the_sync, nodes.the_send, nodes.the_sync, global.the_field_send, global.the_field_sync, global.the_send, global.the_sync, box.the_send, box.the_sync, linkedlist.the_send, linkedlist.the_sync, phantomdata.the_field_send, phantomdata.the_field_sync, phantomdata.the_send, phantomdata.the_sync, option.the_field_send, option.the_field_sync, option.the_send, option.the_sync, memory.the_field_send, memory.the_field_sync, memory.the_send, memory.the_sync, string.the_field_send, string.the_field_sync, string.the_send, string.the_sync, arc.the_send, arc.the_sync, atomicu64.the_send, atomicu64.the_sync, vec.the_send, vec.the_sync, law.the_field_send, law.the_field_sync, law.the_send, law.the_sync, phase.the_field_send, phase.the_field_sync, phase.the_send, phase.the_sync, view.the_field_send, view.the_field_sync, view.the_send, view.the_sync, turnlock.the_field_send, turnlock.the_field_sync, turnlock.the_send, turnlock.the_sync, turnseat.the_field_send, turnseat.the_send, sleepers.the_field_send, sleepers.the_field_sync, sleepers.the_send, sleepers.the_sync, key_send, key_sync)
+pub ruleset of_stores = (arraystring.the_send, arraystring.the_sync, cells.the_field_send, cells.the_field_sync, cells.the_send, cells.the_sync, fold.the_field_send, fold.the_field_sync, fold.the_send, fold.the_sync, function.the_field_send, function.the_field_sync, function.the_send, function.the_sync, operator.the_field_send, operator.the_field_sync, operator.the_send, operator.the_sync, live.the_field_send, live.the_field_sync, live.the_send, live.the_sync, settable.the_field_send, settable.the_field_sync, settable.the_send, settable.the_sync, taken.the_field_send, taken.the_field_sync, taken.the_send, taken.the_sync, events.the_send, events.the_sync, image.the_send, image.the_sync, partedrows.the_send, partedrows.the_sync, eventqueue.the_send, eventqueue.the_sync, segment.the_field_send, segment.the_field_sync, segment.the_send, segment.the_sync, sharedsegment.the_send, sharedsegment.the_sync, segments.the_field_send, segments.the_field_sync, segments.the_send, segments.the_sync, sharedrows.the_send, sharedrows.the_sync, held.the_field_send, held.the_field_sync, held.the_send, held.the_sync, shownrows.the_send, shownrows.the_sync, eventslice.the_field_send, eventslice.the_field_sync, eventslice.the_send, eventslice.the_sync, sharedevents.the_send, sharedevents.the_sync, cutview.the_send, cutview.the_sync, affinity.the_field_send, affinity.the_field_sync, affinity.the_send, affinity.the_sync, row.the_send, row.the_sync, values.the_field_send, values.the_field_sync, values.the_send, values.the_sync, sequence.the_send, sequence.the_sync, text_held.the_field_send, text_held.the_field_sync, text_held.the_send, text_held.the_sync, str.the_send, str.the_sync, event.the_field_send, event.the_field_sync, event.the_send, event.the_sync, tableid.the_field_send, tableid.the_field_sync, tableid.the_send, tableid.the_sync, value.the_field_send, value.the_field_sync, value.the_send, value.the_sync, form.the_field_send, form.the_field_sync, form.the_send, form.the_sync, mode.the_field_send, mode.the_field_sync, mode.the_send, mode.the_sync, listed.the_send, listed.the_sync, readers.the_send, readers.the_sync, slices.the_send, slices.the_sync, table.the_field_send, table.the_field_sync, table.the_send, table.the_sync, sendlease.the_send, sendlease.the_sync, seat.the_send, shared.the_send, shared.the_sync, sourcecolumn.the_field_send, sourcecolumn.the_field_sync, sourcecolumn.the_send, sourcecolumn.the_sync, nodes.the_send, nodes.the_sync, global.the_field_send, global.the_field_sync, global.the_send, global.the_sync, box.the_send, box.the_sync, linkedlist.the_send, linkedlist.the_sync, phantomdata.the_field_send, phantomdata.the_field_sync, phantomdata.the_send, phantomdata.the_sync, option.the_field_send, option.the_field_sync, option.the_send, option.the_sync, memory.the_field_send, memory.the_field_sync, memory.the_send, memory.the_sync, string.the_field_send, string.the_field_sync, string.the_send, string.the_sync, arc.the_send, arc.the_sync, atomicu64.the_send, atomicu64.the_sync, vec.the_send, vec.the_sync, law.the_field_send, law.the_field_sync, law.the_send, law.the_sync, phase.the_field_send, phase.the_field_sync, phase.the_send, phase.the_sync, view.the_field_send, view.the_field_sync, view.the_send, view.the_sync, turnlock.the_field_send, turnlock.the_field_sync, turnlock.the_send, turnlock.the_sync, turnseat.the_field_send, turnseat.the_send, sleepers.the_field_send, sleepers.the_field_sync, sleepers.the_send, sleepers.the_sync, key_send, key_sync)
 
 pub scheduled_send : IsSend Scheduled.the_row
 scheduled_send = search (key_send, key_field_send, Crossing.crosses, sendable) depth 60 fits 20000
@@ -142,10 +143,10 @@ pub tail_field_send : IsSend (Tail.the_field).row
 tail_field_send = search (tail_send, entry_send, entry_field_send, vec.the_send, global.the_field_send, global.the_send, Crossing.crosses, sendable) depth 60 fits 20000
 
 pub state_send : IsSend State.the_row
-state_send = search (cursors_send, cursors_field_send, schedule_send, schedule_field_send, tail_send, tail_field_send, sequence.the_send, taken.the_field_send, taken.the_send, image.the_send, vec.the_send, global.the_field_send, global.the_send, listed.the_send, slices.the_send, Crossing.crosses, sendable) depth 60 fits 20000
+state_send = search (cursors_send, cursors_field_send, schedule_send, schedule_field_send, tail_send, tail_field_send, sequence.the_send, taken.the_field_send, taken.the_send, image.the_send, vec.the_send, global.the_field_send, global.the_send, listed.the_send, readers.the_send, slices.the_send, Crossing.crosses, sendable) depth 60 fits 20000
 
 pub state_field_send : IsSend (State.the_field).row
-state_field_send = search (state_send, cursors_send, cursors_field_send, schedule_send, schedule_field_send, tail_send, tail_field_send, sequence.the_send, taken.the_field_send, taken.the_send, image.the_send, vec.the_send, global.the_field_send, global.the_send, listed.the_send, slices.the_send, Crossing.crosses, sendable) depth 60 fits 20000
+state_field_send = search (state_send, cursors_send, cursors_field_send, schedule_send, schedule_field_send, tail_send, tail_field_send, sequence.the_send, taken.the_field_send, taken.the_send, image.the_send, vec.the_send, global.the_field_send, global.the_send, listed.the_send, readers.the_send, slices.the_send, Crossing.crosses, sendable) depth 60 fits 20000
 
 pub shared_send : IsSend Shared.the_row
 shared_send = search (state_send, state_field_send, Crossing.crosses, sendable) depth 60 fits 20000

@@ -75,7 +75,7 @@ added_by parts = λ k d h moment reading. of (get_or parts k d) moment reading (
 
 answer_is : (parts : List Part) (entry : Entry) → IsAnswer entry → is_added parts entry ≡ true
 answer_is parts (Committed batch) is = refl
-answer_is parts (Opened session) is = absurd is
+answer_is parts (Opened session rules) is = absurd is
 answer_is parts (Configured document schedule moment) is = absurd is
 answer_is parts (Ticked moment) is = absurd is
 answer_is parts (Appended source taken events skipped moment) is = absurd is
@@ -98,7 +98,7 @@ abbrev pub IsStill : Entry → Type 0
 IsStill entry = (is_within entry ≡ true) × (moment_in entry ≡ None)
 
 pub added_still : (parts : List Part) (entry : Entry) → is_added parts entry ≡ true → IsStill entry
-added_still parts (Opened session) is = absurd (true≢false (sym is ∙ none_pass parts))
+added_still parts (Opened session rules) is = absurd (true≢false (sym is ∙ none_pass parts))
 added_still parts (Configured document schedule moment) is = absurd (true≢false (sym is ∙ none_pass parts))
 added_still parts (Ticked moment) is = absurd (true≢false (sym is ∙ none_pass parts))
 added_still parts (Appended source taken events skipped moment) is = (refl, refl)

@@ -117,7 +117,7 @@ told_part one other agree moment (Table taken table rows) = agree
 
 told_entry : (one : Part) (worker : ℕ) → (worker == one.number) ≡ false → (entry : Entry) → IsAnswer entry → IsTold one worker (Added entry)
 told_entry one worker apart (Committed batch) is = sym apart
-told_entry one worker apart (Opened session) is = absurd is
+told_entry one worker apart (Opened session rules) is = absurd is
 told_entry one worker apart (Configured document schedule moment) is = absurd is
 told_entry one worker apart (Ticked moment) is = absurd is
 told_entry one worker apart (Appended source taken events skipped moment) is = absurd is
@@ -163,7 +163,7 @@ both_names one other source is also = (bytes_eq-Decides other one).1 (sym ((byte
 both_entry : (one other : List ℕ) (entry : Entry) → is_from one entry ≡ true → is_from other entry ≡ true → bytes_eq other one ≡ true
 both_entry one other (Appended source taken events skipped moment) is also = both_names one other source is also
 both_entry one other (TableSet source table rows taken) is also = both_names one other source is also
-both_entry one other (Opened session) is also = absurd (true≢false (sym is))
+both_entry one other (Opened session rules) is also = absurd (true≢false (sym is))
 both_entry one other (Configured document schedule moment) is also = absurd (true≢false (sym is))
 both_entry one other (Ticked moment) is also = absurd (true≢false (sym is))
 both_entry one other (Expired table floor moment) is also = absurd (true≢false (sym is))
@@ -177,7 +177,7 @@ both_note one other (Given cut) is also = absurd (true≢false (sym is))
 
 answer_from : (name : List ℕ) (entry : Entry) → IsAnswer entry → is_from name entry ≡ true → ⊥
 answer_from name (Committed batch) is from = absurd (true≢false (sym from))
-answer_from name (Opened session) is from = absurd is
+answer_from name (Opened session rules) is from = absurd is
 answer_from name (Configured document schedule moment) is from = absurd is
 answer_from name (Ticked moment) is from = absurd is
 answer_from name (Appended source taken events skipped moment) is from = absurd is

@@ -10,7 +10,7 @@ use Rattle.event_store.specs.Laws.{Follows}
 use Rattle.event_store.specs.Owed.{owed_of}
 use Rattle.event_store.specs.Queues.{above, events_of, new_events}
 use Rattle.query_cursors.specs.Due as cursors
-use Rattle.session_state.specs.Ticks.{first_due, first_owed, owed_at, refusal_of}
+use Rattle.session_state.specs.Ticks.{first_due, first_owed, owed_at, reached_by, refusal_of}
 use Rattle.shared_store.specs.Notes.{entries_in}
 use Rattle.shared_store.specs.Values.{FollowsAll}
 use Rattle.thread_laws.specs.Laws.{Alike}
@@ -26,7 +26,7 @@ still_same one other one_next other_next first second same =
 
 -- one entry changes both alike
 next_same : (entry : Entry) (one other one_next other_next : Contents) → SameEvents one other → Follows entry one one_next → Follows entry other other_next → SameEvents one_next other_next
-next_same (Opened session) one other one_next other_next same first second = still_same one other one_next other_next first second same
+next_same (Opened session rules) one other one_next other_next same first second = still_same one other one_next other_next first second same
 next_same (Configured documents schedule moment) one other one_next other_next same first second = still_same one other one_next other_next first second same
 next_same (Ticked moment) one other one_next other_next same first second = still_same one other one_next other_next first second same
 next_same (Committed batch) one other one_next other_next same first second = still_same one other one_next other_next first second same
@@ -78,7 +78,7 @@ alike start notes one other base added is first second = record {
     due = λ i. if ticked i then cursors.first_due (counts i).runs (schedule i).queries (counts i).moment else None
 
     owed_same : (table : ℕ) → is_evented_table table ≡ true → owed_at one table ≡ owed_at other table
-    owed_same table evented = λ i. if ticked i then owed_of (schedule i).events_expiry (schedule i).events_max (counts i).moment (events.live table evented i) else None
+    owed_same table evented = λ i. if ticked i then owed_of (schedule i).events_expiry (schedule i).events_max (counts i).moment (reached_by (counts i).runs (schedule i).queries (events.last i) table) (events.live table evented i) else None
 
     owed : first_owed one ≡ first_owed other
     owed = λ i. if is_some (owed_same 0 refl i) then Some 0 else (if is_some (owed_same 1 refl i) then Some 1 else (if is_some (owed_same 2 refl i) then Some 2 else None))

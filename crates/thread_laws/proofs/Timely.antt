@@ -98,7 +98,7 @@ counts_more counts [] ys = refl
 counts_more counts (x ∷ xs) ys = counts_more (counts_next counts x) xs ys
 
 next_moment : (counts : Counts) (entry : Entry) → (counts_next counts entry).moment ≡ unwrap_or (moment_in entry) counts.moment
-next_moment counts (Opened session) = refl
+next_moment counts (Opened session rules) = refl
 next_moment counts (Configured documents schedule moment) = refl
 next_moment counts (Ticked moment) = refl
 next_moment counts (Appended source taken events skipped moment) = refl
@@ -124,7 +124,7 @@ module _ (now : ℕ) (scheduled : Scheduled) (least : 1 ≤ scheduled.interval) 
       by : (b : Bool) → is_due_by (with_batch runs batch.query batch.number batch.hi now) now scheduled ≡ b → is_due_by (counts_next counts (Committed batch)).runs now scheduled ≡ false
       by true e = absurd (true≢false (sym (was_due batch.query batch.number batch.hi now runs scheduled least e) ∙ not_due))
       by false e = same ∙ e
-  not_by_batch runs (Opened session) counts are made not_due = ap (λ (runs : List Run). is_due_by runs now scheduled) are ∙ not_due
+  not_by_batch runs (Opened session rules) counts are made not_due = ap (λ (runs : List Run). is_due_by runs now scheduled) are ∙ not_due
   not_by_batch runs (Configured documents schedule moment) counts are made not_due = ap (λ (runs : List Run). is_due_by runs now scheduled) are ∙ not_due
   not_by_batch runs (Ticked moment) counts are made not_due = ap (λ (runs : List Run). is_due_by runs now scheduled) are ∙ not_due
   not_by_batch runs (Appended source taken events skipped moment) counts are made not_due = ap (λ (runs : List Run). is_due_by runs now scheduled) are ∙ not_due
@@ -163,7 +163,7 @@ found_none p xs none = none_kept p xs (none_pass p xs (no_position p xs none))
 
 -- an entry within a step begins no session, tick or schedule
 no_tick : (entry : Entry) → is_within entry ≡ true → tick_in entry ≡ None
-no_tick (Opened session) is = absurd (true≢false (sym is))
+no_tick (Opened session rules) is = absurd (true≢false (sym is))
 no_tick (Configured documents schedule moment) is = refl
 no_tick (Ticked moment) is = absurd (true≢false (sym is))
 no_tick (Appended source taken events skipped moment) is = refl
@@ -173,7 +173,7 @@ no_tick (Committed batch) is = refl
 no_tick (Acked upto) is = refl
 
 no_scheduled : (entry : Entry) → is_within entry ≡ true → schedule_in entry ≡ None
-no_scheduled (Opened session) is = absurd (true≢false (sym is))
+no_scheduled (Opened session rules) is = absurd (true≢false (sym is))
 no_scheduled (Configured documents schedule moment) is = absurd (true≢false (sym is))
 no_scheduled (Ticked moment) is = refl
 no_scheduled (Appended source taken events skipped moment) is = refl

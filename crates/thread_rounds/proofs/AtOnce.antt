@@ -69,7 +69,7 @@ all_held names Q each notes works = entries_all Q notes (All-weaker (IsWorkOf na
 
 told : (entry : Entry) → IsSealable entry → IsTold entry
 told (Committed batch) is = let sent = is batch refl in record { accepted = sent.accepted; calendar = sent.calendar }
-told (Opened session) is = tt
+told (Opened session rules) is = tt
 told (Configured document schedule moment) is = tt
 told (Ticked moment) is = tt
 told (Appended source taken events skipped moment) is = tt

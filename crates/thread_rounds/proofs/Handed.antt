@@ -43,7 +43,7 @@ read_from name moment (Table taken table rows) = bytes_same name
 
 -- ---- offsets
 one_unmoved : (name : List ℕ) (c : Counts) (entry : Entry) → is_from name entry ≡ false → offset_at (counts_next c entry).taken name ≡ offset_at c.taken name
-one_unmoved name c (Opened session) none = refl
+one_unmoved name c (Opened session rules) none = refl
 one_unmoved name c (Configured document schedule moment) none = refl
 one_unmoved name c (Ticked moment) none = refl
 one_unmoved name c (Appended source taken events skipped moment) none = offset_other source taken name none c.taken

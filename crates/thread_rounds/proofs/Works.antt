@@ -28,7 +28,7 @@ number_of one = one.0
 -- what a worker adds
 answer_work : (names : List (List ℕ)) (entry : Entry) → IsAnswer entry → (is_work names entry ≡ true) × IsSealable entry
 answer_work names (Committed batch) is = (refl, λ other e. let same : batch ≡ other = cc in subst IsSendable same is)
-answer_work names (Opened session) is = absurd is
+answer_work names (Opened session rules) is = absurd is
 answer_work names (Configured document schedule moment) is = absurd is
 answer_work names (Ticked moment) is = absurd is
 answer_work names (Appended source taken events skipped moment) is = absurd is

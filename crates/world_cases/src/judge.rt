@@ -90,9 +90,9 @@ impl Judge {
         }
     }
 
-    fn opens(&mut self, session: u64) -> bool {
+    fn opens(&mut self, session: u64, rules: u32) -> bool {
         self.sessions = self.sessions.saturating_add(1);
-        session == self.sessions
+        session == self.sessions && rules == 2
     }
 
     fn begins(&mut self, moment: u64) -> bool {
@@ -145,7 +145,7 @@ impl Judge {
     /// Whether the entry may stand behind those before it.
     fn takes(&mut self, alloc: Global, entry: &Entry) -> Result<bool, NoMemory> {
         match entry {
-            Entry::Opened { session } => Ok(self.opens(*session)),
+            Entry::Opened { session, rules } => Ok(self.opens(*session, *rules)),
             Entry::Configured {
                 document: _,
                 schedule: _,

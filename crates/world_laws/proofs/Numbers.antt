@@ -26,7 +26,7 @@ numbered_next K e legal h may = subst (Numbered 1) (sym (commits-append K (e ∷
     quiet = subst (Numbered 1) (sym (append-nil (commits K))) h
 
     by : (e : Entry) → LegalNext K e → Numbered 1 (commits K ++ commits (e ∷ []))
-    by (Opened session) may = quiet
+    by (Opened session rules) may = quiet
     by (Configured document schedule moment) may = quiet
     by (Ticked moment) may = quiet
     by (Appended source taken events skipped moment) may = quiet

@@ -1,6 +1,6 @@
 use Rattle.std.proofs.Common.{◌≡◌, ◌≤◌, vec_len}
 use Rattle.collector_core.specs.Ledgers.{digests_of}
-use Rattle.collect_rounds.specs.Runs.{PIECE_BYTES}
+use Rattle.record_lines.specs.Limits.{PIECE_BYTES}
 use Rattle.collect_rounds.proofs.Rounding.{HasRun}
 use Rattle.collect_rounds.proofs.rounds.collect.Given as goal
 

@@ -1,5 +1,6 @@
 use Rattle.std.proofs.Common.{rules, ◌≡◌, ◌++◌, ℕ, List, length, take, sym, ap, ◌∙◌, arith, Ok}
-use Rattle.collect_rounds.specs.Runs.{PIECE_BYTES, Written}
+use Rattle.record_lines.specs.Limits.{PIECE_BYTES}
+use Rattle.collect_rounds.specs.Runs.{Written}
 use Rattle.collect_rounds.proofs.Rounding.{goes-further, more-left, round-ended, round-full, round-stopped, stops-further, stops-unread}
 use Rattle.collect_rounds.proofs.rounds.take_round.Goals as goal
 

@@ -1,7 +1,8 @@
 use Rattle.std.proofs.Common.{◌≡◌, ◌≤◌, ◌-◌, ℕ, Bool, List, length}
 use Rattle.collector_core.specs.Received.{HostDigests}
 use Rattle.collect_rounds.specs.Rounds.{IsAt}
-use Rattle.collect_rounds.specs.Runs.{PIECE_BYTES, ROUND_BYTES, STEP_BYTES, Written}
+use Rattle.record_lines.specs.Limits.{PIECE_BYTES, STEP_BYTES}
+use Rattle.collect_rounds.specs.Runs.{ROUND_BYTES, Written}
 use Rattle.collect_rounds.proofs.Rounding.{GoesOn}
 use Rattle.collect_rounds.proofs.rounds.take_round.Given as goal
 

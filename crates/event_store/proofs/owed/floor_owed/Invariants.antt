@@ -6,5 +6,5 @@ use Rattle.event_store.proofs.owed.floor_owed.Given as goal
 abbrev pub invariant-loop-at : goal.invariant-loop-at
 invariant-loop-at l = record {
   later : l.later + l.at ≡ length (live_in l.segments l.table);
-  owed : owed_from l.expiry l.max l.moment l.owed (drop l.at (live_in l.segments l.table)) ≡ owed_from l.expiry l.max l.moment None (live_in l.segments l.table);
+  owed : owed_from l.limits.expiry l.limits.max l.limits.moment l.limits.reached l.owed (drop l.at (live_in l.segments l.table)) ≡ owed_from l.limits.expiry l.limits.max l.limits.moment l.limits.reached None (live_in l.segments l.table);
 }

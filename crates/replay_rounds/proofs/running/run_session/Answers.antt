@@ -173,7 +173,7 @@ loop-init g c =
       results_later = results_first;
       status_later = c.open_noted.ensures.later;
       noted = c.open_noted.ensures.grown;
-      told = λ tells. noted_so (fixed_of g.T.TakesRound.order g.K.Keeper g.O.Sink g.S.Source g.L.Link c.args.basis.now c.args.sources.now c.args.keeper.now c.args.results.now c.args.link.now) c.args.basis.now.configured.notes (g.O.Sink.written c.args.status.now) ((record { list = (g.K.Keeper.kept c.args.keeper.now) ++ (Opened opens.0.number ∷ opens.0.tables); moment = c.in-Ok-open_noted.session.configured_at }) ∷ []) _ _ (counted_first _ _ _ _ _ _ _ _ _ _ _ _ _ _ _ c.open_noted.new.clock (g.K.Keeper.kept c.load_values.new.keeper) (g.K.Keeper.kept c.take_tick.new.keeper) (g.O.Sink.written c.take_tick.new.results) c.as_mut_slice-feeds.result.now c.take_tick.new.feeds c.open_noted.new.sources c.take_tick.new.sources c.in-Ok-open_noted.session.configured_at c.in-Ok-open_noted.session.state c.args.basis.now.configured.notes c.requires.configuration opens.0 going kept_is c.in-Ok-take_tick.last c.take_tick.new.state c.in-Ok-take_tick.ensures.done opens.1) (noted_first (fixed_of g.T.TakesRound.order g.K.Keeper g.O.Sink g.S.Source g.L.Link c.args.basis.now c.args.sources.now c.args.keeper.now c.args.results.now c.args.link.now) c.args.basis.now.configured.notes (g.O.Sink.written c.args.status.now) (record { list = (g.K.Keeper.kept c.args.keeper.now) ++ (Opened opens.0.number ∷ opens.0.tables); moment = c.in-Ok-open_noted.session.configured_at }) c.in-Ok-open_noted.session.found.items (g.O.Sink.written c.open_noted.new.status) (found_first _ _ _ _ _ g.S.Source.faults c.args.basis.now.setup _ _ _ _ _ _ _ _ c.open_noted.new.clock (g.K.Keeper.kept c.load_values.new.keeper) (g.K.Keeper.kept c.take_tick.new.keeper) (g.O.Sink.written c.take_tick.new.results) c.as_mut_slice-feeds.result.now c.take_tick.new.feeds c.open_noted.new.sources c.take_tick.new.sources c.in-Ok-open_noted.session.configured_at c.in-Ok-open_noted.session.state c.args.basis.now.configured.notes c.requires.configuration opens.0 going kept_is c.in-Ok.restored c.in-Ok-open_noted.session.found.items c.in-Ok.ensures.value c.in-Ok-open_noted.ensures.found) (c.in-Ok-open_noted.ensures.noted tells));
+      told = λ tells. noted_so (fixed_of g.T.TakesRound.order g.K.Keeper g.O.Sink g.S.Source g.L.Link c.args.basis.now c.args.sources.now c.args.keeper.now c.args.results.now c.args.link.now) c.args.basis.now.configured.notes (g.O.Sink.written c.args.status.now) ((record { list = (g.K.Keeper.kept c.args.keeper.now) ++ (Opened opens.0.number 2 ∷ opens.0.tables); moment = c.in-Ok-open_noted.session.configured_at }) ∷ []) _ _ (counted_first _ _ _ _ _ _ _ _ _ _ _ _ _ _ _ c.open_noted.new.clock (g.K.Keeper.kept c.load_values.new.keeper) (g.K.Keeper.kept c.take_tick.new.keeper) (g.O.Sink.written c.take_tick.new.results) c.as_mut_slice-feeds.result.now c.take_tick.new.feeds c.open_noted.new.sources c.take_tick.new.sources c.in-Ok-open_noted.session.configured_at c.in-Ok-open_noted.session.state c.args.basis.now.configured.notes c.requires.configuration opens.0 going kept_is c.in-Ok-take_tick.last c.take_tick.new.state c.in-Ok-take_tick.ensures.done opens.1) (noted_first (fixed_of g.T.TakesRound.order g.K.Keeper g.O.Sink g.S.Source g.L.Link c.args.basis.now c.args.sources.now c.args.keeper.now c.args.results.now c.args.link.now) c.args.basis.now.configured.notes (g.O.Sink.written c.args.status.now) (record { list = (g.K.Keeper.kept c.args.keeper.now) ++ (Opened opens.0.number 2 ∷ opens.0.tables); moment = c.in-Ok-open_noted.session.configured_at }) c.in-Ok-open_noted.session.found.items (g.O.Sink.written c.open_noted.new.status) (found_first _ _ _ _ _ g.S.Source.faults c.args.basis.now.setup _ _ _ _ _ _ _ _ c.open_noted.new.clock (g.K.Keeper.kept c.load_values.new.keeper) (g.K.Keeper.kept c.take_tick.new.keeper) (g.O.Sink.written c.take_tick.new.results) c.as_mut_slice-feeds.result.now c.take_tick.new.feeds c.open_noted.new.sources c.take_tick.new.sources c.in-Ok-open_noted.session.configured_at c.in-Ok-open_noted.session.state c.args.basis.now.configured.notes c.requires.configuration opens.0 going kept_is c.in-Ok.restored c.in-Ok-open_noted.session.found.items c.in-Ok.ensures.value c.in-Ok-open_noted.ensures.found) (c.in-Ok-open_noted.ensures.noted tells));
     }
 
 pub returns-in-Err-next_moment-clause-kept : goal.returns-in-Err-next_moment-clause-kept
@@ -506,8 +506,8 @@ returns-in-Err-take_tick-clause-stops_telling g c tells =
     let opens = opens_here _ _ g.O.Sink.tells _ _ _ _ _ _ _ _ (g.O.Sink.written c.args.results.now) (linked_by g.L.Link c.args.basis.now.setup c.args.link.now) _ _ c.open_noted.new.clock c.in-Ok.restored (g.K.Keeper.kept c.load_values.new.keeper) c.in-Ok-open_noted.session.feeds.items c.as_mut_slice-feeds.result.now c.open_noted.new.sources c.in-Ok-open_noted.session.configured_at c.in-Ok-open_noted.session.state c.in-Ok.ensures.value kept_is c.requires.distinct c.in-Ok-open_noted.ensures.opened c.as_mut_slice-feeds.ensures.value in
     let going = subst (λ (feeds : List Feeding). AreGoing c.in-Ok-open_noted.session.state.counts.taken feeds) (sym c.as_mut_slice-feeds.ensures.value) c.in-Ok-open_noted.ensures.going in
     told_some _ (g.K.Keeper.kept c.take_tick.new.keeper) c.args.basis.now.configured.notes (g.O.Sink.written c.args.status.now) (g.O.Sink.written c.open_noted.new.status) (g.O.Sink.written c.told-refused.new.status) (g.O.Sink.faults c.args.status.now) (g.O.Sink.faults c.open_noted.new.status) (g.O.Sink.faults c.told-refused.new.status)
-    ((record { list = (g.K.Keeper.kept c.args.keeper.now) ++ (Opened opens.0.number ∷ opens.0.tables); moment = c.in-Ok-open_noted.session.configured_at }) ∷ []) c.take_tick.new.feeds (counts_first g.S.Source.left _ _ (g.K.Keeper.kept c.take_tick.new.keeper) c.as_mut_slice-feeds.result.now c.take_tick.new.feeds c.open_noted.new.sources (λ told. rest_first _ _ _ _ _ _ _ _ _ _ _ _ _ _ _ c.open_noted.new.clock (g.K.Keeper.kept c.load_values.new.keeper) (g.K.Keeper.kept c.take_tick.new.keeper) (g.O.Sink.written c.take_tick.new.results) c.as_mut_slice-feeds.result.now c.take_tick.new.feeds c.open_noted.new.sources c.take_tick.new.sources c.in-Ok-open_noted.session.configured_at c.in-Ok-open_noted.session.state c.args.basis.now.configured.notes c.requires.configuration opens.0 going kept_is (c.in-Err-take_tick.ensures.kept told) told) opens.0.standing.fed c.take_tick.ensures.counts)
-    (λ told. counted_in_first _ _ _ _ _ _ _ _ _ _ _ _ _ _ _ c.open_noted.new.clock (g.K.Keeper.kept c.load_values.new.keeper) (g.K.Keeper.kept c.take_tick.new.keeper) (g.O.Sink.written c.take_tick.new.results) c.as_mut_slice-feeds.result.now c.take_tick.new.feeds c.open_noted.new.sources c.take_tick.new.sources c.in-Ok-open_noted.session.configured_at c.in-Ok-open_noted.session.state c.args.basis.now.configured.notes c.requires.configuration opens.0 going kept_is (c.in-Err-take_tick.ensures.kept told) told) (noted_first (fixed_of g.T.TakesRound.order g.K.Keeper g.O.Sink g.S.Source g.L.Link c.args.basis.now c.args.sources.now c.args.keeper.now c.args.results.now c.args.link.now) c.args.basis.now.configured.notes (g.O.Sink.written c.args.status.now) (record { list = (g.K.Keeper.kept c.args.keeper.now) ++ (Opened opens.0.number ∷ opens.0.tables); moment = c.in-Ok-open_noted.session.configured_at }) c.in-Ok-open_noted.session.found.items (g.O.Sink.written c.open_noted.new.status) (found_first _ _ _ _ _ g.S.Source.faults c.args.basis.now.setup _ _ _ _ _ _ _ _ c.open_noted.new.clock (g.K.Keeper.kept c.load_values.new.keeper) (g.K.Keeper.kept c.take_tick.new.keeper) (g.O.Sink.written c.take_tick.new.results) c.as_mut_slice-feeds.result.now c.take_tick.new.feeds c.open_noted.new.sources c.take_tick.new.sources c.in-Ok-open_noted.session.configured_at c.in-Ok-open_noted.session.state c.args.basis.now.configured.notes c.requires.configuration opens.0 going kept_is c.in-Ok.restored c.in-Ok-open_noted.session.found.items c.in-Ok.ensures.value c.in-Ok-open_noted.ensures.found) (c.in-Ok-open_noted.ensures.noted tells)) (c.told-refused.ensures.skipped tells) c.open_noted.ensures.later
+    ((record { list = (g.K.Keeper.kept c.args.keeper.now) ++ (Opened opens.0.number 2 ∷ opens.0.tables); moment = c.in-Ok-open_noted.session.configured_at }) ∷ []) c.take_tick.new.feeds (counts_first g.S.Source.left _ _ (g.K.Keeper.kept c.take_tick.new.keeper) c.as_mut_slice-feeds.result.now c.take_tick.new.feeds c.open_noted.new.sources (λ told. rest_first _ _ _ _ _ _ _ _ _ _ _ _ _ _ _ c.open_noted.new.clock (g.K.Keeper.kept c.load_values.new.keeper) (g.K.Keeper.kept c.take_tick.new.keeper) (g.O.Sink.written c.take_tick.new.results) c.as_mut_slice-feeds.result.now c.take_tick.new.feeds c.open_noted.new.sources c.take_tick.new.sources c.in-Ok-open_noted.session.configured_at c.in-Ok-open_noted.session.state c.args.basis.now.configured.notes c.requires.configuration opens.0 going kept_is (c.in-Err-take_tick.ensures.kept told) told) opens.0.standing.fed c.take_tick.ensures.counts)
+    (λ told. counted_in_first _ _ _ _ _ _ _ _ _ _ _ _ _ _ _ c.open_noted.new.clock (g.K.Keeper.kept c.load_values.new.keeper) (g.K.Keeper.kept c.take_tick.new.keeper) (g.O.Sink.written c.take_tick.new.results) c.as_mut_slice-feeds.result.now c.take_tick.new.feeds c.open_noted.new.sources c.take_tick.new.sources c.in-Ok-open_noted.session.configured_at c.in-Ok-open_noted.session.state c.args.basis.now.configured.notes c.requires.configuration opens.0 going kept_is (c.in-Err-take_tick.ensures.kept told) told) (noted_first (fixed_of g.T.TakesRound.order g.K.Keeper g.O.Sink g.S.Source g.L.Link c.args.basis.now c.args.sources.now c.args.keeper.now c.args.results.now c.args.link.now) c.args.basis.now.configured.notes (g.O.Sink.written c.args.status.now) (record { list = (g.K.Keeper.kept c.args.keeper.now) ++ (Opened opens.0.number 2 ∷ opens.0.tables); moment = c.in-Ok-open_noted.session.configured_at }) c.in-Ok-open_noted.session.found.items (g.O.Sink.written c.open_noted.new.status) (found_first _ _ _ _ _ g.S.Source.faults c.args.basis.now.setup _ _ _ _ _ _ _ _ c.open_noted.new.clock (g.K.Keeper.kept c.load_values.new.keeper) (g.K.Keeper.kept c.take_tick.new.keeper) (g.O.Sink.written c.take_tick.new.results) c.as_mut_slice-feeds.result.now c.take_tick.new.feeds c.open_noted.new.sources c.take_tick.new.sources c.in-Ok-open_noted.session.configured_at c.in-Ok-open_noted.session.state c.args.basis.now.configured.notes c.requires.configuration opens.0 going kept_is c.in-Ok.restored c.in-Ok-open_noted.session.found.items c.in-Ok.ensures.value c.in-Ok-open_noted.ensures.found) (c.in-Ok-open_noted.ensures.noted tells)) (c.told-refused.ensures.skipped tells) c.open_noted.ensures.later
 
 pub returns-in-Err-next_moment-clause-stops : goal.returns-in-Err-next_moment-clause-stops
 returns-in-Err-next_moment-clause-stops g c =

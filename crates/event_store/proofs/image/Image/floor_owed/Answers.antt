@@ -13,4 +13,4 @@ returns-clause-moves c =
     let a = c.args in
     let image : Contents = record { last = i.events.last; floors = i.floors; live = i.events.live; tables = i.tables } in
     subst (λ (x : Contents). IfSome c.floor_owed.result (λ (floor : ℕ). (floor_at x a.table.0 < floor) × (floor ≤ x.last))) c.self.view_is
-    (subst (λ (found : Option ℕ). IfSome found (λ (floor : ℕ). (floor_at image a.table.0 < floor) × (floor ≤ image.last))) (sym c.floor_owed.ensures) (owed_moves i.in_order i.latest a.expiry a.max a.moment a.table.0 image c.self.invariant c.requires))
+    (subst (λ (found : Option ℕ). IfSome found (λ (floor : ℕ). (floor_at image a.table.0 < floor) × (floor ≤ image.last))) (sym c.floor_owed.ensures) (owed_moves i.in_order i.latest a.expiry a.max a.moment a.reached a.table.0 image c.self.invariant c.requires))

@@ -1,6 +1,7 @@
 use Rattle.std.proofs.Common.{◌≡◌, ◌∙◌, ap, sym, subst, ℕ, ◌+◌, length, ◌++◌}
 use Rattle.record_lines.specs.Lines.{cut_of}
-use Rattle.publisher_core.specs.Records.{ended, LINE_LIMIT, TABLE_LIMIT, ChangeGives, TableGives}
+use Rattle.record_lines.specs.Limits.{LINE_LIMIT}
+use Rattle.publisher_core.specs.Records.{ended, TABLE_LIMIT, ChangeGives, TableGives}
 use Rattle.publisher_core.specs.Standing.{Reader, limit_of}
 use Rattle.publisher_core.specs.Stepping.{Goes}
 use Rattle.publisher_core.specs.declared.record.Next.{Next}

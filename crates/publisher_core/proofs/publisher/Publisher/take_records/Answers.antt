@@ -1,7 +1,8 @@
 use Rattle.std.proofs.Common.{◌≡◌, ◌⊎◌, ◌∙◌, ◌≤◌, ◌<◌, List, [], ◌∷◌, ◌++◌, length, length-append, sym, ap, subst, true, inl, inr, arith, Option, MatchOption, Ok}
 use Rattle.publisher_core.specs.declared.record.ReadRecord.{ReadRecord}
 use Rattle.publisher_core.specs.Standing.{Reader, HasPublished}
-use Rattle.publisher_core.specs.Stepping.{GrowsBy, IsDry, UnderWay, STEP_BYTES}
+use Rattle.record_lines.specs.Limits.{STEP_BYTES}
+use Rattle.publisher_core.specs.Stepping.{GrowsBy, IsDry, UnderWay}
 use Rattle.publisher_core.proofs.Stepping.{more_given, more_read, dry_steps, full_steps, next_same, read_same, end_read, grows_more, grows_same}
 use Rattle.publisher_core.proofs.publisher.Publisher.take_records.Goals as goal
 use Rattle.publisher_core.proofs.publisher.Publisher.take_records.Goals.{then-self-via-then-self, then-self-via-else-self+then-read-ge-STEP_BYTES}

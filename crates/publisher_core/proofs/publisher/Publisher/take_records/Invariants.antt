@@ -1,7 +1,8 @@
 use Rattle.std.proofs.Common.{◌≡◌, ◌≤◌, ◌+◌, ◌-◌, ℕ, List, [], true, length, if◌then◌else◌}
 use Rattle.publisher_core.specs.declared.record.ReadRecord.{ReadRecord}
 use Rattle.publisher_core.specs.Standing.{HasPublished}
-use Rattle.publisher_core.specs.Stepping.{GrowsBy, SameSource, UnderWay, STEP_BYTES, PIECE_BYTES}
+use Rattle.record_lines.specs.Limits.{PIECE_BYTES, STEP_BYTES}
+use Rattle.publisher_core.specs.Stepping.{GrowsBy, SameSource, UnderWay}
 use Rattle.publisher_core.proofs.publisher.Publisher.take_records.Given as goal
 
 abbrev pub invariant-loop-self : goal.invariant-loop-self

@@ -63,6 +63,7 @@ invariant_of-self c =
     let listed = subst (λ (v : RunsAndRoom). AreFresh (schedule_shown v.runs s.schedule.queries) (record c.self.inside.listed { stale = set c.self.inside.listed.stale (cut.place / 64) true })) (sym noted_is) kept_rows in
     record {
       listed = subst (AreFresh _) (sym c.outdate.ensures) listed;
+      readers = c.self.invariant.readers;
       slices = c.self.invariant.slices;
       passed = subst (λ (v : RunsAndRoom). NoneFree v.runs s.schedule.queries (with_items c.self.inside.claims c.unclaim.new.claims).items s.counts.moment c.self.inside.from) (sym noted_is) (subst (λ (claims : List Bool). NoneFree (noted (reserved_of c.self.inside.cursors) cut.key number cut.hi cut.moment).runs s.schedule.queries claims s.counts.moment c.self.inside.from) (sym claims) (passed_after s cut r number c.self.inside.from c.self.invariant.passed));
       state = record {

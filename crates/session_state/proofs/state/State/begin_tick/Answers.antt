@@ -49,6 +49,7 @@ invariant_of-self-2 c =
         marks = c.push_reserved.ensures.items ∙ ap (λ (marks : List ℕ). marks ++ s.counts.position ∷ []) c.in_ok-reserve.ensures.items;
       });
       listed = subst (λ (runs : List Run). AreFresh (schedule_shown runs s.schedule.queries) c.self.inside.listed) (sym (ap (λ (r : Indexed). r.runs) c.in-Ok.ensures.cursors)) c.self.invariant.listed;
+      readers = c.self.invariant.readers;
       slices = c.self.invariant.slices;
       passed = λ place scheduled lt. absurd (omega (arith, lt));
     }

@@ -59,6 +59,7 @@ invariant_of-self g c =
         past = is.past;
       };
       listed = c.self.invariant.listed;
+      readers = c.self.invariant.readers;
       slices = c.self.invariant.slices;
       passed = passed_next s is place (subst (λ (t : Kept). place < length t.schedule.queries) (sym same) c.in-Some.ensures.within) (subst (λ (t : Kept). next_place t ≡ Some place) (sym same) (sym c.in-Some.ensures.place));
     }

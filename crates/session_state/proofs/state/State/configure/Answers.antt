@@ -8,6 +8,7 @@ use Rattle.pack_rules.specs.declared.schedule.Scheduled.{Scheduled}
 use Rattle.entry_model.specs.declared.restored.Run.{Run}
 use Rattle.session_state.specs.Computed.{schedule_shown}
 use Rattle.session_state.specs.Listed.{AreFresh}
+use Rattle.session_state.specs.Readers.{readers_of}
 use Rattle.session_state.specs.Inside.{kept}
 use Rattle.session_state.specs.Kept.{Counts}
 use Rattle.session_state.specs.Tails.{EntriesAndRoom}
@@ -63,6 +64,7 @@ invariant_of-self-2 c =
         marks = c.push_reserved.ensures.items ∙ ap (λ (marks : List ℕ). marks ++ s.counts.position ∷ []) c.in_ok-reserve.ensures.items;
       });
       listed = subst (λ (runs : List Run). AreFresh (schedule_shown runs running.schedule.queries) running.listed) (sym runs) (subst (λ (schedule : Schedule). AreFresh (schedule_shown s.counts.runs schedule.queries) running.listed) (sym told.schedule) listed);
+      readers = told.readers ∙ sym (ap (λ (schedule : Schedule). readers_of schedule.queries) told.schedule);
       slices = c.self.invariant.slices;
       passed = λ place scheduled lt. absurd (omega (arith, lt));
     }

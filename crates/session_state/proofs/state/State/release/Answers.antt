@@ -28,6 +28,7 @@ invariant_of-self c =
         past = search rules;
       };
       listed = search rules;
+      readers = c.self.invariant.readers;
       slices = c.self.invariant.slices;
       passed = (let low = c.min-self-inside.ensures in passed_released s.counts.runs s.schedule.queries s.claims s.counts.moment c.self.inside.from c.place-place.result _ _ c.self.invariant.passed claims (omega (arith, low)) (omega (arith, low)));
     }

@@ -1,0 +1,5 @@
+use Rattle.entry_model.proofs.Stamps as stamps
+use Rattle.entry_model.proofs.laws.stamps_grow.Goals as goal
+
+pub returns : goal.returns
+returns c = stamps.stamps_grow
