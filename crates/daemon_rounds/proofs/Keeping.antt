@@ -49,7 +49,7 @@ sealed_on tells kept s g = record {
   base = g.base;
   sealed = g.sealed ++ s.tail;
   stands = subst (λ (added : List Entry). IsStateOf g.base added (record s { tail = [] })) (sym (append-nil (g.sealed ++ s.tail))) (record {
-    values = λ before legal same. let h = g.stands.values before legal same in record { legal = h.legal; counts = h.counts; image = h.image; schedule = h.schedule; ticked = h.ticked };
+    values = λ before legal same. let h = g.stands.values before legal same in record { legal = h.legal; counts = h.counts; image = h.image; schedule = h.schedule; ticked = h.ticked; rules = h.rules };
     marks = g.stands.marks;
     position = g.stands.position;
   });

@@ -102,7 +102,7 @@ sealed_standing left x entries kept now feeds objects last s t h taken grown = s
   base = h.base;
   same = h.same;
   stands = record {
-    values = λ before legal same. let v = h.stands.values before legal same in record { legal = v.legal; counts = v.counts; image = v.image; schedule = v.schedule; ticked = v.ticked };
+    values = λ before legal same. let v = h.stands.values before legal same in record { legal = v.legal; counts = v.counts; image = v.image; schedule = v.schedule; ticked = v.ticked; rules = v.rules };
     marks = h.stands.marks;
     position = h.stands.position;
   };

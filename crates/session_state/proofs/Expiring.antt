@@ -27,6 +27,7 @@ stays_stands s t same base added stands = record {
         image = subst (λ (image : Contents). StandsFor (before ++ added) image) (sym same.image) h.image;
         schedule = h.schedule ∙ sym same.schedule;
         ticked = h.ticked ∙ sym same.ticked;
+        rules = h.rules;
       };
   marks = same.marks ∙ stands.marks;
   position = ap (λ (c : Counts). c.position) same.counts ∙ stands.position;

@@ -68,6 +68,7 @@ stands_alike was now counts image schedule ticked marks start added stands = rec
         image = subst (λ (image : Contents). StandsFor (before ++ added) image) (sym image) h.image;
         schedule = h.schedule ∙ sym schedule;
         ticked = h.ticked ∙ sym ticked;
+        rules = h.rules;
       };
   marks = marks ∙ stands.marks;
   position = ap (λ (c : Counts). c.position) counts ∙ stands.position;
