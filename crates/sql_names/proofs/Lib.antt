@@ -10,4 +10,4 @@ pub mod ItemsStand
 pub mod PartsStand
 pub mod QueryStands
 pub mod SameTrees
-mod Unmeant
+mod Numbered

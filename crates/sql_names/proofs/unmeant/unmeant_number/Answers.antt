@@ -6,7 +6,7 @@ use Rattle.sql_scope.specs.Mentions.{mentions_of_select}
 use Rattle.sql_scope.specs.Scope.{scope_of}
 use Rattle.sql_scope.specs.Shown.{shown_of}
 use Rattle.sql_names.specs.Resolve.{shown_in}
-use Rattle.sql_names.proofs.Unmeant.{unmeant_is}
+use Rattle.sql_names.proofs.Numbered.{unmeant_is}
 use Rattle.sql_names.proofs.unmeant.unmeant_number.Goals as goal
 
 pub returns : goal.returns
