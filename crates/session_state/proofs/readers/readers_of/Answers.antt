@@ -12,7 +12,7 @@ loop-at-preserved-in_ok-push c =
     let at = c.loop-at.at in
     let d = c.index-queries-at.result in
     let within : at < length queries = (let inside = c.loop-at-test.true in omega (arith, inside)) in
-    let reads : is_reader table (get_or queries at d) ≡ true = sym (c.in_ok-is_reader.ensures ∙ ap (is_reader table) c.index-queries-at.is) ∙ c.if-in_ok-is_reader.true in
+    let reads : is_reader table (get_or queries at d) ≡ true = sym (c.in_ok-is_reader.ensures ∙ ap (is_reader table) c.index-queries-at.is) ∙ c.if-branch.true in
     c.in_ok-push.ensures.ok
     ∙ ap (λ (places : List ℕ). places ++ at ∷ []) c.loop-at.invariant
     ∙ ap (λ (b : Bool). readers_from table 0 (take at queries) ++ cond b (at ∷ []) []) (sym reads)
@@ -25,7 +25,7 @@ loop-at-preserved c =
     let at = c.loop-at.at in
     let d = c.index-queries-at.result in
     let within : at < length queries = (let inside = c.loop-at-test.true in omega (arith, inside)) in
-    let reads : is_reader table (get_or queries at d) ≡ false = sym (c.in_ok-is_reader.ensures ∙ ap (is_reader table) c.index-queries-at.is) ∙ c.if-in_ok-is_reader.false in
+    let reads : is_reader table (get_or queries at d) ≡ false = sym (c.in_ok-is_reader.ensures ∙ ap (is_reader table) c.index-queries-at.is) ∙ c.if-branch.false in
     c.loop-at.invariant
     ∙ sym (append-nil (readers_from table 0 (take at queries)))
     ∙ ap (λ (b : Bool). readers_from table 0 (take at queries) ++ cond b (at ∷ []) []) (sym reads)
