@@ -158,7 +158,15 @@ again_legal moment later calendar =
 
 -- the changes that the query has not read
 first_sound : IsSound (record asking { events_expiry = 30 })
-first_sound = record asking_sound { expiry_least = omega arith; expiry_most = omega arith }
+first_sound = record {
+  count = asking_sound.count;
+  order = asking_sound.order;
+  runnable = asking_sound.runnable;
+  expiry_least = omega arith;
+  expiry_most = omega arith;
+  max_least = asking_sound.max_least;
+  max_most = asking_sound.max_most;
+}
 
 module _ (rules : ℕ) (are : (rules ≡ 1) ⊎ (rules ≡ 2)) where
   first_legal : Legal (asking_first rules)
