@@ -25,8 +25,8 @@ import sys
 import tempfile
 import time
 
-TOP = pathlib.Path(__file__).resolve().parent.parent
-STEP_BYTES = 16777216
+from whole_sessions import STEP_BYTES, TOP
+
 RUNS = 5
 MANY = 1000
 

@@ -1,6 +1,5 @@
 -- The first field of each key, as a walk over a line finds them.
 use Rattle.std.proofs.Common.{◌≡◌, ℕ, Bool, true, false, cond, List, [], ◌∷◌, map, refl, ap, ◌∙◌, Option, Some, None, find, bytes_eq}
-use Rattle.std.specs.List.{AllByRecursion}
 use Rattle.std.specs.Option.{option_or}
 use Rattle.audit_records.specs.declared.line.Field.{Field}
 use Rattle.audit_records.specs.CallFields.{call_keys, each_or, placed}
@@ -44,12 +43,3 @@ each-none (one ∷ ones) (key ∷ keys) =
 
 pub walk-end : (ones : List (Option Field)) → each_or ones (firsts []) ≡ ones
 walk-end ones = each-none ones call_keys
-
--- nothing is added of a field with another key
-pub each-missed : (ones : List (Option Field)) (keys : List (List ℕ)) (field : Field) → AllByRecursion (λ key. bytes_eq field.key key ≡ false) keys → each_or ones (map (λ key. with_key key field) keys) ≡ ones
-each-missed [] keys field missed = refl
-each-missed (one ∷ ones) [] field missed = refl
-each-missed (one ∷ ones) (key ∷ keys) field missed =
-    ap (λ t. option_or one (cond t (Some field) None) ∷ each_or ones (map (λ key. with_key key field) keys)) missed.0
-    ∙ ap (λ o. o ∷ each_or ones (map (λ key. with_key key field) keys)) (or-none one)
-    ∙ ap (λ os. one ∷ os) (each-missed ones keys field missed.1)

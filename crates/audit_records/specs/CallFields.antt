@@ -1,4 +1,4 @@
--- The fields of a system call's line that a row shows.
+-- For proofs of the code's steps, and no part of the meaning: the fields of a system call's line that a row shows, found in one walk.
 use Rattle.std.specs.Prelude.{ℕ, List, [], ◌∷◌, codes, map, Option, option_copied}
 use Rattle.std.specs.Option.{option_or}
 use Rattle.audit_records.specs.declared.line.AuditLine.{AuditLine}

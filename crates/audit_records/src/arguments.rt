@@ -15,6 +15,9 @@ use std::alloc::Global;
 /// The bytes that a command line of few arguments is given room for. Most are shorter.
 const SHORT_COMMAND: usize = 48;
 
+/// So many arguments have a key that needn't be written, from `a0` on.
+const EARLY_ARGUMENTS: u64 = 10;
+
 /// The arguments 0, 1, 2 and so on of the group's EXECVE lines, with a space between each two. There are as many as `argc` of the first of
 /// these lines says, and none from the first on that is missing. An argument is the text of its key, as `a1`, or where that is missing
 /// the joined texts of its pieces `a1[0]`, `a1[1]` and so on, up to the first that is missing. `(null)` is shown as it is. Without an
@@ -33,8 +36,12 @@ pub fn command_line(alloc: Global, lines: &[AuditLine]) -> Result<Str, NoMemory>
 fn short_command(alloc: Global, lines: &[AuditLine]) -> Result<Option<Str>, NoMemory>
     ensures { IfOk result (λ found. IfSome found (λ text. text ≡ command_line lines.now)) }
 {
+    let count = argument_count(lines);
+    if count > EARLY_ARGUMENTS {
+        return Ok(None);
+    }
     let mut text = String::with_capacity(alloc, SHORT_COMMAND)?;
-    for place in 0..argument_count(lines) {
+    for place in 0..count {
         let Some(field) = early_argument(lines, place) else {
             return Ok(None);
         };

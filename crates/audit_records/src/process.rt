@@ -1,8 +1,10 @@
 //! The rows of started programs.
 
 ghost use Rattle.std.specs.Prelude.{◌≡◌, find, IfOk, option_copied};
+ghost use Rattle.std.specs.Option.{option_or};
 ghost use Rattle.audit_records.specs.CallFields.{each_or, first_fields, found_of, placed};
 ghost use Rattle.audit_records.specs.Events.{cwd_of, execution_event, is_first_path, is_working_directory, mode_of, process_row};
+ghost use Rattle.audit_records.specs.Indexes.{with_key};
 
 use crate::arguments::command_line;
 use crate::line::{AuditLine, Field};
@@ -63,22 +65,32 @@ fn call_fields(line: &AuditLine) -> CallFields<'_>
 }
 
 /// What was found, and the field where it has one of the keys and none with that key was found before.
+#[inline(always)]
 fn with_field<'a>(found: CallFields<'a>, field: &'a Field) -> CallFields<'a>
     ensures { found_of result ≡ each_or (found_of found.entry) (placed field.now) }
 {
-    let mut found = found;
-    match field.key.as_str().as_bytes() {
-        [b'p', b'i', b'd'] => found.pid = found.pid.or(Some(field)),
-        [b'e', b'x', b'e'] => found.exe = found.exe.or(Some(field)),
-        [b'a', b'u', b'i', b'd'] => found.auid = found.auid.or(Some(field)),
-        [b'u', b'i', b'd'] => found.uid = found.uid.or(Some(field)),
-        [b'e', b'u', b'i', b'd'] => found.euid = found.euid.or(Some(field)),
-        [b'g', b'i', b'd'] => found.gid = found.gid.or(Some(field)),
-        [b'e', b'g', b'i', b'd'] => found.egid = found.egid.or(Some(field)),
-        [b'p', b'p', b'i', b'd'] => found.ppid = found.ppid.or(Some(field)),
-        _ => {}
+    CallFields {
+        pid: first("pid", found.pid, field),
+        exe: first("exe", found.exe, field),
+        auid: first("auid", found.auid, field),
+        uid: first("uid", found.uid, field),
+        euid: first("euid", found.euid, field),
+        gid: first("gid", found.gid, field),
+        egid: first("egid", found.egid, field),
+        ppid: first("ppid", found.ppid, field),
     }
-    found
+}
+
+/// What was found of a key, and else the field where this is its key. A key of another length isn't compared.
+#[inline(always)]
+fn first<'a>(key: &str, found: Option<&'a Field>, field: &'a Field) -> Option<&'a Field>
+    ensures { option_copied result ≡ option_or (option_copied found.entry) (with_key key.now field.now) }
+{
+    if found.is_none() && field.key.len() == key.len() && field.key.as_str() == key {
+        Some(field)
+    } else {
+        found
+    }
 }
 
 fn process_row(alloc: Global, line: &AuditLine, lines: &[AuditLine]) -> Result<Row, NoMemory>

@@ -1,4 +1,4 @@
--- The members of a line that a change has.
+-- For proofs of the code's steps, and no part of the meaning: the members of a line that a change has, found in one walk.
 use Rattle.std.specs.Prelude.{◌≡◌, ℕ, List, bytes_eq, codes, if◌then◌else◌, Option, Some, option_map}
 use Rattle.serde_json.specs.Data.{Data, Members}
 use Rattle.serde_json.specs.Find.{get_member}

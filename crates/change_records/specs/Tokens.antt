@@ -1,4 +1,4 @@
--- What the tokens of a line tell.
+-- For proofs of the code's steps, and no part of the meaning: what the tokens of a line tell.
 use Rattle.std.specs.Prelude.{◌≡◌, List, Option, Some, None, option_and_then, Result, Ok, Err}
 use Rattle.json.specs.Json.{if_last, value}
 use Rattle.json.specs.Token.{Token}
