@@ -10,10 +10,8 @@ loop-at-preserved c =
     let cursor = cursor_at c.args.self.now in
     let readers = c.args.readers.now in
     let at = c.loop-at.at-index in
-    let d = c.at-item.result in
-    let here = c.cursor_at.ensures ∙ ap cursor c.at-item.is in
-    let so_far : map cursor (take (at + 1) readers) ≡ map cursor (take at readers) ++ cursor (get_or readers at d) ∷ [] =
-    ap (map cursor) (take_more readers at d c.loop-at-test.true) ∙ map-append cursor (take at readers) (get_or readers at d ∷ []) in
-    ap (λ (n : ℕ). Some n) (c.lesser.ensures ∙ (λ i. lesser (here i) (c.loop-at.invariant i)))
-    ∙ sym (least_more (map cursor (take at readers)) (cursor (get_or readers at d)))
+    let so_far : map cursor (take (at + 1) readers) ≡ map cursor (take at readers) ++ cursor (get_or readers at 0) ∷ [] =
+    ap (map cursor) (take_more readers at 0 c.loop-at-test.true) ∙ map-append cursor (take at readers) (get_or readers at 0 ∷ []) in
+    ap (λ (n : ℕ). Some n) (c.lesser.ensures ∙ (λ i. lesser (c.cursor_at.ensures i) (c.loop-at.invariant i)))
+    ∙ sym (least_more (map cursor (take at readers)) (cursor (get_or readers at 0)))
     ∙ sym (ap least_of so_far)
