@@ -3,34 +3,35 @@ use Rattle.std.proofs.Common.{◌≡◌, ◌⊎◌, inl, inr, ℕ, ◌+◌, ◌-
 use Rattle.std.proofs.lemmas.List.{append-nil}
 use Rattle.std.proofs.lemmas.Bool.{true≢false}
 use Rattle.osq_value.specs.declared.reading.Reading.{Reading}
+use Rattle.publisher_core.specs.declared.record.Found.{Found}
 use Rattle.publisher_core.specs.declared.record.ReadRecord.{ReadRecord}
 use Rattle.osq_value.specs.declared.source.SourceKind.{SourceKind}
 use Rattle.osq_value.specs.declared.source.SourceKind.TheVariants.{Audit, Changes, Tables}
 use Rattle.publisher_core.specs.Readings.{joined, readings_of}
-use Rattle.publisher_core.specs.Standing.{Reader, HasPublished}
+use Rattle.publisher_core.specs.Standing.{Reader, HasFound}
 use Rattle.record_lines.specs.Limits.{STEP_BYTES}
-use Rattle.publisher_core.specs.Stepping.{GrowsBy, IsDry, SameSource, Reads, UnderWay, Steps}
+use Rattle.publisher_core.specs.Stepping.{GrowsBy, IsDrained, SameSource, Reads, UnderWay, StepFinds}
 
 -- before the first record
-pub begun : (tells : Type 0) (left : List ℕ) (reader : Reader) (given : List ReadRecord) (start : ℕ) (stream : List ℕ) → HasPublished reader given start stream → UnderWay tells left left reader given start stream [] 0
+pub begun : (tells : Type 0) (left : List ℕ) (reader : Reader) (given : List Found) (start : ℕ) (stream : List ℕ) → HasFound reader given start stream → UnderWay tells left left reader given start stream [] 0
 begun tells left reader given start stream s = record {
   fresh = [];
   size = refl;
   left = λ told. refl;
-  stands = subst (λ (ps : List ReadRecord). HasPublished reader ps start (stream ++ [])) (sym (append-nil given)) (subst (λ (bs : List ℕ). HasPublished reader given start bs) (sym (append-nil stream)) s);
+  stands = subst (λ (ps : List Found). HasFound reader ps start (stream ++ [])) (sym (append-nil given)) (subst (λ (bs : List ℕ). HasFound reader given start bs) (sym (append-nil stream)) s);
 }
 
-pub more_given : (tells : Type 0) (before after : List ℕ) (old new : Reader) (given : List ReadRecord) (start : ℕ) (stream : List ℕ) (pieces : List ReadRecord) (piece : ReadRecord) (read : ℕ)
-    → (w : UnderWay tells before after old given start stream pieces read) → HasPublished new ((given ++ pieces) ++ piece ∷ []) start (stream ++ w.fresh)
+pub more_given : (tells : Type 0) (before after : List ℕ) (old new : Reader) (given : List Found) (start : ℕ) (stream : List ℕ) (pieces : List Found) (piece : Found) (read : ℕ)
+    → (w : UnderWay tells before after old given start stream pieces read) → HasFound new ((given ++ pieces) ++ piece ∷ []) start (stream ++ w.fresh)
     → UnderWay tells before after new given start stream (pieces ++ piece ∷ []) read
 more_given tells before after old new given start stream pieces piece read w s = record {
   fresh = w.fresh;
   size = w.size;
   left = w.left;
-  stands = subst (λ (ps : List ReadRecord). HasPublished new ps start (stream ++ w.fresh)) (append_assoc given pieces (piece ∷ [])) s;
+  stands = subst (λ (ps : List Found). HasFound new ps start (stream ++ w.fresh)) (append_assoc given pieces (piece ∷ [])) s;
 }
 
-pub more_read : (tells : Type 0) (before between after : List ℕ) (old new : Reader) (given : List ReadRecord) (start : ℕ) (stream : List ℕ) (pieces : List ReadRecord) (read count : ℕ)
+pub more_read : (tells : Type 0) (before between after : List ℕ) (old new : Reader) (given : List Found) (start : ℕ) (stream : List ℕ) (pieces : List Found) (read count : ℕ)
     → (w : UnderWay tells before between old given start stream pieces read) → Reads tells between after new (given ++ pieces) start (stream ++ w.fresh) count
     → UnderWay tells before after new given start stream pieces (read + count)
 more_read tells before between after old new given start stream pieces read count w r =
@@ -41,13 +42,13 @@ more_read tells before between after old new given start stream pieces read coun
       fresh = w.fresh ++ r.fresh;
       size = omega (arith, size, first, second);
       left = λ told. w.left told ∙ ap (λ (l : List ℕ). w.fresh ++ l) (r.left told) ∙ sym (append_assoc w.fresh r.fresh after);
-      stands = subst (λ (bs : List ℕ). HasPublished new (given ++ pieces) start bs) (append_assoc stream w.fresh r.fresh) r.stands;
+      stands = subst (λ (bs : List ℕ). HasFound new (given ++ pieces) start bs) (append_assoc stream w.fresh r.fresh) r.stands;
     }
 
-pub dry_steps : (tells : Type 0) (before after : List ℕ) (old new : Reader) (given : List ReadRecord) (start : ℕ) (stream : List ℕ) (pieces : List ReadRecord) (read most : ℕ)
-    → (w : UnderWay tells before after old given start stream pieces read) → IsDry new (given ++ pieces) start (stream ++ w.fresh) → length pieces ≤ most
+pub dry_steps : (tells : Type 0) (before after : List ℕ) (old new : Reader) (given : List Found) (start : ℕ) (stream : List ℕ) (pieces : List Found) (read most : ℕ)
+    → (w : UnderWay tells before after old given start stream pieces read) → IsDrained new (given ++ pieces) start (stream ++ w.fresh) → length pieces ≤ most
     → (new.is_ended ≡ true) ⊎ (STEP_BYTES ≤ read)
-    → Steps tells before after new given start stream pieces most
+    → StepFinds tells before after new given start stream pieces most
 dry_steps tells before after old new given start stream pieces read most w d few why = record {
   fresh = w.fresh;
   left = w.left;
@@ -60,9 +61,9 @@ dry_steps tells before after old new given start stream pieces read most w d few
     by_why (inl over) = inl over
     by_why (inr enough) = let size = w.size in inr (omega (arith, enough, size))
 
-pub full_steps : (tells : Type 0) (before after : List ℕ) (reader : Reader) (given : List ReadRecord) (start : ℕ) (stream : List ℕ) (pieces : List ReadRecord) (read most : ℕ)
+pub full_steps : (tells : Type 0) (before after : List ℕ) (reader : Reader) (given : List Found) (start : ℕ) (stream : List ℕ) (pieces : List Found) (read most : ℕ)
     → UnderWay tells before after reader given start stream pieces read → length pieces ≡ most
-    → Steps tells before after reader given start stream pieces most
+    → StepFinds tells before after reader given start stream pieces most
 full_steps tells before after reader given start stream pieces read most w full = record {
   fresh = w.fresh;
   left = w.left;

@@ -1,8 +1,8 @@
 use Rattle.std.proofs.Common.{◌≡◌, ◌⊎◌, ◌∙◌, ◌≤◌, ◌<◌, List, [], ◌∷◌, ◌++◌, length, length-append, sym, ap, subst, true, inl, inr, arith, Option, MatchOption, Ok}
-use Rattle.publisher_core.specs.declared.record.ReadRecord.{ReadRecord}
-use Rattle.publisher_core.specs.Standing.{Reader, HasPublished}
+use Rattle.publisher_core.specs.declared.record.Found.{Found}
+use Rattle.publisher_core.specs.Standing.{Reader, HasFound}
 use Rattle.record_lines.specs.Limits.{STEP_BYTES}
-use Rattle.publisher_core.specs.Stepping.{GrowsBy, IsDry, UnderWay}
+use Rattle.publisher_core.specs.Stepping.{GrowsBy, IsDrained, UnderWay}
 use Rattle.publisher_core.proofs.Stepping.{more_given, more_read, dry_steps, full_steps, next_same, read_same, end_read, grows_more, grows_same}
 use Rattle.publisher_core.proofs.publisher.Publisher.take_records.Goals as goal
 use Rattle.publisher_core.proofs.publisher.Publisher.take_records.Goals.{then-self-via-then-self, then-self-via-else-self+then-read-ge-STEP_BYTES}
@@ -23,15 +23,15 @@ loop-self-preserved-in-Ok-push g c =
       grown = λ given start stream s.
           let w = i.way given start stream s in
           let less =
-          subst (λ (o : Option ReadRecord). MatchOption o (c.next_piece.new.self.taken ≡ c.loop-self.self.taken) (λ (piece : ReadRecord). c.loop-self.self.taken < c.next_piece.new.self.taken))
+          subst (λ (o : Option Found). MatchOption o (c.next_piece.new.self.taken ≡ c.loop-self.self.taken) (λ (piece : Found). c.loop-self.self.taken < c.next_piece.new.self.taken))
           c.in-Ok-Some.field-0-is (c.in-Ok-Some.ensures.grown (given ++ c.loop-self.pieces) start (stream ++ w.fresh) w.stands) in
-          subst (λ (ps : List ReadRecord). GrowsBy c.args.self.now.taken c.next_piece.new.self.taken ps) (sym pushed)
+          subst (λ (ps : List Found). GrowsBy c.args.self.now.taken c.next_piece.new.self.taken ps) (sym pushed)
           (grows_more c.args.self.now.taken c.loop-self.self.taken c.next_piece.new.self.taken c.loop-self.pieces c.in-Ok-Some.piece (i.grown given start stream s) less);
       way = λ given start stream s.
           let w = i.way given start stream s in
-          let found = subst (λ (o : Option ReadRecord). MatchOption o (IsDry c.next_piece.new.self (given ++ c.loop-self.pieces) start (stream ++ w.fresh)) (λ (piece : ReadRecord). HasPublished c.next_piece.new.self ((given ++ c.loop-self.pieces) ++ piece ∷ []) start (stream ++ w.fresh)))
+          let found = subst (λ (o : Option Found). MatchOption o (IsDrained c.next_piece.new.self (given ++ c.loop-self.pieces) start (stream ++ w.fresh)) (λ (piece : Found). HasFound c.next_piece.new.self ((given ++ c.loop-self.pieces) ++ piece ∷ []) start (stream ++ w.fresh)))
           c.in-Ok-Some.field-0-is (c.in-Ok-Some.ensures.found (given ++ c.loop-self.pieces) start (stream ++ w.fresh) w.stands) in
-          subst (λ (ps : List ReadRecord). UnderWay g.S.Source.tells (g.S.Source.left c.args.source.now) (g.S.Source.left c.loop-self.source) c.next_piece.new.self given start stream ps c.loop-self.read) (sym pushed)
+          subst (λ (ps : List Found). UnderWay g.S.Source.tells (g.S.Source.left c.args.source.now) (g.S.Source.left c.loop-self.source) c.next_piece.new.self given start stream ps c.loop-self.read) (sym pushed)
           (more_given g.S.Source.tells _ _ _ c.next_piece.new.self given start stream c.loop-self.pieces c.in-Ok-Some.piece c.loop-self.read w found);
     }
 
@@ -39,7 +39,7 @@ pub returns-then-self-clause-steps : goal.returns-then-self-clause-steps
 returns-then-self-clause-steps g c = λ given start stream s.
     let i = c.loop-self.invariant in
     let w = i.way given start stream s in
-    let dry = subst (λ (o : Option ReadRecord). MatchOption o (IsDry c.next_piece.new.self (given ++ c.loop-self.pieces) start (stream ++ w.fresh)) (λ (piece : ReadRecord). HasPublished c.next_piece.new.self ((given ++ c.loop-self.pieces) ++ piece ∷ []) start (stream ++ w.fresh)))
+    let dry = subst (λ (o : Option Found). MatchOption o (IsDrained c.next_piece.new.self (given ++ c.loop-self.pieces) start (stream ++ w.fresh)) (λ (piece : Found). HasFound c.next_piece.new.self ((given ++ c.loop-self.pieces) ++ piece ∷ []) start (stream ++ w.fresh)))
     c.in-Ok-None.field-0-is (c.in-Ok-None.ensures.found (given ++ c.loop-self.pieces) start (stream ++ w.fresh) w.stands) in
     let why : (c.next_piece.new.self.is_ended ≡ true) ⊎ (STEP_BYTES ≤ c.loop-self.read) = elim c.then-self.branch [
       | then-self-via-then-self b ↦ inl (sym (ap (λ (r : Reader). r.is_ended) c.self-in-Ok-None.view_is) ∙ b.if-self.true)
@@ -63,12 +63,12 @@ loop-self-preserved g c =
       grown = λ given start stream s.
           let w = i.way given start stream s in
           let still =
-          subst (λ (o : Option ReadRecord). MatchOption o (c.next_piece.new.self.taken ≡ c.loop-self.self.taken) (λ (piece : ReadRecord). c.loop-self.self.taken < c.next_piece.new.self.taken))
+          subst (λ (o : Option Found). MatchOption o (c.next_piece.new.self.taken ≡ c.loop-self.self.taken) (λ (piece : Found). c.loop-self.self.taken < c.next_piece.new.self.taken))
           c.in-Ok-None.field-0-is (c.in-Ok-None.ensures.grown (given ++ c.loop-self.pieces) start (stream ++ w.fresh) w.stands) in
           grows_same c.args.self.now.taken c.loop-self.self.taken c.read_piece.new.self.taken c.loop-self.pieces (i.grown given start stream s) (ap (λ (r : Reader). r.taken) c.in-Ok-read_piece.ensures.same ∙ still);
       way = λ given start stream s.
           let w = i.way given start stream s in
-          let dry = subst (λ (o : Option ReadRecord). MatchOption o (IsDry c.next_piece.new.self (given ++ c.loop-self.pieces) start (stream ++ w.fresh)) (λ (piece : ReadRecord). HasPublished c.next_piece.new.self ((given ++ c.loop-self.pieces) ++ piece ∷ []) start (stream ++ w.fresh)))
+          let dry = subst (λ (o : Option Found). MatchOption o (IsDrained c.next_piece.new.self (given ++ c.loop-self.pieces) start (stream ++ w.fresh)) (λ (piece : Found). HasFound c.next_piece.new.self ((given ++ c.loop-self.pieces) ++ piece ∷ []) start (stream ++ w.fresh)))
           c.in-Ok-None.field-0-is (c.in-Ok-None.ensures.found (given ++ c.loop-self.pieces) start (stream ++ w.fresh) w.stands) in
           more_read g.S.Source.tells _ _ _ _ c.read_piece.new.self given start stream c.loop-self.pieces c.loop-self.read c.in-Ok-read_piece.count w
           (c.in-Ok-read_piece.ensures.read (given ++ c.loop-self.pieces) start (stream ++ w.fresh) dry);
@@ -86,6 +86,6 @@ pub returns-then-self-clause-grown : goal.returns-then-self-clause-grown
 returns-then-self-clause-grown g c = λ given start stream s.
     let i = c.loop-self.invariant in
     let w = i.way given start stream s in
-    let still = subst (λ (o : Option ReadRecord). MatchOption o (c.next_piece.new.self.taken ≡ c.loop-self.self.taken) (λ (piece : ReadRecord). c.loop-self.self.taken < c.next_piece.new.self.taken))
+    let still = subst (λ (o : Option Found). MatchOption o (c.next_piece.new.self.taken ≡ c.loop-self.self.taken) (λ (piece : Found). c.loop-self.self.taken < c.next_piece.new.self.taken))
     c.in-Ok-None.field-0-is (c.in-Ok-None.ensures.grown (given ++ c.loop-self.pieces) start (stream ++ w.fresh) w.stands) in
     grows_same c.args.self.now.taken c.loop-self.self.taken c.next_piece.new.self.taken c.loop-self.pieces (i.grown given start stream s) still

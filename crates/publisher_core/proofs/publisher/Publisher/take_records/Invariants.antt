@@ -1,6 +1,6 @@
 use Rattle.std.proofs.Common.{◌≡◌, ◌≤◌, ◌+◌, ◌-◌, ℕ, List, [], true, length, if◌then◌else◌}
-use Rattle.publisher_core.specs.declared.record.ReadRecord.{ReadRecord}
-use Rattle.publisher_core.specs.Standing.{HasPublished}
+use Rattle.publisher_core.specs.declared.record.Found.{Found}
+use Rattle.publisher_core.specs.Standing.{HasFound}
 use Rattle.record_lines.specs.Limits.{PIECE_BYTES, STEP_BYTES}
 use Rattle.publisher_core.specs.Stepping.{GrowsBy, SameSource, UnderWay}
 use Rattle.publisher_core.proofs.publisher.Publisher.take_records.Given as goal
@@ -12,8 +12,8 @@ invariant-loop-self g l = record {
   later : g.S.Source.faults l.fn.source ≤ g.S.Source.faults l.source;
   end : (g.S.Source.tells → l.fn.self.is_ended ≡ true → g.S.Source.left l.fn.source ≡ []) → g.S.Source.tells → l.self.is_ended ≡ true → g.S.Source.left l.source ≡ [];
   same : SameSource l.fn.self l.self;
-  grown : (given : List ReadRecord) → (start : ℕ) → (stream : List ℕ) → HasPublished l.fn.self given start stream → GrowsBy l.fn.self.taken l.self.taken l.pieces;
-  way : (given : List ReadRecord) → (start : ℕ) → (stream : List ℕ) → HasPublished l.fn.self given start stream
+  grown : (given : List Found) → (start : ℕ) → (stream : List ℕ) → HasFound l.fn.self given start stream → GrowsBy l.fn.self.taken l.self.taken l.pieces;
+  way : (given : List Found) → (start : ℕ) → (stream : List ℕ) → HasFound l.fn.self given start stream
       → UnderWay g.S.Source.tells (g.S.Source.left l.fn.source) (g.S.Source.left l.source) l.self given start stream l.pieces l.read;
 }
 
