@@ -18,7 +18,7 @@ use Rattle.publisher_core.specs.declared.record.ReadRecord.{ReadRecord}
 use Rattle.publisher_core.specs.declared.record.Record.TheVariants as item
 use Rattle.publisher_core.specs.Audit.{IsPieceOf, event_in, items_of}
 use Rattle.publisher_core.specs.AuditParts.{AreRecordsOf}
-use Rattle.publisher_core.specs.Found.{Finds, IsChangeFound, IsChangeRaw, IsEventOfItem, IsFoundAs, IsGainOf, IsGiven, IsTableFound, LinesAre, item_in, raw_of, raws_found}
+use Rattle.publisher_core.specs.Found.{Finds, IsChangeFound, IsChangeRaw, IsEventOfItem, IsFoundAs, IsGainOf, IsGiven, IsTableFound, LinesAre, item_in, raw_of}
 use Rattle.publisher_core.specs.Records.{ChangeGives, IsChangeLine, LinesGive, TableGives}
 use Rattle.publisher_core.specs.Standing.{AuditHolds, Gives, HasFound, HasPublished, Reader, Waiting, Waits, is_at_end}
 use Rattle.publisher_core.specs.Stepping.{GrowsBy, IsDrained, IsDry, StepFinds, Steps}
@@ -284,25 +284,12 @@ records_back [] back are = are
 records_back (found.Record raw ∷ front) back are = records_back front back are
 records_back (found.Table own ∷ front) back are = absurd are
 
-raws_alone : (many : List Found) → AreRecords many → many ≡ map found.Record (raws_found many)
-raws_alone [] are = refl
-raws_alone (found.Record raw ∷ many) are = ap (λ (rest : List Found). found.Record raw ∷ rest) (raws_alone many are)
-raws_alone (found.Table own ∷ many) are = absurd are
-
--- what a step found are these records
-pub step_raws : (tells : Type 0) (before after : List ℕ) (reader : Reader) (many : List Found) (start : ℕ) (stream : List ℕ) (more : List Found) (raws : List Raw) (most : ℕ)
-    → StepFinds tells before after reader many start stream more most → (reader.kind ≡ Tables → ⊥) → raws ≡ raws_found more → more ≡ map found.Record raws
-step_raws tells before after reader many start stream more raws most s other is =
-    raws_alone more (records_back many more (records_alone reader.kind start s.stands.lines (many ++ more) other s.stands.gives)) ∙ ap (λ (rs : List Raw). map found.Record rs) (sym is)
+-- no line of tables is found of another source
+pub no_table : (reader : Reader) (front : List Found) (own : ReadRecord) (start : ℕ) (stream : List ℕ) → HasFound reader (front ++ found.Table own ∷ []) start stream → (reader.kind ≡ Tables → ⊥) → ⊥
+no_table reader front own start stream s other = records_back front (found.Table own ∷ []) (records_alone reader.kind start s.lines (front ++ found.Table own ∷ []) other s.gives)
 
 pub raws_given : (paths : List Category) (raws : List Raw) (pieces : List ReadRecord) → AllZip (IsGainOf paths) raws pieces → AllZip (IsGiven paths) (map found.Record raws) pieces
 raws_given paths [] [] zip = tt
 raws_given paths [] (piece ∷ pieces) zip = absurd zip
 raws_given paths (raw ∷ raws) [] zip = absurd zip
 raws_given paths (raw ∷ raws) (piece ∷ pieces) zip = (zip.0, raws_given paths raws pieces zip.1)
-
-pub grows_raws : (before after : ℕ) (many : List Found) (raws : List Raw) → many ≡ map found.Record raws → GrowsBy before after many → GrowsBy before after raws
-grows_raws before after many raws same grown = by_raws raws (subst (λ (all : List Found). GrowsBy before after all) same grown) where
-  by_raws : (some : List Raw) → GrowsBy before after (map found.Record some) → GrowsBy before after some
-  by_raws [] still = still
-  by_raws (raw ∷ some) less = less

@@ -4,7 +4,6 @@ pub mod Parts
 pub mod Joining
 pub mod Standing
 pub mod Giving
-pub mod Gaining
 pub mod Behind
 pub mod Stepping
 pub mod Steps

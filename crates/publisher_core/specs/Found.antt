@@ -1,5 +1,5 @@
 -- The records of a source before a callback is asked about them, and what it gives for each.
-use Rattle.std.specs.Prelude.{◌≡◌, ◌⊎◌, ℕ, ◌+◌, List, [], ◌∷◌, length, filter_map, flat_map, Option, Some, None}
+use Rattle.std.specs.Prelude.{◌≡◌, ◌⊎◌, ℕ, ◌+◌, List, [], ◌∷◌, length, flat_map, Option, Some, None}
 use Rattle.std.specs.List.{AllZip}
 use Rattle.std.specs.Option.{option_to_list}
 use Rattle.osq_value.specs.declared.reading.Category.{Category}
@@ -78,11 +78,3 @@ item_of (found.Table own) = []
 
 abbrev pub items_found : List Found → List Record
 items_found found = flat_map item_of found
-
--- the records that were found, without lines of tables
-abbrev pub raw_found : Found → Option Raw
-raw_found (found.Record raw) = Some raw
-raw_found (found.Table own) = None
-
-abbrev pub raws_found : List Found → List Raw
-raws_found found = filter_map raw_found found

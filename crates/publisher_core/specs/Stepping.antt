@@ -1,5 +1,5 @@
 -- What a step of a publisher does.
-use Rattle.std.specs.Prelude.{◌≡◌, ◌⊎◌, ℕ, ◌+◌, ◌≤◌, ◌<◌, true, List, [], ◌∷◌, ◌++◌, length}
+use Rattle.std.specs.Prelude.{◌≡◌, ◌⊎◌, ℕ, ◌+◌, ◌≤◌, ◌<◌, true, List, [], ◌∷◌, ◌++◌, length, Option, MatchOption}
 use Rattle.record_lines.specs.Lines.{HasNoFeed}
 use Rattle.record_lines.specs.Cutting.{TakesLine}
 use Rattle.record_lines.specs.declared.line.Cut.{Cut}
@@ -74,6 +74,13 @@ pub record Reads (tells : Type 0) (before after : List ℕ) (reader : Reader) (g
   pub size : length fresh ≡ count
   pub left : tells → before ≡ fresh ++ after
   pub stands : HasFound reader given start (stream ++ fresh)
+
+-- A step found one more, or no line is left, as far as it may read. It had read so many bytes before, and has read as many now.
+pub record FindsNext (tells : Type 0) (before after : List ℕ) (reader : Reader) (given : List Found) (start : ℕ) (stream : List ℕ) (had has : ℕ) (next : Option Found) : Type 0 where
+  pub fresh : List ℕ
+  pub size : had + length fresh ≡ has
+  pub left : tells → before ≡ fresh ++ after
+  pub found : MatchOption next (IsDrained reader given start (stream ++ fresh) × ((reader.is_ended ≡ true) ⊎ (STEP_BYTES ≤ has))) (λ one. HasFound reader (given ++ one ∷ []) start (stream ++ fresh))
 
 -- records were found, by as many as may be, of the lines read before and in this step
 pub record UnderWay (tells : Type 0) (before after : List ℕ) (reader : Reader) (given : List Found) (start : ℕ) (stream : List ℕ) (pieces : List Found) (read : ℕ) : Type 0 where

@@ -1,37 +1,18 @@
-//! What a callback gives for the records of a step.
+//! What a callback gives for a record.
 
 ghost use Rattle.std.specs.Prelude.{◌≡◌, ◌++◌, List, IfOk, OnOk};
-ghost use Rattle.std.specs.List.{AllZip};
 ghost use Rattle.std.specs.Option.{option_to_list};
-ghost use Rattle.publisher_core.specs.Found.{IsEventOfItem, IsGiven, item_of, items_found, raw_found, raws_found};
+ghost use Rattle.publisher_core.specs.Found.{IsEventOfItem, IsGiven, item_of};
 ghost use Rattle.publisher_core.specs.declared.record.Record.{Record};
 
-use crate::record::{Found, FoundList, Gain, Raw, ReadRecord, ReadRecordList, Record, RecordList};
+use crate::record::{Found, Gain, Raw, ReadRecord, Record};
 use crate::subscription::{Callback, Subscription};
 use crate::watching::Watcher;
 use osq_value::{Event, NoMemory};
 use std::alloc::Global;
 
-/// What is given for what was found, in order. The watcher sees each record before the callback is asked about it.
-pub fn gains<C: Callback, W: Watcher>(
-    alloc: Global,
-    subscription: &Subscription<C>,
-    watcher: &mut W,
-    found: FoundList,
-) -> Result<ReadRecordList, NoMemory>
-    ensures given { IfOk result (λ pieces. AllZip (IsGiven subscription.now.paths) found pieces) }
-    ensures seen { (seen : List Record) → W.saw watcher.old seen → OnOk result (W.saw watcher.new (seen ++ items_found found)) }
-{
-    let mut pieces = ReadRecordList::with_capacity(alloc, found.len())?;
-    for one in found.into_vec() {
-        let piece = given(alloc, subscription, watcher, one)?;
-        pieces.push(piece)?;
-    }
-    Ok(pieces)
-}
-
-/// What is given for one of them.
-fn given<C: Callback, W: Watcher>(
+/// What is given for what was found. The watcher sees a record before the callback is asked about it.
+pub fn given<C: Callback, W: Watcher>(
     alloc: Global,
     subscription: &Subscription<C>,
     watcher: &mut W,
@@ -73,26 +54,5 @@ fn item_event<C: Callback, W: Watcher>(
             };
             subscription.event_of(alloc, item)
         }
-    }
-}
-
-/// The records among what was found.
-pub fn raws(alloc: Global, found: FoundList) -> Result<RecordList, NoMemory>
-    ensures { IfOk result (λ raws. raws ≡ raws_found found) }
-{
-    let mut raws = RecordList::with_capacity(alloc, found.len())?;
-    for one in found.into_vec() {
-        add_raw(&mut raws, one)?;
-    }
-    Ok(raws)
-}
-
-/// Adds it where it is a record.
-fn add_raw(raws: &mut RecordList, one: Found) -> Result<(), NoMemory>
-    ensures { OnOk result (raws.new ≡ raws.old ++ option_to_list (raw_found one)) }
-{
-    match one {
-        Found::Record(raw) => raws.push(raw),
-        Found::Table(_own) => Ok(()),
     }
 }

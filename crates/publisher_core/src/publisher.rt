@@ -1,10 +1,10 @@
 //! Publishers.
 
-ghost use Rattle.std.specs.Prelude.{◌≡◌, ◌≢◌, ◌≤◌, ◌<◌, ◌+◌, ◌⊎◌, ℕ, [], ◌∷◌, ◌++◌, length, List, true, false, Ok, Err, IfOk, OnOk, IfErr, MatchOption, vec_len};
+ghost use Rattle.std.specs.Prelude.{◌≡◌, ◌≢◌, ◌≤◌, ◌<◌, ◌+◌, ◌⊎◌, ℕ, [], ◌∷◌, ◌++◌, length, List, map, true, false, Ok, Err, IfOk, OnOk, IfErr, MatchOption, vec_len};
 ghost use Rattle.osq_outside.specs.Causes.{FaultHasCause};
 ghost use Rattle.record_lines.specs.Limits.{LINE_LIMIT, PIECE_BYTES, STEP_BYTES};
 ghost use Rattle.std.specs.List.{AllZip};
-ghost use Rattle.publisher_core.specs.Stepping.{Goes, Grows, GrowsBy, IsDry, IsDrained, TakesCut, SameSource, Reads, StepFinds, Steps};
+ghost use Rattle.publisher_core.specs.Stepping.{FindsNext, Goes, Grows, GrowsBy, IsDry, IsDrained, TakesCut, SameSource, Reads, StepFinds, Steps};
 ghost use Rattle.publisher_core.specs.Readings.{readings_of};
 ghost use Rattle.publisher_core.specs.Standing.{Reader, HasFound, HasPublished, is_at_end, limit_of};
 ghost use Rattle.publisher_core.specs.Audit.{line_in};
@@ -22,10 +22,10 @@ ghost use Rattle.publisher_core.specs.declared.record.Next.{Next};
 
 use crate::error::StepError;
 use crate::gathering::{AuditRecord, Gathering};
-use crate::gaining::{gains, raws};
+use crate::gaining::given;
 use crate::line::{TABLE_LIMIT, audit_line, change_raw, table_gain};
 use crate::readings::readings_of;
-use crate::record::{Found, FoundList, Next, Raw, ReadRecord, Record, RecordList};
+use crate::record::{Found, Next, Raw, ReadRecord, ReadRecordList, Record, RecordList};
 use crate::subscription::{Callback, Subscription};
 use crate::watching::{Unseen, Watcher};
 use audit_records::AuditGroup;
@@ -293,6 +293,7 @@ impl<C: Callback> Publisher<C> {
         }
     }
 
+    /// Takes the records of a step, as they are found.
     fn take_raws<S: Source>(&mut self, source: &mut S, max: u64) -> Result<RecordList, StepError>
         requires kind { self.old.kind ≢ Tables }
         ensures found { (before : List Found) → (start : ℕ) → (stream : List ℕ) → HasFound self.old before start stream
@@ -303,13 +304,21 @@ impl<C: Callback> Publisher<C> {
         ensures end { (S.tells → self.old.is_ended ≡ true → S.left source.old ≡ []) → OnOk result (S.tells → self.new.is_ended ≡ true → S.left source.new ≡ []) }
         ensures cause { FaultHasCause StepError.SourceFault (S.faults source.old) (S.faults source.new) result }
     {
-        let found = match self.take_records(source, max) {
-            Ok(found) => found,
-            Err(error) => return Err(error),
-        };
-        let Ok(raws) = raws(self.alloc, found) else {
-            return Err(StepError::NoMemory);
-        };
+        let mut raws = RecordList::new(self.alloc);
+        let mut read = 0;
+        while (raws.len() as u64) < max {
+            match self.next_found(source, &mut read) {
+                Err(error) => return Err(error),
+                Ok(None) => return Ok(raws),
+                // No line of tables is found here.
+                Ok(Some(Found::Table(_own))) => return Ok(raws),
+                Ok(Some(Found::Record(raw))) => {
+                    let Ok(()) = raws.push(raw) else {
+                        return Err(StepError::NoMemory);
+                    };
+                }
+            }
+        }
         Ok(raws)
     }
 
@@ -329,12 +338,9 @@ impl<C: Callback> Publisher<C> {
         ensures end { (S.tells → self.old.is_ended ≡ true → S.left source.old ≡ []) → OnOk result (S.tells → self.new.is_ended ≡ true → S.left source.new ≡ []) }
         ensures cause { FaultHasCause StepError.SourceFault (S.faults source.old) (S.faults source.new) result }
     {
-        let found = match self.take_records(source, most) {
-            Ok(found) => found,
+        let pieces = match self.take_records(source, most, watcher) {
+            Ok(pieces) => pieces,
             Err(error) => return Err(error),
-        };
-        let Ok(pieces) = gains(self.alloc, &self.subscription, watcher, found) else {
-            return Err(StepError::NoMemory);
         };
         let Ok(readings) = readings_of(self.alloc, self.kind, pieces) else {
             return Err(StepError::NoMemory);
@@ -342,42 +348,75 @@ impl<C: Callback> Publisher<C> {
         Ok(readings)
     }
 
-    /// Takes the records of a step.
-    fn take_records<S: Source>(
+    /// Takes the records of a step, and gives what the callback makes of each. The watcher sees each before the callback is asked.
+    fn take_records<S: Source, W: Watcher>(
         &mut self,
         source: &mut S,
         most: u64,
-    ) -> Result<FoundList, StepError>
-        ensures steps { (given : List Found) → (start : ℕ) → (stream : List ℕ) → HasFound self.old given start stream
-            → IfOk result (λ pieces. StepFinds S.tells (S.left source.old) (S.left source.new) self.new given start stream pieces most) }
-        ensures grown { (given : List Found) → (start : ℕ) → (stream : List ℕ) → HasFound self.old given start stream → IfOk result (λ pieces. GrowsBy self.old.taken self.new.taken pieces) }
+        watcher: &mut W,
+    ) -> Result<ReadRecordList, StepError>
+        ensures seen { (before : List Found) → (start : ℕ) → (stream : List ℕ) → HasFound self.old before start stream
+            → IfOk result (λ pieces. (many : List Found) × AllZip (IsGiven self.old.paths) many pieces
+            × StepFinds S.tells (S.left source.old) (S.left source.new) self.new before start stream many most
+            × ((seen : List Record) → W.saw watcher.old seen → W.saw watcher.new (seen ++ items_found many))) }
+        ensures grown { (before : List Found) → (start : ℕ) → (stream : List ℕ) → HasFound self.old before start stream → IfOk result (λ pieces. GrowsBy self.old.taken self.new.taken pieces) }
         ensures same { SameSource self.old self.new }
         ensures shrank { (kept found : ℕ) → result ≢ Err (StepError.SourceShrank kept found) }
         ensures end { (S.tells → self.old.is_ended ≡ true → S.left source.old ≡ []) → OnOk result (S.tells → self.new.is_ended ≡ true → S.left source.new ≡ []) }
         ensures cause { FaultHasCause StepError.SourceFault (S.faults source.old) (S.faults source.new) result }
     {
-        let mut pieces = FoundList::new(self.alloc);
+        let mut pieces = ReadRecordList::new(self.alloc);
         let mut read = 0;
         while (pieces.len() as u64) < most {
-            match self.next_piece() {
-                Err(NoMemory) => return Err(StepError::NoMemory),
-                Ok(Some(piece)) => {
+            match self.next_found(source, &mut read) {
+                Err(error) => return Err(error),
+                Ok(None) => return Ok(pieces),
+                Ok(Some(one)) => {
+                    let Ok(piece) = given(self.alloc, &self.subscription, watcher, one) else {
+                        return Err(StepError::NoMemory);
+                    };
                     let Ok(()) = pieces.push(piece) else {
                         return Err(StepError::NoMemory);
                     };
                 }
+            }
+        }
+        Ok(pieces)
+    }
+
+    /// The next of what a step finds. Where no line is left of those read before it reads on, up to the source's end or until the step has
+    /// read 16777216 bytes; `read` counts them.
+    fn next_found<S: Source>(
+        &mut self,
+        source: &mut S,
+        read: &mut u64,
+    ) -> Result<Option<Found>, StepError>
+        requires within { read.old ≤ STEP_BYTES + PIECE_BYTES }
+        ensures found { (before : List Found) → (start : ℕ) → (stream : List ℕ) → HasFound self.old before start stream
+            → IfOk result (λ found. FindsNext S.tells (S.left source.old) (S.left source.new) self.new before start stream read.old read.new found) }
+        ensures grown { (before : List Found) → (start : ℕ) → (stream : List ℕ) → HasFound self.old before start stream
+            → IfOk result (λ found. MatchOption found (self.new.taken ≡ self.old.taken) (λ one. self.old.taken < self.new.taken)) }
+        ensures within { read.new ≤ STEP_BYTES + PIECE_BYTES }
+        ensures same { SameSource self.old self.new }
+        ensures shrank { (kept found : ℕ) → result ≢ Err (StepError.SourceShrank kept found) }
+        ensures end { (S.tells → self.old.is_ended ≡ true → S.left source.old ≡ []) → OnOk result (S.tells → self.new.is_ended ≡ true → S.left source.new ≡ []) }
+        ensures cause { FaultHasCause StepError.SourceFault (S.faults source.old) (S.faults source.new) result }
+    {
+        loop {
+            match self.next_piece() {
+                Err(NoMemory) => return Err(StepError::NoMemory),
+                Ok(Some(one)) => return Ok(Some(one)),
                 Ok(None) => {
-                    if self.is_ended || read >= STEP_BYTES {
-                        return Ok(pieces);
+                    if self.is_ended || *read >= STEP_BYTES {
+                        return Ok(None);
                     }
                     match self.read_piece(source) {
-                        Ok(count) => read += count,
+                        Ok(count) => *read += count,
                         Err(error) => return Err(error),
                     }
                 }
             }
         }
-        Ok(pieces)
     }
 
     /// What was found ends at this offset.

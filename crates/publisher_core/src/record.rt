@@ -58,9 +58,6 @@ pub enum Found {
     Table(ReadRecord),
 }
 
-/// What was found of a source, in its order.
-pub type FoundList = Sequence<Found>;
-
 /// What became of the lines that were read.
 #[derive(Drop)]
 pub enum Next {
