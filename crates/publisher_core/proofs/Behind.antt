@@ -8,6 +8,8 @@ use Rattle.osq_value.specs.declared.source.SourceKind.TheVariants.{Audit, Change
 use Rattle.audit_records.specs.declared.line.AuditLine.{AuditLine}
 use Rattle.publisher_core.specs.declared.gathering.AuditRecord.{AuditRecord}
 use Rattle.publisher_core.specs.declared.record.Found.{Found}
+use Rattle.publisher_core.specs.declared.record.Found.TheVariants as found
+use Rattle.publisher_core.specs.declared.record.Raw.{Raw}
 use Rattle.publisher_core.specs.Audit.{AuditMakes, items_of}
 use Rattle.publisher_core.specs.AuditParts.{AreRecordsOf, Item}
 use Rattle.publisher_core.specs.Found.{Finds, IsChangeFound, IsFoundAs, IsTableFound, LinesAre, item_in, raw_of}
@@ -35,13 +37,20 @@ item_same None (Some group) same = cc
 item_same (Some group) None same = cc
 item_same (Some group) (Some other) same = cc
 
+abbrev made_with : Option (List AuditLine) → ℕ → ℕ → AuditRecord
+made_with group skipped end = record { group = group; skipped = skipped; end = end }
+
+abbrev raw_in : Found → Raw → Raw
+raw_in (found.Record raw) other = raw
+raw_in (found.Table own) other = other
+
 made_same : (one other : AuditRecord) (this : Found) → IsFoundAs one this → IsFoundAs other this → one ≡ other
 made_same one other this is_one is_other =
-    let same : raw_of one ≡ raw_of other = (let both = sym is_one ∙ is_other in cc) in
-    let group : one.group ≡ other.group = item_same one.group other.group (let items = same in cc) in
-    let skipped : one.skipped ≡ other.skipped = (let raws = same in cc) in
-    let end : one.end ≡ other.end = (let raws = same in cc) in
-    cc
+    let same : raw_of one ≡ raw_of other = ap (λ (f : Found). raw_in f (raw_of one)) (sym is_one ∙ is_other) in
+    let group : one.group ≡ other.group = item_same one.group other.group (ap (λ (raw : Raw). raw.item) same) in
+    let skipped : one.skipped ≡ other.skipped = ap (λ (raw : Raw). raw.skipped) same in
+    let end : one.end ≡ other.end = ap (λ (raw : Raw). raw.end) same in
+    ap (λ (g : Option (List AuditLine)). made_with g one.skipped one.end) group ∙ ap (λ (n : ℕ). made_with other.group n one.end) skipped ∙ ap (λ (n : ℕ). made_with other.group other.skipped n) end
 
 -- the records of some finds, and of those behind them
 record AreSplit (records own : List AuditRecord) (many : List Found) : Type 0 where

@@ -1,6 +1,8 @@
 -- What is given by a callback for what was found, and back.
-use Rattle.std.proofs.Common.{◌≡◌, ◌⊎◌, inl, inr, ℕ, ◌+◌, List, [], ◌∷◌, ◌++◌, length, map, refl, sym, ap, subst, ◌∙◌, arith, Bool, true, Option, Some, None}
+use Rattle.std.proofs.Common.{◌≡◌, ◌⊎◌, inl, inr, ℕ, ◌+◌, ◌≤◌, List, [], ◌∷◌, ◌++◌, length, map, refl, sym, ap, subst, ◌∙◌, arith, Bool, true, Option, Some, None}
 use Rattle.std.specs.List.{AllZip}
+use Rattle.std.proofs.lemmas.Grind.{flat_map-append}
+use Rattle.std.proofs.lemmas.List.{append-nil}
 use Rattle.std.proofs.lemmas.Slice.Zip.{AllZip-long}
 use Rattle.osq_value.specs.declared.reading.Category.{Category}
 use Rattle.osq_value.specs.declared.source.SourceKind.{SourceKind}
@@ -15,19 +17,23 @@ use Rattle.publisher_core.specs.declared.record.Gain.{Gain}
 use Rattle.publisher_core.specs.declared.record.Gain.TheVariants as gain
 use Rattle.publisher_core.specs.declared.record.Raw.{Raw}
 use Rattle.publisher_core.specs.declared.record.ReadRecord.{ReadRecord}
+use Rattle.publisher_core.specs.declared.record.Record.{Record}
 use Rattle.publisher_core.specs.declared.record.Record.TheVariants as item
 use Rattle.publisher_core.specs.Audit.{IsPieceOf, event_in, items_of}
 use Rattle.publisher_core.specs.AuditParts.{AreRecordsOf}
-use Rattle.publisher_core.specs.Found.{Finds, IsChangeFound, IsChangeRaw, IsEventOfItem, IsFoundAs, IsGainOf, IsGiven, IsTableFound, LinesAre, item_in, raw_of}
+use Rattle.publisher_core.specs.Found.{Finds, IsChangeFound, IsChangeRaw, IsEventOfItem, IsFoundAs, IsGainOf, IsGiven, IsTableFound, LinesAre, item_in, item_of, items_found, raw_of}
 use Rattle.publisher_core.specs.Records.{ChangeGives, IsChangeLine, LinesGive, TableGives}
 use Rattle.publisher_core.specs.Standing.{AuditHolds, Gives, HasFound, HasPublished, Reader, Waiting, Waits, is_at_end}
-use Rattle.publisher_core.specs.Stepping.{GrowsBy, IsDrained, IsDry, StepFinds, Steps}
+use Rattle.publisher_core.specs.Stepping.{IsDrained, IsDry, StepFinds, Steps}
 use Rattle.record_lines.specs.Limits.{STEP_BYTES}
 use Rattle.publisher_core.proofs.Only.{records_only}
 use Rattle.publisher_core.proofs.Standing.{over_drained}
 
 abbrev found_of : AuditRecord → Found
 found_of made = found.Record (raw_of made)
+
+abbrev record_with : Gain → ℕ → ReadRecord
+record_with given end = record { gain = given; end = end }
 
 abbrev with_event : Option Event → ℕ → ℕ → ReadRecord
 with_event event skipped end = record { gain = gain.Event event skipped; end = end }
@@ -104,10 +110,10 @@ OneFound paths Is line piece = (one : Found) × Is line piece.end one × IsGiven
 change_found : (paths : List Category) (line : List ℕ) (piece : ReadRecord) → ChangeGives paths line piece.gain → OneFound paths IsChangeFound line piece
 change_found paths line piece (inl (change, event, line_is, event_is, gain_is)) =
     let raw : Raw = record { item = Some (item.Change change); skipped = 0; end = piece.end } in
-    (found.Record raw, (raw, inl (change, line_is, refl), refl), (event, event_is, ap (λ (g : Gain). record { gain = g; end = piece.end }) gain_is))
+    (found.Record raw, (raw, inl (change, line_is, refl), refl), (event, event_is, ap (λ (g : Gain). record_with g piece.end) gain_is))
 change_found paths line piece (inr (none, gain_is)) =
     let raw : Raw = record { item = None; skipped = 1; end = piece.end } in
-    (found.Record raw, (raw, inr (none, refl), refl), (None, refl, ap (λ (g : Gain). record { gain = g; end = piece.end }) gain_is))
+    (found.Record raw, (raw, inr (none, refl), refl), (None, refl, ap (λ (g : Gain). record_with g piece.end) gain_is))
 
 table_found : (paths : List Category) (line : List ℕ) (piece : ReadRecord) → TableGives line piece.gain → OneFound paths IsTableFound line piece
 table_found paths line piece is = (found.Table piece, (piece.gain, is, refl), refl)
@@ -248,13 +254,6 @@ steps_given tells before after reader many given start stream more pieces most s
     by_full size all (inl full) = inl (omega (arith, size, full))
     by_full size all (inr (d, why)) = inr (dry_given reader (many ++ more) (given ++ pieces) start (stream ++ s.fresh) d all, why)
 
--- an offset that grows with one list grows with one that is as long
-pub grows_as : {A B : Type 0} (R : A → B → Type 0) (before after : ℕ) (xs : List A) (ys : List B) → AllZip R xs ys → GrowsBy before after xs → GrowsBy before after ys
-grows_as R before after [] [] zip grown = grown
-grows_as R before after [] (y ∷ ys) zip grown = absurd zip
-grows_as R before after (x ∷ xs) [] zip grown = absurd zip
-grows_as R before after (x ∷ xs) (y ∷ ys) zip grown = grown
-
 -- Of an audit log and of changes records alone are found.
 abbrev AreRecords : List Found → Type 0
 AreRecords [] = Unit {0}
@@ -293,3 +292,6 @@ raws_given paths [] [] zip = tt
 raws_given paths [] (piece ∷ pieces) zip = absurd zip
 raws_given paths (raw ∷ raws) [] zip = absurd zip
 raws_given paths (raw ∷ raws) (piece ∷ pieces) zip = (zip.0, raws_given paths raws pieces zip.1)
+
+pub items_more : (many : List Found) (one : Found) → items_found (many ++ one ∷ []) ≡ items_found many ++ item_of one
+items_more many one = flat_map-append item_of many (one ∷ []) ∙ ap (λ (rs : List Record). items_found many ++ rs) (append-nil (item_of one))

@@ -1,5 +1,6 @@
 -- What a step of a publisher does.
 use Rattle.std.specs.Prelude.{◌≡◌, ◌⊎◌, ℕ, ◌+◌, ◌≤◌, ◌<◌, true, List, [], ◌∷◌, ◌++◌, length, Option, MatchOption}
+use Rattle.record_lines.specs.Limits.{STEP_BYTES}
 use Rattle.record_lines.specs.Lines.{HasNoFeed}
 use Rattle.record_lines.specs.Cutting.{TakesLine}
 use Rattle.record_lines.specs.declared.line.Cut.{Cut}

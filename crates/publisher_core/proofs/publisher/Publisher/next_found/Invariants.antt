@@ -6,8 +6,8 @@ use Rattle.publisher_core.specs.Stepping.{SameSource}
 use Rattle.publisher_core.proofs.Stepping.{ReadsOn}
 use Rattle.publisher_core.proofs.publisher.Publisher.next_found.Given as goal
 
-abbrev pub invariant-loop-self : goal.invariant-loop-self
-invariant-loop-self g l = record {
+abbrev pub invariant-loop-one : goal.invariant-loop-one
+invariant-loop-one g l = record {
   within : l.read ≤ STEP_BYTES + PIECE_BYTES;
   later : g.S.Source.faults l.fn.source ≤ g.S.Source.faults l.source;
   end : (g.S.Source.tells → l.fn.self.is_ended ≡ true → g.S.Source.left l.fn.source ≡ []) → g.S.Source.tells → l.self.is_ended ≡ true → g.S.Source.left l.source ≡ [];
@@ -17,5 +17,5 @@ invariant-loop-self g l = record {
       → ReadsOn g.S.Source.tells (g.S.Source.left l.fn.source) (g.S.Source.left l.source) l.self before start stream l.fn.read l.read;
 }
 
-abbrev pub decreases-loop-self : goal.decreases-loop-self
-decreases-loop-self g l = (if l.self.is_ended then 0 else 1) + (STEP_BYTES - l.read)
+abbrev pub decreases-loop-one : goal.decreases-loop-one
+decreases-loop-one g l = (if l.self.is_ended then 0 else 1) + (STEP_BYTES - l.read)

@@ -26,7 +26,7 @@ returns-clause-goes g c = λ given start stream s.
     (subst (λ (r : Reader). cutting.HasCut r.cutter (start + length (ended (s.lines ++ s.held))) s.rest) (sym c.self.view_is) s.cutter) in
     let same = ap (λ (rs : List AuditRecord). record { kind = c.self.inside.kind; paths = c.self.inside.subscription.paths; taken = c.self.inside.taken; cutter = c.take_line.new.self; gathering = c.self.inside.gathering; ready = rs; is_begun = c.self.inside.is_begun; is_ended = c.self.inside.is_ended; is_spent = c.self.inside.is_spent }) (sym c.in_default.ensures.items)
     ∙ ap (λ (r : Reader). record r { cutter = c.take_line.new.self }) c.self.view_is in
-    c.in-Ok-take_line.ensures.goes c.args.self.now given start stream
+    c.in-Ok.ensures.goes c.args.self.now given start stream
     (record {
       stands = s;
       same = same;
@@ -39,8 +39,8 @@ returns-clause-grown g c = λ given start stream s.
     (subst (λ (r : Reader). cutting.HasCut r.cutter (start + length (ended (s.lines ++ s.held))) s.rest) (sym c.self.view_is) s.cutter) in
     let same = ap (λ (rs : List AuditRecord). record { kind = c.self.inside.kind; paths = c.self.inside.subscription.paths; taken = c.self.inside.taken; cutter = c.take_line.new.self; gathering = c.self.inside.gathering; ready = rs; is_begun = c.self.inside.is_begun; is_ended = c.self.inside.is_ended; is_spent = c.self.inside.is_spent }) (sym c.in_default.ensures.items)
     ∙ ap (λ (r : Reader). record r { cutter = c.take_line.new.self }) c.self.view_is in
-    subst (λ (n : ℕ). Grows n c.take_line-2.new.self.taken c.in-Ok-take_line.next) (ap (λ (r : Reader). r.taken) c.self.view_is)
-    (c.in-Ok-take_line.ensures.grown c.args.self.now given start stream
+    subst (λ (n : ℕ). Grows n c.take_line-2.new.self.taken c.in-Ok.next) (ap (λ (r : Reader). r.taken) c.self.view_is)
+    (c.in-Ok.ensures.grown c.args.self.now given start stream
     (record {
       stands = s;
       same = same;
