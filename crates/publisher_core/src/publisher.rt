@@ -21,8 +21,8 @@ ghost use Rattle.publisher_core.specs.declared.record.Record.{Record};
 ghost use Rattle.publisher_core.specs.declared.record.Next.{Next};
 
 use crate::error::StepError;
-use crate::gathering::{AuditRecord, Gathering};
 use crate::gaining::given;
+use crate::gathering::{AuditRecord, Gathering};
 use crate::line::{TABLE_LIMIT, audit_line, change_raw, table_gain};
 use crate::readings::readings_of;
 use crate::record::{Found, Next, Raw, ReadRecord, ReadRecordList, Record, RecordList};

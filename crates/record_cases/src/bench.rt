@@ -16,7 +16,8 @@ use std::alloc::Global;
 
 /// The members that lines of some kind have beside that.
 const MEMBERS: &[&str] = &[
-    "paths", "limit", "offset", "by", "source", "kept", "most", "steps", "fails", "is_whole", "is_shown",
+    "paths", "limit", "offset", "by", "source", "kept", "most", "steps", "fails", "is_whole",
+    "is_shown",
 ];
 
 /// The kinds of lines.

@@ -57,12 +57,14 @@ returns-in-Ok-None-clause-seen g c = λ before start stream s.
     let i = c.loop-self.invariant in
     let w = i.way before start stream s in
     let size = AllZip-long (IsGiven c.args.self.now.paths) i.many c.loop-self.pieces i.each in
-    let few = i.few in
-    (i.many, i.each,
-    dry_steps g.S.Source.tells _ _ _ _ c.next_found.new.self before start stream i.many _ _ c.args.most w
-    (subst (λ (o : Option Found). FindsNext g.S.Source.tells (g.S.Source.left c.loop-self.source) (g.S.Source.left c.next_found.new.source) c.next_found.new.self (before ++ i.many) start (stream ++ w.fresh) c.loop-self.read c.next_found.new.read o)
-    c.in-Ok-None.field-0-is (c.in-Ok-None.ensures.found (before ++ i.many) start (stream ++ w.fresh) w.stands)) (omega (arith, size, few)),
-    i.shown)
+    let few = i.few in (
+      i.many,
+      i.each,
+      dry_steps g.S.Source.tells _ _ _ _ c.next_found.new.self before start stream i.many _ _ c.args.most w
+          (subst (λ (o : Option Found). FindsNext g.S.Source.tells (g.S.Source.left c.loop-self.source) (g.S.Source.left c.next_found.new.source) c.next_found.new.self (before ++ i.many) start (stream ++ w.fresh) c.loop-self.read c.next_found.new.read o)
+          c.in-Ok-None.field-0-is (c.in-Ok-None.ensures.found (before ++ i.many) start (stream ++ w.fresh) w.stands)) (omega (arith, size, few)),
+      i.shown,
+    )
 
 pub returns-clause-seen : goal.returns-clause-seen
 returns-clause-seen g c = λ before start stream s.
