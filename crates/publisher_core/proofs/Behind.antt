@@ -10,7 +10,7 @@ use Rattle.publisher_core.specs.declared.gathering.AuditRecord.{AuditRecord}
 use Rattle.publisher_core.specs.declared.record.Found.{Found}
 use Rattle.publisher_core.specs.declared.record.Found.TheVariants as found
 use Rattle.publisher_core.specs.declared.record.Raw.{Raw}
-use Rattle.publisher_core.specs.Audit.{AuditMakes, items_of}
+use Rattle.publisher_core.specs.Audit.{items_of}
 use Rattle.publisher_core.specs.AuditParts.{AreRecordsOf, Item}
 use Rattle.publisher_core.specs.Found.{Finds, IsChangeFound, IsFoundAs, IsTableFound, LinesAre, item_in, raw_of}
 use Rattle.publisher_core.specs.Records.{ended}

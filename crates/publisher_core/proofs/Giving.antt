@@ -1,5 +1,5 @@
 -- What is given by a callback for what was found, and back.
-use Rattle.std.proofs.Common.{◌≡◌, ◌⊎◌, inl, inr, ℕ, ◌+◌, ◌≤◌, List, [], ◌∷◌, ◌++◌, length, map, refl, sym, ap, subst, ◌∙◌, arith, Bool, true, Option, Some, None}
+use Rattle.std.proofs.Common.{◌≡◌, ◌⊎◌, inl, inr, ℕ, ◌+◌, ◌≤◌, List, [], ◌∷◌, ◌++◌, length, map, refl, sym, ap, subst, ◌∙◌, arith, true, Option, Some, None}
 use Rattle.std.specs.List.{AllZip}
 use Rattle.std.proofs.lemmas.Grind.{flat_map-append}
 use Rattle.std.proofs.lemmas.List.{append-nil}
@@ -20,10 +20,9 @@ use Rattle.publisher_core.specs.declared.record.ReadRecord.{ReadRecord}
 use Rattle.publisher_core.specs.declared.record.Record.{Record}
 use Rattle.publisher_core.specs.declared.record.Record.TheVariants as item
 use Rattle.publisher_core.specs.Audit.{IsPieceOf, event_in, items_of}
-use Rattle.publisher_core.specs.AuditParts.{AreRecordsOf}
 use Rattle.publisher_core.specs.Found.{Finds, IsChangeFound, IsChangeRaw, IsEventOfItem, IsFoundAs, IsGainOf, IsGiven, IsTableFound, LinesAre, item_in, item_of, items_found, raw_of}
-use Rattle.publisher_core.specs.Records.{ChangeGives, IsChangeLine, LinesGive, TableGives}
-use Rattle.publisher_core.specs.Standing.{AuditHolds, Gives, HasFound, HasPublished, Reader, Waiting, Waits, is_at_end}
+use Rattle.publisher_core.specs.Records.{ChangeGives, LinesGive, TableGives}
+use Rattle.publisher_core.specs.Standing.{Gives, HasFound, HasPublished, Reader, Waiting, Waits, is_at_end}
 use Rattle.publisher_core.specs.Stepping.{IsDrained, IsDry, StepFinds, Steps}
 use Rattle.record_lines.specs.Limits.{STEP_BYTES}
 use Rattle.publisher_core.proofs.Only.{records_only}

@@ -1,6 +1,5 @@
 -- The records of a source before a callback is asked about them, and what it gives for each.
 use Rattle.std.specs.Prelude.{◌≡◌, ◌⊎◌, ℕ, ◌+◌, List, [], ◌∷◌, length, flat_map, Option, Some, None}
-use Rattle.std.specs.List.{AllZip}
 use Rattle.std.specs.Option.{option_to_list}
 use Rattle.osq_value.specs.declared.reading.Category.{Category}
 use Rattle.osq_value.specs.declared.source.SourceKind.{SourceKind}
@@ -17,7 +16,7 @@ use Rattle.publisher_core.specs.declared.record.Raw.{Raw}
 use Rattle.publisher_core.specs.declared.record.ReadRecord.{ReadRecord}
 use Rattle.publisher_core.specs.declared.record.Record.{Record}
 use Rattle.publisher_core.specs.declared.record.Record.TheVariants as item
-use Rattle.publisher_core.specs.Audit.{AuditMakes, items_of}
+use Rattle.publisher_core.specs.Audit.{AuditMakes}
 use Rattle.publisher_core.specs.Records.{IsChangeLine, IsEventOfRecord, TableGives}
 
 -- what a callback is given of a record of an audit log: its group, and nothing of a skipped line by itself
