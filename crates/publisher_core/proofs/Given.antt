@@ -7,11 +7,11 @@ use Rattle.std.proofs.Math.Seq.{take-append_seam}
 use Rattle.record_lines.specs.Lines.{HasNoFeed}
 use Rattle.audit_records.specs.declared.line.AuditLine.{AuditLine}
 use Rattle.publisher_core.specs.declared.gathering.AuditRecord.{AuditRecord}
-use Rattle.publisher_core.specs.declared.record.Gain.{Gain}
-use Rattle.publisher_core.specs.declared.record.ReadRecord.{ReadRecord}
+use Rattle.publisher_core.specs.declared.record.Found.{Found}
 use Rattle.publisher_core.specs.AuditParts.{Item, lines_in, skipped_in, IsPart, IsPartBy, AreRecordsOf}
 use Rattle.publisher_core.specs.Audit.{items_of, line_in}
-use Rattle.publisher_core.specs.Records.{ended, HaveNoFeed, LinesGive}
+use Rattle.publisher_core.specs.Found.{LinesAre}
+use Rattle.publisher_core.specs.Records.{ended, HaveNoFeed}
 
 -- the bytes of lines
 pub ended-append : (a b : List (List ℕ)) → ended (a ++ b) ≡ ended a ++ ended b
@@ -49,14 +49,14 @@ not_plain [] behind plain = plain.0 refl
 not_plain (byte ∷ line) behind plain = not_plain line behind plain.1
 
 -- one more line of a source that gives by lines
-pub lines_give_more : (gives : List ℕ → Gain → Type 0) (start : ℕ) (lines : List (List ℕ)) (pieces : List ReadRecord) (line : List ℕ) (piece : ReadRecord) → LinesGive gives start lines pieces → gives line piece.gain → piece.end ≡ start + length (ended lines) + length line + 1 → LinesGive gives start (lines ++ line ∷ []) (pieces ++ piece ∷ [])
-lines_give_more gives start [] [] line piece all one end = (one, (let at : piece.end ≡ start + length line + 1 = omega (arith, end) in at), tt)
-lines_give_more gives start [] (first ∷ pieces) line piece all one end = absurd all
-lines_give_more gives start (other ∷ lines) [] line piece all one end = absurd all
-lines_give_more gives start (other ∷ lines) (first ∷ pieces) line piece all one end =
+pub lines_are_more : (Is : List ℕ → ℕ → Found → Type 0) (start : ℕ) (lines : List (List ℕ)) (found : List Found) (line : List ℕ) (one : Found) → LinesAre Is start lines found → Is line (start + length (ended lines) + length line + 1) one → LinesAre Is start (lines ++ line ∷ []) (found ++ one ∷ [])
+lines_are_more Is start [] [] line one all last = (subst (λ (n : ℕ). Is line n one) (let at : start + 0 + length line + 1 ≡ start + length line + 1 = omega arith in at) last, tt)
+lines_are_more Is start [] (first ∷ found) line one all last = absurd all
+lines_are_more Is start (other ∷ lines) [] line one all last = absurd all
+lines_are_more Is start (other ∷ lines) (first ∷ found) line one all last =
     let size = size_ended other lines in
-    let later : piece.end ≡ start + length other + 1 + length (ended lines) + length line + 1 = omega (arith, end, size) in
-    (all.0, all.1, lines_give_more gives (start + length other + 1) lines pieces line piece all.2 one later)
+    let later : start + length (ended (other ∷ lines)) + length line + 1 ≡ start + length other + 1 + length (ended lines) + length line + 1 = omega (arith, size) in
+    (all.0, lines_are_more Is (start + length other + 1) lines found line one all.1 (subst (λ (n : ℕ). Is line n one) later last))
 
 -- the lines of an audit log
 pub items_more : (start : ℕ) (lines : List (List ℕ)) (line : List ℕ) → items_of start (lines ++ line ∷ []) ≡ items_of start lines ++ record { line = line_in line; end = start + length (ended lines) + length line + 1 } ∷ []

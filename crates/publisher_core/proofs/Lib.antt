@@ -3,5 +3,7 @@ pub mod Only
 pub mod Parts
 pub mod Joining
 pub mod Standing
+pub mod Giving
+pub mod Behind
 pub mod Stepping
 pub mod Steps

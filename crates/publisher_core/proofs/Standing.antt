@@ -3,7 +3,6 @@ use Rattle.std.proofs.Common.{◌≡◌, ◌⊎◌, inl, inr, ℕ, ◌+◌, ◌<
 use Rattle.std.proofs.lemmas.List.{append-nil, append_cancel_left, take-append-drop, nil_from_length}
 use Rattle.std.proofs.Math.Seq.{take-append_seam}
 use Rattle.std.proofs.lemmas.Bool.{true≢false, eqb-true}
-use Rattle.osq_value.specs.declared.reading.Category.{Category}
 use Rattle.record_lines.specs.declared.line.Cut.{Cut}
 use Rattle.record_lines.specs.Cutting as cutting
 use Rattle.record_lines.specs.Lines.{HasNoFeed}
@@ -12,50 +11,52 @@ use Rattle.publisher_core.specs.declared.gathering.Gathering.{Gathering}
 use Rattle.osq_value.specs.declared.source.SourceKind.{SourceKind}
 use Rattle.osq_value.specs.declared.source.SourceKind.TheVariants.{Audit, Changes, Tables}
 use Rattle.publisher_core.specs.declared.record.Gain.{Gain}
-use Rattle.publisher_core.specs.declared.record.ReadRecord.{ReadRecord}
+use Rattle.publisher_core.specs.declared.record.Found.{Found}
+use Rattle.publisher_core.specs.declared.record.Found.TheVariants as found
+use Rattle.publisher_core.specs.declared.record.Raw.{Raw}
 use Rattle.audit_records.specs.declared.line.AuditLine.{AuditLine}
 use Rattle.audit_records.specs.Groups.{groups_of, whole}
 use Rattle.publisher_core.specs.AuditParts.{Item, AreRecordsOf, groups_in, lines_in}
 use Rattle.publisher_core.proofs.Only.{groups_of_log}
 use Rattle.publisher_core.specs.Gathered as gathered
-use Rattle.publisher_core.specs.Audit.{items_of, line_in, IsPieceOf}
-use Rattle.publisher_core.specs.Records.{ended, HaveNoFeed, LinesGive, ChangeGives, TableGives}
-use Rattle.publisher_core.specs.Standing.{Reader, HasPublished, Gives, Waits, AuditWaits, NoneWaits, HasGathered, is_at_end, limit_of}
-use Rattle.publisher_core.specs.Stepping.{HoldsLast, IsDry, TakesCut}
+use Rattle.publisher_core.specs.Audit.{items_of, line_in}
+use Rattle.publisher_core.specs.Records.{ended, HaveNoFeed, TableGives}
+use Rattle.publisher_core.specs.Found.{Finds, IsChangeFound, IsChangeRaw, IsFoundAs, IsTableFound, LinesAre}
+use Rattle.publisher_core.specs.Standing.{Reader, HasFound, Waiting, AuditHolds, NoneWaits, HasGathered, is_at_end, limit_of}
+use Rattle.publisher_core.specs.Stepping.{HoldsLast, IsDrained, TakesCut}
 use Rattle.publisher_core.proofs.Parts.{records_split, records_none, records_end, lines_in-append, lines_in-skipped}
-use Rattle.publisher_core.proofs.Given.{cut_more, plain_more, not_plain, size_more, lines_give_more, items_more, front_lines, last_end, as_many, items_of-append, length-items, more_bytes, none_more, zip_more}
+use Rattle.publisher_core.proofs.Given.{cut_more, plain_more, not_plain, size_more, lines_are_more, items_more, front_lines, last_end, as_many, items_of-append, length-items, more_bytes, none_more, zip_more}
 
 -- a line was cut off where its source is not at its end
-goes_on : (before reader : Reader) (given : List ReadRecord) (start : ℕ) (stream : List ℕ) (cut : Cut) → TakesCut before reader given start stream cut → before.is_ended ≡ true → ⊥
+goes_on : (before reader : Reader) (given : List Found) (start : ℕ) (stream : List ℕ) (cut : Cut) → TakesCut before reader given start stream cut → before.is_ended ≡ true → ⊥
 goes_on before reader given start stream cut t is_ended = not_plain t.line.line t.line.behind (subst HasNoFeed t.line.stream_is (t.stands.over is_ended))
 
 -- the offset behind the line that was cut off
 pub record CutOff (start : ℕ) (lines : List (List ℕ)) (line : List ℕ) (end : ℕ) : Type 0 where
   pub is : end ≡ start + length (ended lines) + length line + 1
 
--- one more line of a source that gives by lines, whose kind gives so
-by_line : (kind : SourceKind) (gives : List ℕ → Gain → Type 0) (before reader after : Reader) (given : List ReadRecord) (start : ℕ) (stream : List ℕ) (cut : Cut) (gain : Gain) (end : ℕ)
+-- one more line of a source that gives by lines, whose kind has them so
+by_line : (kind : SourceKind) (Is : List ℕ → ℕ → Found → Type 0) (before reader after : Reader) (given : List Found) (start : ℕ) (stream : List ℕ) (cut : Cut) (one : Found) (end : ℕ)
     → (t : TakesCut before reader given start stream cut)
     → reader.kind ≡ kind
-    → (Gives kind reader.paths start t.stands.lines given → LinesGive gives start t.stands.lines given)
-    → (LinesGive gives start (t.stands.lines ++ t.line.line ∷ []) (given ++ record { gain = gain; end = end } ∷ []) → Gives kind reader.paths start (t.stands.lines ++ t.line.line ∷ []) (given ++ record { gain = gain; end = end } ∷ []))
-    → (Waits kind before given start t.stands.lines t.stands.held → NoneWaits before t.stands.held)
-    → (NoneWaits after [] → Waits kind after (given ++ record { gain = gain; end = end } ∷ []) start (t.stands.lines ++ t.line.line ∷ []) [])
-    → gives t.line.line gain
+    → (Finds kind start t.stands.lines given → LinesAre Is start t.stands.lines given)
+    → (LinesAre Is start (t.stands.lines ++ t.line.line ∷ []) (given ++ one ∷ []) → Finds kind start (t.stands.lines ++ t.line.line ∷ []) (given ++ one ∷ []))
+    → (Waiting kind before given start t.stands.lines t.stands.held → NoneWaits before t.stands.held)
+    → (NoneWaits after [] → Waiting kind after (given ++ one ∷ []) start (t.stands.lines ++ t.line.line ∷ []) [])
+    → Is t.line.line end one
     → end ≡ start + length (ended (t.stands.lines ++ t.stands.held)) + length t.line.line + 1
     → after ≡ record reader { taken = end }
-    → HasPublished after (given ++ record { gain = gain; end = end } ∷ []) start stream
-by_line kind gives before reader after given start stream cut gain end t is gives_old gives_new waits_old waits_new one at after_is =
+    → HasFound after (given ++ one ∷ []) start stream
+by_line kind Is before reader after given start stream cut one end t is finds_old finds_new waits_old waits_new this at after_is =
     let s = t.stands in
     let kinds : before.kind ≡ kind = sym (ap (λ (r : Reader). r.kind) t.same) ∙ is in
-    let paths : before.paths ≡ reader.paths = sym (ap (λ (r : Reader). r.paths) t.same) in
-    let waits = waits_old (subst (λ (k : SourceKind). Waits k before given start s.lines s.held) kinds s.waits) in
+    let waits = waits_old (subst (λ (k : SourceKind). Waiting k before given start s.lines s.held) kinds s.waits) in
     let all_lines : s.lines ++ s.held ≡ s.lines = ap (λ (h : List (List ℕ)). s.lines ++ h) waits.0 ∙ append-nil s.lines in
     let at_lines : end ≡ start + length (ended s.lines) + length t.line.line + 1 = at ∙ ap (λ (ls : List (List ℕ)). start + length (ended ls) + length t.line.line + 1) all_lines in
-    let old : Gives kind reader.paths start s.lines given = subst (λ (k : SourceKind). Gives k reader.paths start s.lines given) kinds (subst (λ (p : List Category). Gives before.kind p start s.lines given) paths s.gives) in
-    let new : Gives kind reader.paths start (s.lines ++ t.line.line ∷ []) (given ++ record { gain = gain; end = end } ∷ []) = gives_new (lines_give_more gives start s.lines given t.line.line (record { gain = gain; end = end }) (gives_old old) one at_lines) in
+    let old : Finds kind start s.lines given = subst (λ (k : SourceKind). Finds k start s.lines given) kinds s.gives in
+    let new : Finds kind start (s.lines ++ t.line.line ∷ []) (given ++ one ∷ []) =
+    finds_new (lines_are_more Is start s.lines given t.line.line one (finds_old old) (subst (λ (n : ℕ). Is t.line.line n one) at_lines this)) in
     let after_kind : after.kind ≡ kind = ap (λ (r : Reader). r.kind) after_is ∙ is in
-    let after_paths : after.paths ≡ reader.paths = ap (λ (r : Reader). r.paths) after_is in
     let ready : after.ready ≡ [] = ap (λ (r : Reader). r.ready) after_is ∙ ap (λ (r : Reader). r.ready) t.same ∙ waits.1 in
     let cut_lines : stream ≡ ended s.lines ++ s.rest = s.cut ∙ ap (λ (ls : List (List ℕ)). ended ls ++ s.rest) all_lines in
     let size = size_more s.lines t.line.line in
@@ -70,39 +71,38 @@ by_line kind gives before reader after given start stream cut gain end t is give
       cut = cut_more stream s.rest t.line.line t.line.behind s.lines cut_lines t.line.stream_is ∙ ap (λ (ls : List (List ℕ)). ended ls ++ t.line.behind) (sym nil);
       plain = subst HaveNoFeed (sym nil) (plain_more s.lines t.line.line (subst HaveNoFeed all_lines s.plain) t.line.plain);
       taken = ap (λ (r : Reader). r.taken) after_is ∙ at_lines ∙ omega (arith, size);
-      gives = subst (λ (k : SourceKind). Gives k after.paths start (s.lines ++ t.line.line ∷ []) (given ++ record { gain = gain; end = end } ∷ [])) (sym after_kind)
-          (subst (λ (p : List Category). Gives kind p start (s.lines ++ t.line.line ∷ []) (given ++ record { gain = gain; end = end } ∷ [])) (sym after_paths) new);
-      waits = subst (λ (k : SourceKind). Waits k after (given ++ record { gain = gain; end = end } ∷ []) start (s.lines ++ t.line.line ∷ []) []) (sym after_kind) (waits_new (refl, ready));
+      gives = subst (λ (k : SourceKind). Finds k start (s.lines ++ t.line.line ∷ []) (given ++ one ∷ [])) (sym after_kind) new;
+      waits = subst (λ (k : SourceKind). Waiting k after (given ++ one ∷ []) start (s.lines ++ t.line.line ∷ []) []) (sym after_kind) (waits_new (refl, ready));
       cutter = subst (λ (n : ℕ). cutting.HasCut after.cutter n t.line.behind) stands_at
           (subst (λ (k : cutting.Cutter). cutting.HasCut k (start + length (ended (s.lines ++ s.held)) + length t.line.line + 1) t.line.behind) (sym cutter) t.line.stands);
       limit = ap (λ (k : cutting.Cutter). k.limit) cutter ∙ t.line.limit ∙ s.limit ∙ ap limit_of (kinds ∙ sym after_kind);
       over = λ ended_is. absurd (goes_on before reader given start stream cut t (ap (λ (r : Reader). r.is_ended) (sym t.same) ∙ ap (λ (r : Reader). r.is_ended) (sym after_is) ∙ ended_is));
     }
 
-pub change_given : (before reader after : Reader) (given : List ReadRecord) (start : ℕ) (stream : List ℕ) (cut : Cut) (gain : Gain) (end : ℕ)
-    → (t : TakesCut before reader given start stream cut) → reader.kind ≡ Changes → ChangeGives reader.paths t.line.line gain
+pub change_given : (before reader after : Reader) (given : List Found) (start : ℕ) (stream : List ℕ) (cut : Cut) (raw : Raw) (end : ℕ)
+    → (t : TakesCut before reader given start stream cut) → reader.kind ≡ Changes → IsChangeRaw t.line.line end raw
     → end ≡ start + length (ended (t.stands.lines ++ t.stands.held)) + length t.line.line + 1 → after ≡ record reader { taken = end }
-    → HasPublished after (given ++ record { gain = gain; end = end } ∷ []) start stream
-change_given before reader after given start stream cut gain end t is one at after_is =
-    by_line Changes (ChangeGives reader.paths) before reader after given start stream cut gain end t is (λ g. g) (λ g. g) (λ w. w) (λ w. w) one at after_is
+    → HasFound after (given ++ found.Record raw ∷ []) start stream
+change_given before reader after given start stream cut raw end t is one at after_is =
+    by_line Changes IsChangeFound before reader after given start stream cut (found.Record raw) end t is (λ g. g) (λ g. g) (λ w. w) (λ w. w) (raw, one, refl) at after_is
 
-pub table_given : (before reader after : Reader) (given : List ReadRecord) (start : ℕ) (stream : List ℕ) (cut : Cut) (gain : Gain) (end : ℕ)
+pub table_given : (before reader after : Reader) (given : List Found) (start : ℕ) (stream : List ℕ) (cut : Cut) (gain : Gain) (end : ℕ)
     → (t : TakesCut before reader given start stream cut) → reader.kind ≡ Tables → TableGives t.line.line gain
     → end ≡ start + length (ended (t.stands.lines ++ t.stands.held)) + length t.line.line + 1 → after ≡ record reader { taken = end }
-    → HasPublished after (given ++ record { gain = gain; end = end } ∷ []) start stream
+    → HasFound after (given ++ found.Table (record { gain = gain; end = end }) ∷ []) start stream
 table_given before reader after given start stream cut gain end t is one at after_is =
-    by_line Tables TableGives before reader after given start stream cut gain end t is (λ g. g) (λ g. g) (λ w. w) (λ w. w) one at after_is
+    by_line Tables IsTableFound before reader after given start stream cut (found.Table (record { gain = gain; end = end })) end t is (λ g. g) (λ g. g) (λ w. w) (λ w. w) (gain, one, refl) at after_is
 
 not_ended : (flag : Bool) → (flag ≡ true → ⊥) → flag ≡ false
 not_ended true never = absurd (never refl)
 not_ended false never = refl
 
 -- what the gathering has of one more line
-gathered_more : (before reader after : Reader) (given : List ReadRecord) (start : ℕ) (stream : List ℕ) (line : List ℕ) (end : ℕ) (lines held : List (List ℕ))
+gathered_more : (before reader after : Reader) (given : List Found) (start : ℕ) (stream : List ℕ) (line : List ℕ) (end : ℕ) (lines held : List (List ℕ))
     → before.is_ended ≡ false → after.is_ended ≡ false → before.gathering ≡ reader.gathering → before.ready ≡ reader.ready
     → end ≡ start + length (ended (lines ++ held)) + length line + 1
     → gathered.Takes (record { line = line_in line; end = end }) reader.gathering after.gathering reader.ready after.ready
-    → AuditWaits before given start lines held → AuditWaits after given start lines (held ++ line ∷ [])
+    → AuditHolds IsFoundAs before given start lines held → AuditHolds IsFoundAs after given start lines (held ++ line ∷ [])
 gathered_more before reader after given start stream line end lines held open_is after_open gathering ready at takes waits =
     let stands_before : HasGathered false (waits.records ++ before.ready) start (lines ++ held) before.gathering = subst (λ (b : Bool). HasGathered b (waits.records ++ before.ready) start (lines ++ held) before.gathering) open_is waits.gathered in
     let stands_ready : gathered.HasGathered (waits.records ++ reader.ready) (items_of start (lines ++ held)) before.gathering = subst (λ (rs : List AuditRecord). gathered.HasGathered (waits.records ++ rs) (items_of start (lines ++ held)) before.gathering) ready stands_before in
@@ -122,22 +122,21 @@ gathered_more before reader after given start stream line end lines held open_is
     }
 
 -- one more line of an audit log was taken in
-pub line_gathered : (before reader after : Reader) (given : List ReadRecord) (start : ℕ) (stream : List ℕ) (cut : Cut) (end : ℕ)
+pub line_gathered : (before reader after : Reader) (given : List Found) (start : ℕ) (stream : List ℕ) (cut : Cut) (end : ℕ)
     → (t : TakesCut before reader given start stream cut) → reader.kind ≡ Audit
     → end ≡ start + length (ended (t.stands.lines ++ t.stands.held)) + length t.line.line + 1
     → gathered.Takes (record { line = line_in t.line.line; end = end }) reader.gathering after.gathering reader.ready after.ready
     → after ≡ record reader { gathering = after.gathering; ready = after.ready }
-    → HasPublished after given start stream
+    → HasFound after given start stream
 line_gathered before reader after given start stream cut end t is at takes after_is =
     let s = t.stands in
     let kinds : before.kind ≡ Audit = sym (ap (λ (r : Reader). r.kind) t.same) ∙ is in
     let after_kind : after.kind ≡ before.kind = ap (λ (r : Reader). r.kind) after_is ∙ ap (λ (r : Reader). r.kind) t.same in
-    let after_paths : after.paths ≡ before.paths = ap (λ (r : Reader). r.paths) after_is ∙ ap (λ (r : Reader). r.paths) t.same in
     let after_ended : after.is_ended ≡ before.is_ended = ap (λ (r : Reader). r.is_ended) after_is ∙ ap (λ (r : Reader). r.is_ended) t.same in
     let open_is : before.is_ended ≡ false = not_ended before.is_ended (goes_on before reader given start stream cut t) in
     let gathering : before.gathering ≡ reader.gathering = sym (ap (λ (r : Reader). r.gathering) t.same) in
     let ready : before.ready ≡ reader.ready = sym (ap (λ (r : Reader). r.ready) t.same) in
-    let waits : AuditWaits before given start s.lines s.held = subst (λ (k : SourceKind). Waits k before given start s.lines s.held) kinds s.waits in
+    let waits : AuditHolds IsFoundAs before given start s.lines s.held = subst (λ (k : SourceKind). Waiting k before given start s.lines s.held) kinds s.waits in
     let more = gathered_more before reader after given start stream t.line.line end s.lines s.held open_is (after_ended ∙ open_is) gathering ready at takes waits in
     let all : (s.lines ++ s.held) ++ t.line.line ∷ [] ≡ s.lines ++ (s.held ++ t.line.line ∷ []) = append_assoc s.lines s.held (t.line.line ∷ []) in
     let cutter : after.cutter ≡ reader.cutter = ap (λ (r : Reader). r.cutter) after_is in
@@ -150,8 +149,8 @@ line_gathered before reader after given start stream cut end t is at takes after
       cut = cut_more stream s.rest t.line.line t.line.behind (s.lines ++ s.held) s.cut t.line.stream_is ∙ ap (λ (ls : List (List ℕ)). ended ls ++ t.line.behind) all;
       plain = subst HaveNoFeed all (plain_more (s.lines ++ s.held) t.line.line s.plain t.line.plain);
       taken = ap (λ (r : Reader). r.taken) after_is ∙ ap (λ (r : Reader). r.taken) t.same ∙ s.taken;
-      gives = subst (λ (k : SourceKind). Gives k after.paths start s.lines given) (sym after_kind) (subst (λ (p : List Category). Gives before.kind p start s.lines given) (sym after_paths) s.gives);
-      waits = subst (λ (k : SourceKind). Waits k after given start s.lines (s.held ++ t.line.line ∷ [])) (sym (after_kind ∙ kinds)) more;
+      gives = subst (λ (k : SourceKind). Finds k start s.lines given) (sym after_kind) s.gives;
+      waits = subst (λ (k : SourceKind). Waiting k after given start s.lines (s.held ++ t.line.line ∷ [])) (sym (after_kind ∙ kinds)) more;
       cutter = subst (λ (n : ℕ). cutting.HasCut after.cutter n t.line.behind) stands_at
           (subst (λ (k : cutting.Cutter). cutting.HasCut k (start + length (ended (s.lines ++ s.held)) + length t.line.line + 1) t.line.behind) (sym cutter) t.line.stands);
       limit = ap (λ (k : cutting.Cutter). k.limit) cutter ∙ t.line.limit ∙ s.limit ∙ ap limit_of (sym after_kind);
@@ -196,17 +195,17 @@ no_record : (made : AuditRecord) (rest : List AuditRecord) → made ∷ rest ≡
 no_record made rest e = let same = e in cc
 
 -- a record that was whole is given
-pub popped : (before after : Reader) (given : List ReadRecord) (start : ℕ) (stream : List ℕ) (made : AuditRecord) (piece : ReadRecord) (rest : List AuditRecord)
-    → HasPublished before given start stream → before.ready ≡ made ∷ rest → IsPieceOf made piece → after ≡ record before { taken = made.end; ready = rest }
-    → HasPublished after (given ++ piece ∷ []) start stream
+pub popped : (before after : Reader) (given : List Found) (start : ℕ) (stream : List ℕ) (made : AuditRecord) (piece : Found) (rest : List AuditRecord)
+    → HasFound before given start stream → before.ready ≡ made ∷ rest → IsFoundAs made piece → after ≡ record before { taken = made.end; ready = rest }
+    → HasFound after (given ++ piece ∷ []) start stream
 popped before after given start stream made piece rest s ready is after_is = by_kind before.kind refl s.waits where
-  by_kind : (kind : SourceKind) → before.kind ≡ kind → Waits kind before given start s.lines s.held → HasPublished after (given ++ piece ∷ []) start stream
+  by_kind : (kind : SourceKind) → before.kind ≡ kind → Waiting kind before given start s.lines s.held → HasFound after (given ++ piece ∷ []) start stream
   by_kind Changes kind waits = absurd (no_record made rest (sym ready ∙ waits.1))
   by_kind Tables kind waits = absurd (no_record made rest (sym ready ∙ waits.1))
   by_kind Audit kind waits =
       let known = known_front before.is_ended (waits.records ++ before.ready) start (s.lines ++ s.held) before.gathering waits.gathered in
       let more = one_more start (s.lines ++ s.held) waits.records rest made (subst (λ (rs : List AuditRecord). KnownFront start (s.lines ++ s.held) (waits.records ++ rs)) ready known) in
-      let each = zip_more IsPieceOf waits.records given made piece waits.each is in
+      let each = zip_more IsFoundAs waits.records given made piece waits.each is in
       let after_kind : after.kind ≡ before.kind = ap (λ (r : Reader). r.kind) after_is in
       let after_ready : after.ready ≡ rest = ap (λ (r : Reader). r.ready) after_is in
       let after_ended : after.is_ended ≡ before.is_ended = ap (λ (r : Reader). r.is_ended) after_is in
@@ -219,7 +218,7 @@ popped before after given start stream made piece rest s ready is after_is = by_
       (subst (λ (g : Gathering). HasGathered before.is_ended ((waits.records ++ made ∷ []) ++ after.ready) start (more.front ++ more.back) g) (sym after_gathering)
       (subst (λ (ls : List (List ℕ)). HasGathered before.is_ended ((waits.records ++ made ∷ []) ++ after.ready) start ls before.gathering) (sym more.joined)
       (subst (λ (rs : List AuditRecord). HasGathered before.is_ended rs start (s.lines ++ s.held) before.gathering) records waits.gathered))) in
-      let new_waits : AuditWaits after (given ++ piece ∷ []) start more.front more.back = record { records = waits.records ++ made ∷ []; are = more.are; each = each; gathered = all_gathered } in
+      let new_waits : AuditHolds IsFoundAs after (given ++ piece ∷ []) start more.front more.back = record { records = waits.records ++ made ∷ []; are = more.are; each = each; gathered = all_gathered } in
       record {
         lines = more.front;
         held = more.back;
@@ -227,8 +226,8 @@ popped before after given start stream made piece rest s ready is after_is = by_
         cut = s.cut ∙ ap (λ (ls : List (List ℕ)). ended ls ++ s.rest) (sym more.joined);
         plain = subst HaveNoFeed (sym more.joined) s.plain;
         taken = ap (λ (r : Reader). r.taken) after_is ∙ more.end;
-        gives = subst (λ (k : SourceKind). Gives k after.paths start more.front (given ++ piece ∷ [])) (sym (after_kind ∙ kind)) (record { records = waits.records ++ made ∷ []; are = more.are; each = each });
-        waits = subst (λ (k : SourceKind). Waits k after (given ++ piece ∷ []) start more.front more.back) (sym (after_kind ∙ kind)) new_waits;
+        gives = subst (λ (k : SourceKind). Finds k start more.front (given ++ piece ∷ [])) (sym (after_kind ∙ kind)) (record { records = waits.records ++ made ∷ []; are = more.are; each = each });
+        waits = subst (λ (k : SourceKind). Waiting k after (given ++ piece ∷ []) start more.front more.back) (sym (after_kind ∙ kind)) new_waits;
         cutter = subst (λ (k : cutting.Cutter). cutting.HasCut k (start + length (ended (more.front ++ more.back))) s.rest) (sym after_cutter)
             (subst (λ (ls : List (List ℕ)). cutting.HasCut before.cutter (start + length (ended ls)) s.rest) (sym more.joined) s.cutter);
         limit = ap (λ (k : cutting.Cutter). k.limit) after_cutter ∙ s.limit ∙ ap limit_of (sym after_kind);
@@ -279,9 +278,9 @@ one_grows start lines held records made are more =
     more_bytes lines held more.front more.back (sym more.joined) (omega (arith, few, some, all, count))
 
 -- a record that is given ends behind those before it
-pub popped_grows : (before : Reader) (given : List ReadRecord) (start : ℕ) (stream : List ℕ) (made : AuditRecord) (rest : List AuditRecord) → HasPublished before given start stream → before.ready ≡ made ∷ rest → before.taken < made.end
+pub popped_grows : (before : Reader) (given : List Found) (start : ℕ) (stream : List ℕ) (made : AuditRecord) (rest : List AuditRecord) → HasFound before given start stream → before.ready ≡ made ∷ rest → before.taken < made.end
 popped_grows before given start stream made rest s ready = by_kind before.kind s.waits where
-  by_kind : (kind : SourceKind) → Waits kind before given start s.lines s.held → before.taken < made.end
+  by_kind : (kind : SourceKind) → Waiting kind before given start s.lines s.held → before.taken < made.end
   by_kind Changes waits = absurd (no_record made rest (sym ready ∙ waits.1))
   by_kind Tables waits = absurd (no_record made rest (sym ready ∙ waits.1))
   by_kind Audit waits =
@@ -293,9 +292,9 @@ popped_grows before given start stream made rest s ready = by_kind before.kind s
       omega (arith, less, taken, end)
 
 -- no line is left
-pub dry : (reader : Reader) (given : List ReadRecord) (start : ℕ) (stream : List ℕ) → (s : HasPublished reader given start stream) → reader.ready ≡ [] → HasNoFeed s.rest → IsDry reader given start stream
+pub dry : (reader : Reader) (given : List Found) (start : ℕ) (stream : List ℕ) → (s : HasFound reader given start stream) → reader.ready ≡ [] → HasNoFeed s.rest → IsDrained reader given start stream
 dry reader given start stream s ready plain = record { stands = s; none = ready; dry = plain; last = by_last reader.kind refl s.waits; all = λ is_ended. by_kind reader.kind refl s.waits is_ended } where
-  by_kind : (kind : SourceKind) → reader.kind ≡ kind → Waits kind reader given start s.lines s.held → reader.is_ended ≡ true → s.held ≡ []
+  by_kind : (kind : SourceKind) → reader.kind ≡ kind → Waiting kind reader given start s.lines s.held → reader.is_ended ≡ true → s.held ≡ []
   by_kind Changes kind waits is_ended = waits.0
   by_kind Tables kind waits is_ended = waits.0
   by_kind Audit kind waits is_ended =
@@ -303,12 +302,12 @@ dry reader given start stream s ready plain = record { stands = s; none = ready;
       let records : waits.records ++ reader.ready ≡ waits.records = ap (λ (rs : List AuditRecord). waits.records ++ rs) ready ∙ append-nil waits.records in
       none_more start s.lines s.held waits.records waits.are (subst (λ (rs : List AuditRecord). AreRecordsOf (items_of start (s.lines ++ s.held)) rs) records all)
 
-  by_flag : (flag : Bool) → (waits : AuditWaits reader given start s.lines s.held) → reader.kind ≡ Audit → HasGathered flag waits.records start (s.lines ++ s.held) reader.gathering
+  by_flag : (flag : Bool) → (waits : AuditHolds IsFoundAs reader given start s.lines s.held) → reader.kind ≡ Audit → HasGathered flag waits.records start (s.lines ++ s.held) reader.gathering
       → groups_of (lines_in (items_of start (s.lines ++ s.held))) ≡ groups_in waits.records ++ whole (lines_in (items_of (start + length (ended s.lines)) s.held))
   by_flag true waits kind all = ended_last start s.lines s.held waits.records waits.are (none_more start s.lines s.held waits.records waits.are all)
   by_flag false waits kind stands = held_last start s.lines s.held waits.records reader.gathering waits.are stands
 
-  by_last : (kind : SourceKind) → reader.kind ≡ kind → Waits kind reader given start s.lines s.held → HoldsLast reader.kind start s.lines s.held
+  by_last : (kind : SourceKind) → reader.kind ≡ kind → Waiting kind reader given start s.lines s.held → HoldsLast reader.kind start s.lines s.held
   by_last Changes kind waits = subst (λ (k : SourceKind). HoldsLast k start s.lines s.held) (sym kind) waits.0
   by_last Tables kind waits = subst (λ (k : SourceKind). HoldsLast k start s.lines s.held) (sym kind) waits.0
   by_last Audit kind waits =
@@ -327,15 +326,14 @@ same_reader reader cutter ready cutter_is ready_is =
     ap (λ (k : cutting.Cutter). record reader { cutter = k; ready = ready }) cutter_is ∙ ap (λ (rs : List AuditRecord). record reader { ready = rs }) ready_is
 
 -- more of the source was read
-pub fed : (before after : Reader) (given : List ReadRecord) (start : ℕ) (stream fresh : List ℕ)
-    → (d : IsDry before given start stream) → before.is_ended ≡ false
+pub fed : (before after : Reader) (given : List Found) (start : ℕ) (stream fresh : List ℕ)
+    → (d : IsDrained before given start stream) → before.is_ended ≡ false
     → cutting.HasCut after.cutter (start + length (ended (d.stands.lines ++ d.stands.held))) (d.stands.rest ++ fresh) → after.cutter.limit ≡ before.cutter.limit
     → after ≡ record before { cutter = after.cutter }
-    → HasPublished after given start (stream ++ fresh)
+    → HasFound after given start (stream ++ fresh)
 fed before after given start stream fresh d open_is cutter limit after_is =
     let s = d.stands in
     let kind : after.kind ≡ before.kind = ap (λ (r : Reader). r.kind) after_is in
-    let paths : after.paths ≡ before.paths = ap (λ (r : Reader). r.paths) after_is in
     let is_ended : after.is_ended ≡ before.is_ended = ap (λ (r : Reader). r.is_ended) after_is in
     let gathering : after.gathering ≡ before.gathering = ap (λ (r : Reader). r.gathering) after_is in
     let ready : after.ready ≡ before.ready = ap (λ (r : Reader). r.ready) after_is in
@@ -346,17 +344,17 @@ fed before after given start stream fresh d open_is cutter limit after_is =
       cut = ap (λ (l : List ℕ). l ++ fresh) s.cut ∙ append_assoc (ended (s.lines ++ s.held)) s.rest fresh;
       plain = s.plain;
       taken = ap (λ (r : Reader). r.taken) after_is ∙ s.taken;
-      gives = subst (λ (k : SourceKind). Gives k after.paths start s.lines given) (sym kind) (subst (λ (p : List Category). Gives before.kind p start s.lines given) (sym paths) s.gives);
+      gives = subst (λ (k : SourceKind). Finds k start s.lines given) (sym kind) s.gives;
       waits = same_waits before after given start s.lines s.held kind is_ended gathering ready s.waits;
       cutter = cutter;
       limit = limit ∙ s.limit ∙ ap limit_of (sym kind);
       over = λ over. absurd (true≢false (sym over ∙ is_ended ∙ open_is));
     }
   where
-    same_waits : (before after : Reader) (given : List ReadRecord) (start : ℕ) (lines held : List (List ℕ)) → after.kind ≡ before.kind → after.is_ended ≡ before.is_ended → after.gathering ≡ before.gathering → after.ready ≡ before.ready
-        → Waits before.kind before given start lines held → Waits after.kind after given start lines held
-    same_waits before after given start lines held kind is_ended gathering ready waits = subst (λ (k : SourceKind). Waits k after given start lines held) (sym kind) (by_kind before.kind waits) where
-      by_kind : (k : SourceKind) → Waits k before given start lines held → Waits k after given start lines held
+    same_waits : (before after : Reader) (given : List Found) (start : ℕ) (lines held : List (List ℕ)) → after.kind ≡ before.kind → after.is_ended ≡ before.is_ended → after.gathering ≡ before.gathering → after.ready ≡ before.ready
+        → Waiting before.kind before given start lines held → Waiting after.kind after given start lines held
+    same_waits before after given start lines held kind is_ended gathering ready waits = subst (λ (k : SourceKind). Waiting k after given start lines held) (sym kind) (by_kind before.kind waits) where
+      by_kind : (k : SourceKind) → Waiting k before given start lines held → Waiting k after given start lines held
       by_kind Changes waits = (waits.0, ready ∙ waits.1)
       by_kind Tables waits = (waits.0, ready ∙ waits.1)
       by_kind Audit waits = record {
@@ -370,11 +368,11 @@ fed before after given start stream fresh d open_is cutter limit after_is =
       }
 
 -- the source is at its end: what of it waits is taken as whole
-pub ended_as : (before after : Reader) (given : List ReadRecord) (start : ℕ) (stream : List ℕ)
-    → (d : IsDry before given start stream) → after.kind ≡ before.kind → after.paths ≡ before.paths → after.taken ≡ before.taken → after.cutter ≡ before.cutter
-    → Waits after.kind after given start d.stands.lines d.stands.held
-    → HasPublished after given start stream
-ended_as before after given start stream d kind paths taken cutter waits =
+pub ended_as : (before after : Reader) (given : List Found) (start : ℕ) (stream : List ℕ)
+    → (d : IsDrained before given start stream) → after.kind ≡ before.kind → after.taken ≡ before.taken → after.cutter ≡ before.cutter
+    → Waiting after.kind after given start d.stands.lines d.stands.held
+    → HasFound after given start stream
+ended_as before after given start stream d kind taken cutter waits =
     let s = d.stands in
     record {
       lines = s.lines;
@@ -383,7 +381,7 @@ ended_as before after given start stream d kind paths taken cutter waits =
       cut = s.cut;
       plain = s.plain;
       taken = taken ∙ s.taken;
-      gives = subst (λ (k : SourceKind). Gives k after.paths start s.lines given) (sym kind) (subst (λ (p : List Category). Gives before.kind p start s.lines given) (sym paths) s.gives);
+      gives = subst (λ (k : SourceKind). Finds k start s.lines given) (sym kind) s.gives;
       waits = waits;
       cutter = subst (λ (k : cutting.Cutter). cutting.HasCut k (start + length (ended (s.lines ++ s.held))) s.rest) (sym cutter) s.cutter;
       limit = ap (λ (k : cutting.Cutter). k.limit) cutter ∙ s.limit ∙ ap limit_of (sym kind);
@@ -391,55 +389,55 @@ ended_as before after given start stream d kind paths taken cutter waits =
     }
 
 -- of changes and tables nothing waits
-pub ended_by_lines : (kind : SourceKind) → (before after : Reader) (given : List ReadRecord) (start : ℕ) (stream : List ℕ)
-    → (d : IsDry before given start stream) → before.kind ≡ kind → (kind ≡ Changes) ⊎ (kind ≡ Tables) → after ≡ record before { is_ended = true }
-    → HasPublished after given start stream
+pub ended_by_lines : (kind : SourceKind) → (before after : Reader) (given : List Found) (start : ℕ) (stream : List ℕ)
+    → (d : IsDrained before given start stream) → before.kind ≡ kind → (kind ≡ Changes) ⊎ (kind ≡ Tables) → after ≡ record before { is_ended = true }
+    → HasFound after given start stream
 ended_by_lines Audit before after given start stream d kind line after_is = absurd (no_line line) where
   no_line : (Audit ≡ Changes) ⊎ (Audit ≡ Tables) → ⊥
   no_line (inl e) = let same = e in cc
   no_line (inr e) = let same = e in cc
 ended_by_lines Changes before after given start stream d kind line after_is =
     let s = d.stands in
-    let waits : NoneWaits before s.held = subst (λ (k : SourceKind). Waits k before given start s.lines s.held) kind s.waits in
+    let waits : NoneWaits before s.held = subst (λ (k : SourceKind). Waiting k before given start s.lines s.held) kind s.waits in
     let after_kind : after.kind ≡ before.kind = ap (λ (r : Reader). r.kind) after_is in
     let ready : after.ready ≡ before.ready = ap (λ (r : Reader). r.ready) after_is in
-    ended_as before after given start stream d after_kind (ap (λ (r : Reader). r.paths) after_is) (ap (λ (r : Reader). r.taken) after_is) (ap (λ (r : Reader). r.cutter) after_is)
-    (subst (λ (k : SourceKind). Waits k after given start s.lines s.held) (sym (after_kind ∙ kind)) (waits.0, ready ∙ waits.1))
+    ended_as before after given start stream d after_kind (ap (λ (r : Reader). r.taken) after_is) (ap (λ (r : Reader). r.cutter) after_is)
+    (subst (λ (k : SourceKind). Waiting k after given start s.lines s.held) (sym (after_kind ∙ kind)) (waits.0, ready ∙ waits.1))
 ended_by_lines Tables before after given start stream d kind line after_is =
     let s = d.stands in
-    let waits : NoneWaits before s.held = subst (λ (k : SourceKind). Waits k before given start s.lines s.held) kind s.waits in
+    let waits : NoneWaits before s.held = subst (λ (k : SourceKind). Waiting k before given start s.lines s.held) kind s.waits in
     let after_kind : after.kind ≡ before.kind = ap (λ (r : Reader). r.kind) after_is in
     let ready : after.ready ≡ before.ready = ap (λ (r : Reader). r.ready) after_is in
-    ended_as before after given start stream d after_kind (ap (λ (r : Reader). r.paths) after_is) (ap (λ (r : Reader). r.taken) after_is) (ap (λ (r : Reader). r.cutter) after_is)
-    (subst (λ (k : SourceKind). Waits k after given start s.lines s.held) (sym (after_kind ∙ kind)) (waits.0, ready ∙ waits.1))
+    ended_as before after given start stream d after_kind (ap (λ (r : Reader). r.taken) after_is) (ap (λ (r : Reader). r.cutter) after_is)
+    (subst (λ (k : SourceKind). Waiting k after given start s.lines s.held) (sym (after_kind ∙ kind)) (waits.0, ready ∙ waits.1))
 
 -- of an audit log the gathering gives what it holds
-pub ended_audit : (before after : Reader) (given : List ReadRecord) (start : ℕ) (stream : List ℕ)
-    → (d : IsDry before given start stream) → before.kind ≡ Audit → before.is_ended ≡ false
+pub ended_audit : (before after : Reader) (given : List Found) (start : ℕ) (stream : List ℕ)
+    → (d : IsDrained before given start stream) → before.kind ≡ Audit → before.is_ended ≡ false
     → gathered.Finishes before.gathering after.gathering before.ready after.ready
     → after ≡ record before { gathering = after.gathering; ready = after.ready; is_ended = true }
-    → HasPublished after given start stream
+    → HasFound after given start stream
 ended_audit before after given start stream d kind open_is finishes after_is =
     let s = d.stands in
-    let waits : AuditWaits before given start s.lines s.held = subst (λ (k : SourceKind). Waits k before given start s.lines s.held) kind s.waits in
+    let waits : AuditHolds IsFoundAs before given start s.lines s.held = subst (λ (k : SourceKind). Waiting k before given start s.lines s.held) kind s.waits in
     let stands : gathered.HasGathered (waits.records ++ before.ready) (items_of start (s.lines ++ s.held)) before.gathering = subst (λ (b : Bool). HasGathered b (waits.records ++ before.ready) start (s.lines ++ s.held) before.gathering) open_is waits.gathered in
     let gains = finishes (waits.records ++ before.ready) (items_of start (s.lines ++ s.held)) stands in
     let records : (waits.records ++ before.ready) ++ gains.0 ≡ waits.records ++ after.ready = append_assoc waits.records before.ready gains.0 ∙ ap (λ (rs : List AuditRecord). waits.records ++ rs) (sym gains.1.0) in
     let all : AreRecordsOf (items_of start (s.lines ++ s.held)) (waits.records ++ after.ready) = subst (AreRecordsOf (items_of start (s.lines ++ s.held))) records gains.1.1.0 in
     let after_kind : after.kind ≡ before.kind = ap (λ (r : Reader). r.kind) after_is in
     let after_ended : after.is_ended ≡ true = ap (λ (r : Reader). r.is_ended) after_is in
-    let new : AuditWaits after given start s.lines s.held = record {
+    let new : AuditHolds IsFoundAs after given start s.lines s.held = record {
       records = waits.records;
       are = waits.are;
       each = waits.each;
       gathered = subst (λ (b : Bool). HasGathered b (waits.records ++ after.ready) start (s.lines ++ s.held) after.gathering) (sym after_ended) all;
     } in
-    ended_as before after given start stream d after_kind (ap (λ (r : Reader). r.paths) after_is) (ap (λ (r : Reader). r.taken) after_is) (ap (λ (r : Reader). r.cutter) after_is)
-    (subst (λ (k : SourceKind). Waits k after given start s.lines s.held) (sym (after_kind ∙ kind)) new)
+    ended_as before after given start stream d after_kind (ap (λ (r : Reader). r.taken) after_is) (ap (λ (r : Reader). r.cutter) after_is)
+    (subst (λ (k : SourceKind). Waiting k after given start s.lines s.held) (sym (after_kind ∙ kind)) new)
 
 -- nothing was read yet
 pub nothing_read : (reader : Reader) → cutting.HasCut reader.cutter reader.taken [] → reader.cutter.limit ≡ limit_of reader.kind → gathered.HasGathered [] [] reader.gathering → reader.ready ≡ [] → reader.is_ended ≡ false
-    → HasPublished reader [] reader.taken []
+    → HasFound reader [] reader.taken []
 nothing_read reader cutter limit gathering ready open_is = record {
   lines = [];
   held = [];
@@ -454,12 +452,12 @@ nothing_read reader cutter limit gathering ready open_is = record {
   over = λ over. tt;
 }
   where
-    by_gives : (kind : SourceKind) → Gives kind reader.paths reader.taken [] []
+    by_gives : (kind : SourceKind) → Finds kind reader.taken [] []
     by_gives Audit = record { records = []; are = records_none; each = tt }
     by_gives Changes = tt
     by_gives Tables = tt
 
-    by_waits : (kind : SourceKind) → Waits kind reader [] reader.taken [] []
+    by_waits : (kind : SourceKind) → Waiting kind reader [] reader.taken [] []
     by_waits Audit = record {
       records = [];
       are = records_none;
@@ -475,28 +473,7 @@ both_true true b is = (refl, is)
 both_true false b is = absurd (true≢false (sym is))
 
 -- at the end no line is left
-pub over_dry : (reader : Reader) (given : List ReadRecord) (start : ℕ) (stream : List ℕ) → is_at_end reader ≡ true → HasPublished reader given start stream → IsDry reader given start stream
-over_dry reader given start stream over s =
+pub over_drained : (reader : Reader) (given : List Found) (start : ℕ) (stream : List ℕ) → is_at_end reader ≡ true → HasFound reader given start stream → IsDrained reader given start stream
+over_drained reader given start stream over s =
     let both = both_true reader.is_ended (length reader.ready == 0) over in
     dry reader given start stream s (nil_from_length reader.ready (eqb-true (length reader.ready) 0 both.1)) (s.over both.0)
-
--- whether a publisher has begun says nothing of what it has read
-pub begins : (before after : Reader) (given : List ReadRecord) (start : ℕ) (stream : List ℕ) → after ≡ record before { is_begun = after.is_begun } → HasPublished before given start stream → HasPublished after given start stream
-begins before after given start stream is s = subst (λ (r : Reader). HasPublished r given start stream) (sym is) (record {
-  lines = s.lines;
-  held = s.held;
-  rest = s.rest;
-  cut = s.cut;
-  plain = s.plain;
-  taken = s.taken;
-  gives = s.gives;
-  waits = by_kind before.kind s.waits;
-  cutter = s.cutter;
-  limit = s.limit;
-  over = s.over;
-})
-  where
-    by_kind : (kind : SourceKind) → Waits kind before given start s.lines s.held → Waits kind (record before { is_begun = after.is_begun }) given start s.lines s.held
-    by_kind Audit waits = record { records = waits.records; are = waits.are; each = waits.each; gathered = waits.gathered }
-    by_kind Changes waits = waits
-    by_kind Tables waits = waits

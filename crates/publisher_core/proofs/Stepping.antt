@@ -1,39 +1,45 @@
 -- How the records of a step add up.
-use Rattle.std.proofs.Common.{◌≡◌, ◌⊎◌, inl, inr, ℕ, ◌+◌, ◌-◌, ◌<◌, ◌≤◌, Bool, true, false, zero, suc, List, [], ◌∷◌, ◌++◌, length, refl, sym, ap, subst, ◌∙◌, arith, append_assoc, length-append, slice_get, Some}
+use Rattle.std.proofs.Common.{◌≡◌, ◌⊎◌, inl, inr, ℕ, ◌+◌, ◌-◌, ◌<◌, ◌≤◌, Bool, true, false, zero, suc, List, [], ◌∷◌, ◌++◌, length, refl, sym, ap, subst, ◌∙◌, arith, append_assoc, length-append, slice_get, Some, None}
 use Rattle.std.proofs.lemmas.List.{append-nil}
 use Rattle.std.proofs.lemmas.Bool.{true≢false}
 use Rattle.osq_value.specs.declared.reading.Reading.{Reading}
+use Rattle.publisher_core.specs.declared.record.Found.{Found}
 use Rattle.publisher_core.specs.declared.record.ReadRecord.{ReadRecord}
 use Rattle.osq_value.specs.declared.source.SourceKind.{SourceKind}
 use Rattle.osq_value.specs.declared.source.SourceKind.TheVariants.{Audit, Changes, Tables}
 use Rattle.publisher_core.specs.Readings.{joined, readings_of}
-use Rattle.publisher_core.specs.Standing.{Reader, HasPublished}
+use Rattle.publisher_core.specs.Standing.{Reader, HasFound}
 use Rattle.record_lines.specs.Limits.{STEP_BYTES}
-use Rattle.publisher_core.specs.Stepping.{GrowsBy, IsDry, SameSource, Reads, UnderWay, Steps}
+use Rattle.publisher_core.specs.Stepping.{FindsNext, GrowsBy, IsDrained, SameSource, Reads, UnderWay, StepFinds}
 
 -- before the first record
-pub begun : (tells : Type 0) (left : List ℕ) (reader : Reader) (given : List ReadRecord) (start : ℕ) (stream : List ℕ) → HasPublished reader given start stream → UnderWay tells left left reader given start stream [] 0
+pub begun : (tells : Type 0) (left : List ℕ) (reader : Reader) (given : List Found) (start : ℕ) (stream : List ℕ) → HasFound reader given start stream → UnderWay tells left left reader given start stream [] 0
 begun tells left reader given start stream s = record {
   fresh = [];
   size = refl;
   left = λ told. refl;
-  stands = subst (λ (ps : List ReadRecord). HasPublished reader ps start (stream ++ [])) (sym (append-nil given)) (subst (λ (bs : List ℕ). HasPublished reader given start bs) (sym (append-nil stream)) s);
+  stands = subst (λ (ps : List Found). HasFound reader ps start (stream ++ [])) (sym (append-nil given)) (subst (λ (bs : List ℕ). HasFound reader given start bs) (sym (append-nil stream)) s);
 }
 
-pub more_given : (tells : Type 0) (before after : List ℕ) (old new : Reader) (given : List ReadRecord) (start : ℕ) (stream : List ℕ) (pieces : List ReadRecord) (piece : ReadRecord) (read : ℕ)
-    → (w : UnderWay tells before after old given start stream pieces read) → HasPublished new ((given ++ pieces) ++ piece ∷ []) start (stream ++ w.fresh)
-    → UnderWay tells before after new given start stream (pieces ++ piece ∷ []) read
-more_given tells before after old new given start stream pieces piece read w s = record {
-  fresh = w.fresh;
-  size = w.size;
-  left = w.left;
-  stands = subst (λ (ps : List ReadRecord). HasPublished new ps start (stream ++ w.fresh)) (append_assoc given pieces (piece ∷ [])) s;
+-- some of the source was read, and nothing found since
+pub record ReadsOn (tells : Type 0) (before after : List ℕ) (reader : Reader) (given : List Found) (start : ℕ) (stream : List ℕ) (had has : ℕ) : Type 0 where
+  pub fresh : List ℕ
+  pub size : had + length fresh ≡ has
+  pub left : tells → before ≡ fresh ++ after
+  pub stands : HasFound reader given start (stream ++ fresh)
+
+pub reads_none : (tells : Type 0) (left : List ℕ) (reader : Reader) (given : List Found) (start : ℕ) (stream : List ℕ) (read : ℕ) → HasFound reader given start stream → ReadsOn tells left left reader given start stream read read
+reads_none tells left reader given start stream read s = record {
+  fresh = [];
+  size = omega arith;
+  left = λ told. refl;
+  stands = subst (λ (bs : List ℕ). HasFound reader given start bs) (sym (append-nil stream)) s;
 }
 
-pub more_read : (tells : Type 0) (before between after : List ℕ) (old new : Reader) (given : List ReadRecord) (start : ℕ) (stream : List ℕ) (pieces : List ReadRecord) (read count : ℕ)
-    → (w : UnderWay tells before between old given start stream pieces read) → Reads tells between after new (given ++ pieces) start (stream ++ w.fresh) count
-    → UnderWay tells before after new given start stream pieces (read + count)
-more_read tells before between after old new given start stream pieces read count w r =
+pub reads_on : (tells : Type 0) (before between after : List ℕ) (old new : Reader) (given : List Found) (start : ℕ) (stream : List ℕ) (had has count : ℕ)
+    → (w : ReadsOn tells before between old given start stream had has) → Reads tells between after new given start (stream ++ w.fresh) count
+    → ReadsOn tells before after new given start stream had (has + count)
+reads_on tells before between after old new given start stream had has count w r =
     let size = length-append w.fresh r.fresh in
     let first = w.size in
     let second = r.size in
@@ -41,28 +47,58 @@ more_read tells before between after old new given start stream pieces read coun
       fresh = w.fresh ++ r.fresh;
       size = omega (arith, size, first, second);
       left = λ told. w.left told ∙ ap (λ (l : List ℕ). w.fresh ++ l) (r.left told) ∙ sym (append_assoc w.fresh r.fresh after);
-      stands = subst (λ (bs : List ℕ). HasPublished new (given ++ pieces) start bs) (append_assoc stream w.fresh r.fresh) r.stands;
+      stands = subst (λ (bs : List ℕ). HasFound new given start bs) (append_assoc stream w.fresh r.fresh) r.stands;
     }
 
-pub dry_steps : (tells : Type 0) (before after : List ℕ) (old new : Reader) (given : List ReadRecord) (start : ℕ) (stream : List ℕ) (pieces : List ReadRecord) (read most : ℕ)
-    → (w : UnderWay tells before after old given start stream pieces read) → IsDry new (given ++ pieces) start (stream ++ w.fresh) → length pieces ≤ most
-    → (new.is_ended ≡ true) ⊎ (STEP_BYTES ≤ read)
-    → Steps tells before after new given start stream pieces most
-dry_steps tells before after old new given start stream pieces read most w d few why = record {
-  fresh = w.fresh;
-  left = w.left;
-  stands = d.stands;
-  count = few;
-  full = inr (d, by_why why);
-}
-  where
-    by_why : (new.is_ended ≡ true) ⊎ (STEP_BYTES ≤ read) → (new.is_ended ≡ true) ⊎ (STEP_BYTES ≤ length w.fresh)
-    by_why (inl over) = inl over
-    by_why (inr enough) = let size = w.size in inr (omega (arith, enough, size))
+pub one_next : (tells : Type 0) (before after : List ℕ) (old new : Reader) (given : List Found) (start : ℕ) (stream : List ℕ) (had has : ℕ) (one : Found)
+    → (w : ReadsOn tells before after old given start stream had has) → HasFound new (given ++ one ∷ []) start (stream ++ w.fresh)
+    → FindsNext tells before after new given start stream had has (Some one)
+one_next tells before after old new given start stream had has one w s = record { fresh = w.fresh; size = w.size; left = w.left; found = s }
 
-pub full_steps : (tells : Type 0) (before after : List ℕ) (reader : Reader) (given : List ReadRecord) (start : ℕ) (stream : List ℕ) (pieces : List ReadRecord) (read most : ℕ)
+pub none_next : (tells : Type 0) (before after : List ℕ) (old new : Reader) (given : List Found) (start : ℕ) (stream : List ℕ) (had has : ℕ)
+    → (w : ReadsOn tells before after old given start stream had has) → IsDrained new given start (stream ++ w.fresh) → (new.is_ended ≡ true) ⊎ (STEP_BYTES ≤ has)
+    → FindsNext tells before after new given start stream had has None
+none_next tells before after old new given start stream had has w d why = record { fresh = w.fresh; size = w.size; left = w.left; found = (d, why) }
+
+pub more_found : (tells : Type 0) (before between after : List ℕ) (old new : Reader) (given : List Found) (start : ℕ) (stream : List ℕ) (many : List Found) (one : Found) (had has : ℕ)
+    → (w : UnderWay tells before between old given start stream many had) → FindsNext tells between after new (given ++ many) start (stream ++ w.fresh) had has (Some one)
+    → UnderWay tells before after new given start stream (many ++ one ∷ []) has
+more_found tells before between after old new given start stream many one had has w n =
+    let size = length-append w.fresh n.fresh in
+    let first = w.size in
+    let second = n.size in
+    record {
+      fresh = w.fresh ++ n.fresh;
+      size = omega (arith, size, first, second);
+      left = λ told. w.left told ∙ ap (λ (l : List ℕ). w.fresh ++ l) (n.left told) ∙ sym (append_assoc w.fresh n.fresh after);
+      stands = subst (λ (bs : List ℕ). HasFound new (given ++ (many ++ one ∷ [])) start bs) (append_assoc stream w.fresh n.fresh)
+          (subst (λ (all : List Found). HasFound new all start ((stream ++ w.fresh) ++ n.fresh)) (append_assoc given many (one ∷ [])) n.found);
+    }
+
+pub dry_steps : (tells : Type 0) (before between after : List ℕ) (old new : Reader) (given : List Found) (start : ℕ) (stream : List ℕ) (many : List Found) (had has most : ℕ)
+    → (w : UnderWay tells before between old given start stream many had) → FindsNext tells between after new (given ++ many) start (stream ++ w.fresh) had has None → length many ≤ most
+    → StepFinds tells before after new given start stream many most
+dry_steps tells before between after old new given start stream many had has most w n few =
+    let size = length-append w.fresh n.fresh in
+    let first = w.size in
+    let second = n.size in
+    let long : length (w.fresh ++ n.fresh) ≡ has = omega (arith, size, first, second) in
+    let d = subst (λ (bs : List ℕ). IsDrained new (given ++ many) start bs) (append_assoc stream w.fresh n.fresh) n.found.0 in
+    record {
+      fresh = w.fresh ++ n.fresh;
+      left = λ told. w.left told ∙ ap (λ (l : List ℕ). w.fresh ++ l) (n.left told) ∙ sym (append_assoc w.fresh n.fresh after);
+      stands = d.stands;
+      count = few;
+      full = inr (d, by_why long n.found.1);
+    }
+  where
+    by_why : length (w.fresh ++ n.fresh) ≡ has → (new.is_ended ≡ true) ⊎ (STEP_BYTES ≤ has) → (new.is_ended ≡ true) ⊎ (STEP_BYTES ≤ length (w.fresh ++ n.fresh))
+    by_why long (inl over) = inl over
+    by_why long (inr enough) = inr (omega (arith, enough, long))
+
+pub full_steps : (tells : Type 0) (before after : List ℕ) (reader : Reader) (given : List Found) (start : ℕ) (stream : List ℕ) (pieces : List Found) (read most : ℕ)
     → UnderWay tells before after reader given start stream pieces read → length pieces ≡ most
-    → Steps tells before after reader given start stream pieces most
+    → StepFinds tells before after reader given start stream pieces most
 full_steps tells before after reader given start stream pieces read most w full = record {
   fresh = w.fresh;
   left = w.left;
@@ -127,3 +163,11 @@ grows_readings before after kind pieces readings grown is = subst (λ (rs : List
   by_pieces Changes pieces grown = by_both pieces grown
   by_pieces Tables [] grown = grown
   by_pieces Tables (first ∷ pieces) grown = grown
+
+pub source_same : (first old new : Reader) → SameSource first old → SameSource old new → SameSource first new
+source_same first old new s then_same = record {
+  kind = then_same.kind ∙ s.kind;
+  paths = then_same.paths ∙ s.paths;
+  is_begun = then_same.is_begun ∙ s.is_begun;
+  is_spent = then_same.is_spent ∙ s.is_spent;
+}

@@ -28,8 +28,12 @@ event_in (Some group) = event_of group
 abbrev pub IsPieceOf : AuditRecord → ReadRecord → Type 0
 IsPieceOf made piece = piece ≡ record { gain = gain.Event (event_in made.group) made.skipped; end = made.end }
 
--- the lines are cut into records, and each gives what it gives
-pub record AuditGives (start : ℕ) (lines : List (List ℕ)) (pieces : List ReadRecord) : Type 0 where
+-- the lines are cut into records, and of each one thing is made
+pub record AuditMakes {Thing : Type 0} (IsMade : AuditRecord → Thing → Type 0) (start : ℕ) (lines : List (List ℕ)) (things : List Thing) : Type 0 where
   pub records : List AuditRecord
   pub are : AreRecordsOf (items_of start lines) records
-  pub each : AllZip IsPieceOf records pieces
+  pub each : AllZip IsMade records things
+
+-- the lines are cut into records, and each gives what it gives
+abbrev pub AuditGives : ℕ → List (List ℕ) → List ReadRecord → Type 0
+AuditGives start lines pieces = AuditMakes IsPieceOf start lines pieces

@@ -1,5 +1,6 @@
 pub mod Audit
 pub mod AuditParts
+pub mod Found
 pub mod Gathered
 pub mod Records
 pub mod Readings

@@ -10,6 +10,7 @@ use Rattle.osq_value.specs.declared.value.Value.{Value}
 use Rattle.osq_value.specs.declared.value.TableId.{TableId}
 use Rattle.audit_records.specs.Events.{event_of}
 use Rattle.change_records.specs.declared.change.Change.{Change}
+use Rattle.record_lines.specs.Limits.{LINE_LIMIT}
 use Rattle.record_lines.specs.Lines.{HasNoFeed}
 use Rattle.change_records.specs.Changes.{change_of}
 use Rattle.change_records.specs.Rows.{table_of}

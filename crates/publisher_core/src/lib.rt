@@ -2,9 +2,11 @@
 #![tactic(auto)]
 
 pub mod error;
+mod gaining;
 pub mod gathering;
 pub mod line;
 pub mod publisher;
 pub mod readings;
 pub mod record;
 pub mod subscription;
+pub mod watching;

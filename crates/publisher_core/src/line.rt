@@ -4,10 +4,10 @@ ghost use Rattle.std.specs.Prelude.{◌≡◌, ℕ, List, IfOk};
 ghost use Rattle.record_lines.specs.Lines.{cut_of};
 ghost use Rattle.publisher_core.specs.Audit.{line_in};
 ghost use Rattle.record_lines.specs.Limits.{LINE_LIMIT};
-ghost use Rattle.publisher_core.specs.Records.{ChangeGives, TableGives, skipped_line, TABLE_LIMIT};
+ghost use Rattle.publisher_core.specs.Found.{IsChangeRaw};
+ghost use Rattle.publisher_core.specs.Records.{TableGives, skipped_line, TABLE_LIMIT};
 
-use crate::record::{Gain, Record};
-use crate::subscription::{Callback, Subscription};
+use crate::record::{Gain, Raw, Record};
 use audit_records::{AuditLine, AuditLineError, read_line};
 use change_records::{JsonLineError, read_change, read_table};
 use json::Scratch;
@@ -24,25 +24,37 @@ const SKIPPED: Gain = Gain::Event {
     skipped: 1,
 };
 
-/// What a line of a source of changes gives.
-pub fn change_gain<C: Callback>(
+/// A skipped line of a source of changes, which ends at this offset.
+fn skipped(end: u64) -> Raw
+    ensures { result ≡ record { item = None; skipped = 1; end = end } }
+{
+    Raw {
+        item: None,
+        skipped: 1,
+        end,
+    }
+}
+
+/// The record that a line of a source of changes is, which ends at this offset.
+pub fn change_raw(
     alloc: Global,
     scratch: &mut Scratch,
-    subscription: &Subscription<C>,
     cut: &Cut,
-) -> Result<Gain, NoMemory>
-    ensures { (line : List ℕ) → (end : ℕ) → cut.now ≡ cut_of LINE_LIMIT end line → IfOk result (λ gain. ChangeGives subscription.now.paths line gain) }
+    end: u64,
+) -> Result<Raw, NoMemory>
+    ensures { (line : List ℕ) → (at : ℕ) → cut.now ≡ cut_of LINE_LIMIT at line → IfOk result (λ raw. IsChangeRaw line end raw) }
 {
     let Cut::Line(line) = cut else {
-        return Ok(SKIPPED);
+        return Ok(skipped(end));
     };
     match read_change(alloc, scratch, line.text.as_slice()) {
         Err(JsonLineError::NoMemory) => Err(NoMemory),
-        Err(JsonLineError::BadLine) => Ok(SKIPPED),
-        Ok(change) => match subscription.event_of(alloc, Record::Change(change)) {
-            Err(NoMemory) => Err(NoMemory),
-            Ok(event) => Ok(Gain::Event { event, skipped: 0 }),
-        },
+        Err(JsonLineError::BadLine) => Ok(skipped(end)),
+        Ok(change) => Ok(Raw {
+            item: Some(Record::Change(change)),
+            skipped: 0,
+            end,
+        }),
     }
 }
 

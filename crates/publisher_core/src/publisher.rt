@@ -1,28 +1,37 @@
 //! Publishers.
 
-ghost use Rattle.std.specs.Prelude.{◌≡◌, ◌≢◌, ◌≤◌, ◌<◌, ◌+◌, ◌⊎◌, ℕ, [], ◌∷◌, ◌++◌, length, List, true, false, Ok, Err, IfOk, OnOk, IfErr, MatchOption, vec_len};
+ghost use Rattle.std.specs.Prelude.{◌≡◌, ◌≢◌, ◌≤◌, ◌<◌, ◌+◌, ◌⊎◌, ℕ, [], ◌∷◌, ◌++◌, length, List, map, true, false, Ok, Err, IfOk, OnOk, IfErr, MatchOption, vec_len};
 ghost use Rattle.osq_outside.specs.Causes.{FaultHasCause};
 ghost use Rattle.record_lines.specs.Limits.{LINE_LIMIT, PIECE_BYTES, STEP_BYTES};
-ghost use Rattle.publisher_core.specs.Stepping.{Goes, Grows, GrowsBy, IsDry, TakesCut, SameSource, Reads, Steps};
+ghost use Rattle.std.specs.List.{AllZip};
+ghost use Rattle.publisher_core.specs.Stepping.{FindsNext, Goes, Grows, GrowsBy, IsDry, IsDrained, TakesCut, SameSource, Reads, StepFinds, Steps};
 ghost use Rattle.publisher_core.specs.Readings.{readings_of};
-ghost use Rattle.publisher_core.specs.Standing.{Reader, HasPublished, is_at_end, limit_of};
-ghost use Rattle.publisher_core.specs.Audit.{IsPieceOf, line_in, event_in};
+ghost use Rattle.publisher_core.specs.Standing.{Reader, HasFound, HasPublished, is_at_end, limit_of};
+ghost use Rattle.publisher_core.specs.Audit.{line_in};
+ghost use Rattle.publisher_core.specs.Found.{IsFoundAs, IsGainOf, IsGiven, item_in, items_found};
 ghost use Rattle.publisher_core.specs.Gathered.{Takes};
 ghost use Rattle.record_lines.specs.Lines.{cut_of};
 ghost use Rattle.publisher_core.specs.declared.error.StepError.{StepError};
+ghost use Rattle.osq_value.specs.declared.source.SourceKind.TheVariants.{Tables};
+ghost use Rattle.publisher_core.specs.declared.record.Found.{Found};
+ghost use Rattle.publisher_core.specs.declared.record.Found.TheVariants as found;
+ghost use Rattle.publisher_core.specs.declared.record.Raw.{Raw};
 ghost use Rattle.publisher_core.specs.declared.record.ReadRecord.{ReadRecord};
+ghost use Rattle.publisher_core.specs.declared.record.Record.{Record};
 ghost use Rattle.publisher_core.specs.declared.record.Next.{Next};
 
 use crate::error::StepError;
+use crate::gaining::given;
 use crate::gathering::{AuditRecord, Gathering};
-use crate::line::{TABLE_LIMIT, audit_line, change_gain, table_gain};
+use crate::line::{TABLE_LIMIT, audit_line, change_raw, table_gain};
 use crate::readings::readings_of;
-use crate::record::{Gain, Next, ReadRecord, ReadRecordList, Record};
+use crate::record::{Found, Next, Raw, ReadRecord, ReadRecordList, Record, RecordList};
 use crate::subscription::{Callback, Subscription};
+use crate::watching::{Unseen, Watcher};
 use audit_records::AuditGroup;
 use json::Scratch;
 use osq_outside::{Source, SourceFault};
-use osq_value::{Event, NoMemory, ReadingList, SourceKind, Str};
+use osq_value::{NoMemory, ReadingList, SourceKind, Str};
 use record_lines::{Cut, LINE_LIMIT, LineCutter, PIECE_BYTES, STEP_BYTES};
 use std::alloc::{AllocError, Global};
 use std::collections::VecDeque;
@@ -111,6 +120,16 @@ fn end_of(cut: &Cut) -> u64
     match cut {
         Cut::Line(line) => line.end,
         Cut::Skipped { end } => *end,
+    }
+}
+
+/// What a callback is given of a group; nothing of a skipped line by itself.
+fn item_in(group: Option<AuditGroup>) -> Option<Record>
+    ensures { result ≡ item_in group }
+{
+    match group {
+        None => None,
+        Some(group) => Some(Record::Group(group)),
     }
 }
 
@@ -215,7 +234,31 @@ impl<C: Callback> Publisher<C> {
         ensures end { (S.tells → self.old.is_ended ≡ true → S.left source.old ≡ []) → OnOk result (S.tells → self.new.is_ended ≡ true → S.left source.new ≡ []) }
         ensures cause { FaultHasCause StepError.SourceFault (S.faults source.old) (S.faults source.new) result }
     {
-        match self.take_readings(source, most) {
+        self.step_seen(source, most, &mut Unseen)
+    }
+
+    /// Takes a step, and shows each of its records to the watcher, in order, before the callback is asked about it. All else is as `step` has it.
+    pub fn step_seen<S: Source, W: Watcher>(
+        &mut self,
+        source: &mut S,
+        most: u64,
+        watcher: &mut W,
+    ) -> Result<ReadingList, StepError>
+        requires begun { (self.old.is_begun ≡ true) × (self.old.is_spent ≡ false) }
+        ensures steps { (given : List ReadRecord) → (start : ℕ) → (stream : List ℕ) → HasPublished self.old given start stream
+            → IfOk result (λ readings. (pieces : List ReadRecord) × (readings ≡ readings_of self.old.kind pieces)
+            × Steps S.tells (S.left source.old) (S.left source.new) self.new given start stream pieces most) }
+        ensures seen { (before : List Found) → (start : ℕ) → (stream : List ℕ) → (seen : List Record) → HasFound self.old before start stream → W.saw watcher.old seen
+            → IfOk result (λ readings. (found : List Found) × (pieces : List ReadRecord) × AllZip (IsGiven self.old.paths) found pieces × (readings ≡ readings_of self.old.kind pieces)
+            × StepFinds S.tells (S.left source.old) (S.left source.new) self.new before start stream found most × W.saw watcher.new (seen ++ items_found found)) }
+        ensures grown { (given : List ReadRecord) → (start : ℕ) → (stream : List ℕ) → HasPublished self.old given start stream → IfOk result (λ readings. GrowsBy self.old.taken self.new.taken readings) }
+        ensures same { OnOk result (SameSource self.old self.new) }
+        ensures spent { IfErr result (λ error. self.new.is_spent ≡ true) }
+        ensures shrank { (kept found : ℕ) → result ≢ Err (StepError.SourceShrank kept found) }
+        ensures end { (S.tells → self.old.is_ended ≡ true → S.left source.old ≡ []) → OnOk result (S.tells → self.new.is_ended ≡ true → S.left source.new ≡ []) }
+        ensures cause { FaultHasCause StepError.SourceFault (S.faults source.old) (S.faults source.new) result }
+    {
+        match self.take_readings(source, most, watcher) {
             Ok(readings) => Ok(readings),
             Err(error) => {
                 self.is_spent = true;
@@ -224,21 +267,78 @@ impl<C: Callback> Publisher<C> {
         }
     }
 
-    fn take_readings<S: Source>(
-        &mut self,
-        source: &mut S,
-        most: u64,
-    ) -> Result<ReadingList, StepError>
-        ensures steps { (given : List ReadRecord) → (start : ℕ) → (stream : List ℕ) → HasPublished self.old given start stream
-            → IfOk result (λ readings. (pieces : List ReadRecord) × (readings ≡ readings_of self.old.kind pieces)
-            × Steps S.tells (S.left source.old) (S.left source.new) self.new given start stream pieces most) }
-        ensures grown { (given : List ReadRecord) → (start : ℕ) → (stream : List ℕ) → HasPublished self.old given start stream → IfOk result (λ readings. GrowsBy self.old.taken self.new.taken readings) }
+    /// Takes the records of a step, as many and as far as `step` does, and asks no callback about them: it gives each as it was found. What is
+    /// wanted of memory or of the source spends the publisher, as in `step`. A source of tables has no such records.
+    pub fn records<S: Source>(&mut self, source: &mut S, max: u64) -> Result<RecordList, StepError>
+        requires begun { (self.old.is_begun ≡ true) × (self.old.is_spent ≡ false) }
+        requires kind { self.old.kind ≢ Tables }
+        ensures records { (given : List ReadRecord) → (start : ℕ) → (stream : List ℕ) → HasPublished self.old given start stream
+            → IfOk result (λ raws. (pieces : List ReadRecord) → AllZip (IsGainOf self.old.paths) raws pieces
+            → Steps S.tells (S.left source.old) (S.left source.new) self.new given start stream pieces max) }
+        ensures found { (before : List Found) → (start : ℕ) → (stream : List ℕ) → HasFound self.old before start stream
+            → IfOk result (λ raws. StepFinds S.tells (S.left source.old) (S.left source.new) self.new before start stream (map found.Record raws) max) }
+        ensures grown { (given : List ReadRecord) → (start : ℕ) → (stream : List ℕ) → HasPublished self.old given start stream → IfOk result (λ raws. GrowsBy self.old.taken self.new.taken raws) }
+        ensures same { OnOk result (SameSource self.old self.new) }
+        ensures spent { IfErr result (λ error. self.new.is_spent ≡ true) }
+        ensures shrank { (kept found : ℕ) → result ≢ Err (StepError.SourceShrank kept found) }
+        ensures end { (S.tells → self.old.is_ended ≡ true → S.left source.old ≡ []) → OnOk result (S.tells → self.new.is_ended ≡ true → S.left source.new ≡ []) }
+        ensures cause { FaultHasCause StepError.SourceFault (S.faults source.old) (S.faults source.new) result }
+    {
+        match self.take_raws(source, max) {
+            Ok(raws) => Ok(raws),
+            Err(error) => {
+                self.is_spent = true;
+                Err(error)
+            }
+        }
+    }
+
+    /// Takes the records of a step, as they are found.
+    fn take_raws<S: Source>(&mut self, source: &mut S, max: u64) -> Result<RecordList, StepError>
+        requires kind { self.old.kind ≢ Tables }
+        ensures found { (before : List Found) → (start : ℕ) → (stream : List ℕ) → HasFound self.old before start stream
+            → IfOk result (λ raws. StepFinds S.tells (S.left source.old) (S.left source.new) self.new before start stream (map found.Record raws) max) }
+        ensures grown { (before : List Found) → (start : ℕ) → (stream : List ℕ) → HasFound self.old before start stream → IfOk result (λ raws. GrowsBy self.old.taken self.new.taken raws) }
         ensures same { SameSource self.old self.new }
         ensures shrank { (kept found : ℕ) → result ≢ Err (StepError.SourceShrank kept found) }
         ensures end { (S.tells → self.old.is_ended ≡ true → S.left source.old ≡ []) → OnOk result (S.tells → self.new.is_ended ≡ true → S.left source.new ≡ []) }
         ensures cause { FaultHasCause StepError.SourceFault (S.faults source.old) (S.faults source.new) result }
     {
-        let pieces = match self.take_records(source, most) {
+        let mut raws = RecordList::new(self.alloc);
+        let mut read = 0;
+        while (raws.len() as u64) < max {
+            match self.next_found(source, &mut read) {
+                Err(error) => return Err(error),
+                Ok(None) => return Ok(raws),
+                // No line of tables is found here.
+                Ok(Some(Found::Table(_own))) => return Ok(raws),
+                Ok(Some(Found::Record(raw))) => {
+                    let Ok(()) = raws.push(raw) else {
+                        return Err(StepError::NoMemory);
+                    };
+                }
+            }
+        }
+        Ok(raws)
+    }
+
+    fn take_readings<S: Source, W: Watcher>(
+        &mut self,
+        source: &mut S,
+        most: u64,
+        watcher: &mut W,
+    ) -> Result<ReadingList, StepError>
+        ensures seen { (before : List Found) → (start : ℕ) → (stream : List ℕ) → HasFound self.old before start stream
+            → IfOk result (λ readings. (found : List Found) × (pieces : List ReadRecord) × AllZip (IsGiven self.old.paths) found pieces × (readings ≡ readings_of self.old.kind pieces)
+            × StepFinds S.tells (S.left source.old) (S.left source.new) self.new before start stream found most
+            × ((seen : List Record) → W.saw watcher.old seen → W.saw watcher.new (seen ++ items_found found))) }
+        ensures grown { (before : List Found) → (start : ℕ) → (stream : List ℕ) → HasFound self.old before start stream → IfOk result (λ readings. GrowsBy self.old.taken self.new.taken readings) }
+        ensures same { SameSource self.old self.new }
+        ensures shrank { (kept found : ℕ) → result ≢ Err (StepError.SourceShrank kept found) }
+        ensures end { (S.tells → self.old.is_ended ≡ true → S.left source.old ≡ []) → OnOk result (S.tells → self.new.is_ended ≡ true → S.left source.new ≡ []) }
+        ensures cause { FaultHasCause StepError.SourceFault (S.faults source.old) (S.faults source.new) result }
+    {
+        let pieces = match self.take_records(source, most, watcher) {
             Ok(pieces) => pieces,
             Err(error) => return Err(error),
         };
@@ -248,15 +348,18 @@ impl<C: Callback> Publisher<C> {
         Ok(readings)
     }
 
-    /// Takes the records of a step.
-    fn take_records<S: Source>(
+    /// Takes the records of a step, and gives what the callback makes of each. The watcher sees each before the callback is asked.
+    fn take_records<S: Source, W: Watcher>(
         &mut self,
         source: &mut S,
         most: u64,
+        watcher: &mut W,
     ) -> Result<ReadRecordList, StepError>
-        ensures steps { (given : List ReadRecord) → (start : ℕ) → (stream : List ℕ) → HasPublished self.old given start stream
-            → IfOk result (λ pieces. Steps S.tells (S.left source.old) (S.left source.new) self.new given start stream pieces most) }
-        ensures grown { (given : List ReadRecord) → (start : ℕ) → (stream : List ℕ) → HasPublished self.old given start stream → IfOk result (λ pieces. GrowsBy self.old.taken self.new.taken pieces) }
+        ensures seen { (before : List Found) → (start : ℕ) → (stream : List ℕ) → HasFound self.old before start stream
+            → IfOk result (λ pieces. (many : List Found) × AllZip (IsGiven self.old.paths) many pieces
+            × StepFinds S.tells (S.left source.old) (S.left source.new) self.new before start stream many most
+            × ((seen : List Record) → W.saw watcher.old seen → W.saw watcher.new (seen ++ items_found many))) }
+        ensures grown { (before : List Found) → (start : ℕ) → (stream : List ℕ) → HasFound self.old before start stream → IfOk result (λ pieces. GrowsBy self.old.taken self.new.taken pieces) }
         ensures same { SameSource self.old self.new }
         ensures shrank { (kept found : ℕ) → result ≢ Err (StepError.SourceShrank kept found) }
         ensures end { (S.tells → self.old.is_ended ≡ true → S.left source.old ≡ []) → OnOk result (S.tells → self.new.is_ended ≡ true → S.left source.new ≡ []) }
@@ -265,72 +368,86 @@ impl<C: Callback> Publisher<C> {
         let mut pieces = ReadRecordList::new(self.alloc);
         let mut read = 0;
         while (pieces.len() as u64) < most {
-            match self.next_piece() {
-                Err(NoMemory) => return Err(StepError::NoMemory),
-                Ok(Some(piece)) => {
+            match self.next_found(source, &mut read) {
+                Err(error) => return Err(error),
+                Ok(None) => return Ok(pieces),
+                Ok(Some(one)) => {
+                    let Ok(piece) = given(self.alloc, &self.subscription, watcher, one) else {
+                        return Err(StepError::NoMemory);
+                    };
                     let Ok(()) = pieces.push(piece) else {
                         return Err(StepError::NoMemory);
                     };
-                }
-                Ok(None) => {
-                    if self.is_ended || read >= STEP_BYTES {
-                        return Ok(pieces);
-                    }
-                    match self.read_piece(source) {
-                        Ok(count) => read += count,
-                        Err(error) => return Err(error),
-                    }
                 }
             }
         }
         Ok(pieces)
     }
 
-    /// Gives a record that ends at this offset.
-    fn give(&mut self, end: u64, gain: Gain) -> Next
-        ensures given { result ≡ Next.Whole (record { gain = gain; end = end }) }
+    /// The next of what a step finds. Where no line is left of those read before it reads on, up to the source's end or until the step has
+    /// read 16777216 bytes; `read` counts them.
+    fn next_found<S: Source>(
+        &mut self,
+        source: &mut S,
+        read: &mut u64,
+    ) -> Result<Option<Found>, StepError>
+        requires within { read.old ≤ STEP_BYTES + PIECE_BYTES }
+        ensures found { (before : List Found) → (start : ℕ) → (stream : List ℕ) → HasFound self.old before start stream
+            → IfOk result (λ found. FindsNext S.tells (S.left source.old) (S.left source.new) self.new before start stream read.old read.new found) }
+        ensures grown { (before : List Found) → (start : ℕ) → (stream : List ℕ) → HasFound self.old before start stream
+            → IfOk result (λ found. MatchOption found (self.new.taken ≡ self.old.taken) (λ one. self.old.taken < self.new.taken)) }
+        ensures within { read.new ≤ STEP_BYTES + PIECE_BYTES }
+        ensures same { SameSource self.old self.new }
+        ensures shrank { (kept found : ℕ) → result ≢ Err (StepError.SourceShrank kept found) }
+        ensures end { (S.tells → self.old.is_ended ≡ true → S.left source.old ≡ []) → OnOk result (S.tells → self.new.is_ended ≡ true → S.left source.new ≡ []) }
+        ensures cause { FaultHasCause StepError.SourceFault (S.faults source.old) (S.faults source.new) result }
+    {
+        loop {
+            match self.next_piece() {
+                Err(NoMemory) => return Err(StepError::NoMemory),
+                Ok(Some(one)) => return Ok(Some(one)),
+                Ok(None) => {
+                    if self.is_ended || *read >= STEP_BYTES {
+                        return Ok(None);
+                    }
+                    match self.read_piece(source) {
+                        Ok(count) => *read += count,
+                        Err(error) => return Err(error),
+                    }
+                }
+            }
+        }
+    }
+
+    /// What was found ends at this offset.
+    fn give(&mut self, end: u64, found: Found) -> Next
+        ensures given { result ≡ Next.Whole found }
         ensures taken { self.new ≡ record self.old { taken = end } }
     {
         self.taken = end;
-        Next::Whole(ReadRecord { gain, end })
+        Next::Whole(found)
     }
 
-    /// Gives a record of an audit log.
-    fn give_audit(&mut self, made: AuditRecord) -> Result<ReadRecord, NoMemory>
-        ensures given { IfOk result (λ piece. IsPieceOf made piece) }
-        ensures taken { OnOk result (self.new ≡ record self.old { taken = made.end }) }
-        ensures same { self.new ≡ record self.old { taken = self.new.taken } }
+    /// Finds a record of an audit log.
+    fn give_audit(&mut self, made: AuditRecord) -> Found
+        ensures given { IsFoundAs made result }
+        ensures taken { self.new ≡ record self.old { taken = made.end } }
     {
         let AuditRecord {
             group,
             skipped,
             end,
         } = made;
-        match self.group_event(group) {
-            Err(NoMemory) => Err(NoMemory),
-            Ok(event) => {
-                let gain = Gain::Event { event, skipped };
-                self.taken = end;
-                Ok(ReadRecord { gain, end })
-            }
-        }
-    }
-
-    /// The event of a group, by the callback.
-    fn group_event(&self, group: Option<AuditGroup>) -> Result<Option<Event>, NoMemory>
-        ensures { IfOk result (λ event. event ≡ event_in group) }
-    {
-        match group {
-            None => Ok(None),
-            Some(group) => self.subscription.event_of(self.alloc, Record::Group(group)),
-        }
+        self.taken = end;
+        let item = item_in(group);
+        Found::Record(Raw { item, skipped, end })
     }
 
     /// The next record of the lines that were read, or none where no whole one is left.
-    fn next_piece(&mut self) -> Result<Option<ReadRecord>, NoMemory>
-        ensures found { (given : List ReadRecord) → (start : ℕ) → (stream : List ℕ) → HasPublished self.old given start stream
-            → IfOk result (λ found. MatchOption found (IsDry self.new given start stream) (λ piece. HasPublished self.new (given ++ piece ∷ []) start stream)) }
-        ensures grown { (given : List ReadRecord) → (start : ℕ) → (stream : List ℕ) → HasPublished self.old given start stream
+    fn next_piece(&mut self) -> Result<Option<Found>, NoMemory>
+        ensures found { (given : List Found) → (start : ℕ) → (stream : List ℕ) → HasFound self.old given start stream
+            → IfOk result (λ found. MatchOption found (IsDrained self.new given start stream) (λ piece. HasFound self.new (given ++ piece ∷ []) start stream)) }
+        ensures grown { (given : List Found) → (start : ℕ) → (stream : List ℕ) → HasFound self.old given start stream
             → IfOk result (λ found. MatchOption found (self.new.taken ≡ self.old.taken) (λ piece. self.old.taken < self.new.taken)) }
         ensures same { self.new ≡ record self.old { taken = self.new.taken; cutter = self.new.cutter; gathering = self.new.gathering; ready = self.new.ready } }
     {
@@ -346,16 +463,13 @@ impl<C: Callback> Publisher<C> {
 
     /// What becomes of the next line that was read.
     fn next_record(&mut self) -> Result<Next, NoMemory>
-        ensures goes { (given : List ReadRecord) → (start : ℕ) → (stream : List ℕ) → HasPublished self.old given start stream → IfOk result (λ next. Goes self.new given start stream next) }
-        ensures grown { (given : List ReadRecord) → (start : ℕ) → (stream : List ℕ) → HasPublished self.old given start stream → IfOk result (λ next. Grows self.old.taken self.new.taken next) }
+        ensures goes { (given : List Found) → (start : ℕ) → (stream : List ℕ) → HasFound self.old given start stream → IfOk result (λ next. Goes self.new given start stream next) }
+        ensures grown { (given : List Found) → (start : ℕ) → (stream : List ℕ) → HasFound self.old given start stream → IfOk result (λ next. Grows self.old.taken self.new.taken next) }
         ensures fewer { result ≡ Ok Next.More → length self.new.cutter.ready < length self.old.cutter.ready }
         ensures same { self.new ≡ record self.old { taken = self.new.taken; cutter = self.new.cutter; gathering = self.new.gathering; ready = self.new.ready } }
     {
         if let Some(made) = self.ready.pop_front() {
-            return match self.give_audit(made) {
-                Err(NoMemory) => Err(NoMemory),
-                Ok(piece) => Ok(Next::Whole(piece)),
-            };
+            return Ok(Next::Whole(self.give_audit(made)));
         }
         let Some(cut) = self.cutter.take_line() else {
             return Ok(Next::Nothing);
@@ -369,8 +483,8 @@ impl<C: Callback> Publisher<C> {
     /// What becomes of a line.
     fn take_line(&mut self, cut: &Cut) -> Result<Next, NoMemory>
         requires none { self.old.ready ≡ [] }
-        ensures goes { (before : Reader) → (given : List ReadRecord) → (start : ℕ) → (stream : List ℕ) → TakesCut before self.old given start stream cut.now → IfOk result (λ next. Goes self.new given start stream next) }
-        ensures grown { (before : Reader) → (given : List ReadRecord) → (start : ℕ) → (stream : List ℕ) → TakesCut before self.old given start stream cut.now → IfOk result (λ next. Grows self.old.taken self.new.taken next) }
+        ensures goes { (before : Reader) → (given : List Found) → (start : ℕ) → (stream : List ℕ) → TakesCut before self.old given start stream cut.now → IfOk result (λ next. Goes self.new given start stream next) }
+        ensures grown { (before : Reader) → (given : List Found) → (start : ℕ) → (stream : List ℕ) → TakesCut before self.old given start stream cut.now → IfOk result (λ next. Grows self.old.taken self.new.taken next) }
         ensures nothing { result ≢ Ok Next.Nothing }
         ensures same { self.new ≡ record self.old { taken = self.new.taken; gathering = self.new.gathering; ready = self.new.ready } }
     {
@@ -380,18 +494,13 @@ impl<C: Callback> Publisher<C> {
                 Err(NoMemory) => Err(NoMemory),
                 Ok(()) => Ok(Next::More),
             },
-            SourceKind::Changes => match change_gain(
-                self.alloc,
-                &mut self.scratch,
-                &self.subscription,
-                cut,
-            ) {
+            SourceKind::Changes => match change_raw(self.alloc, &mut self.scratch, cut, end) {
                 Err(NoMemory) => Err(NoMemory),
-                Ok(gain) => Ok(self.give(end, gain)),
+                Ok(raw) => Ok(self.give(end, Found::Record(raw))),
             },
             SourceKind::Tables => match table_gain(self.alloc, cut) {
                 Err(NoMemory) => Err(NoMemory),
-                Ok(gain) => Ok(self.give(end, gain)),
+                Ok(gain) => Ok(self.give(end, Found::Table(ReadRecord { gain, end }))),
             },
         }
     }
@@ -415,7 +524,7 @@ impl<C: Callback> Publisher<C> {
     /// end, where the records of an audit log that could go on are whole.
     fn read_piece<S: Source>(&mut self, source: &mut S) -> Result<u64, StepError>
         requires more { self.old.is_ended ≡ false }
-        ensures read { (given : List ReadRecord) → (start : ℕ) → (stream : List ℕ) → IsDry self.old given start stream → IfOk result (λ count. Reads S.tells (S.left source.old) (S.left source.new) self.new given start stream count) }
+        ensures read { (given : List Found) → (start : ℕ) → (stream : List ℕ) → IsDrained self.old given start stream → IfOk result (λ count. Reads S.tells (S.left source.old) (S.left source.new) self.new given start stream count) }
         ensures count { IfOk result (λ count. count ≤ PIECE_BYTES) }
         ensures end { IfOk result (λ count. (count ≡ 0 → self.new.is_ended ≡ true) × (count ≢ 0 → self.new.is_ended ≡ false)) }
         ensures left { S.tells → result ≡ Ok 0 → S.left source.new ≡ [] }
@@ -442,7 +551,7 @@ impl<C: Callback> Publisher<C> {
     /// The source is at its end.
     fn end(&mut self) -> Result<(), NoMemory>
         requires more { self.old.is_ended ≡ false }
-        ensures ended { (given : List ReadRecord) → (start : ℕ) → (stream : List ℕ) → IsDry self.old given start stream → OnOk result (HasPublished self.new given start stream) }
+        ensures ended { (given : List Found) → (start : ℕ) → (stream : List ℕ) → IsDrained self.old given start stream → OnOk result (HasFound self.new given start stream) }
         ensures same { self.new ≡ record self.old { gathering = self.new.gathering; ready = self.new.ready; is_ended = true } }
     {
         self.is_ended = true;

@@ -13,6 +13,21 @@ pub enum Record {
     Change(Change),
 }
 
+/// A record of a source before a callback is asked about it: what the callback is given, how many lines of the record were skipped, and the
+/// source's offset, in bytes, behind the record's last line.
+#[derive(Drop)]
+pub struct Raw {
+    /// What a callback is given, none for a skipped line by itself.
+    pub item: Option<Record>,
+    /// How many lines of the record were skipped.
+    pub skipped: u64,
+    /// The offset behind the record, in bytes.
+    pub end: u64,
+}
+
+/// Records before a callback is asked about them, in their order.
+pub type RecordList = Sequence<Raw>;
+
 /// What one record of a source gives.
 #[derive(Drop)]
 pub enum Gain {
@@ -34,11 +49,20 @@ pub struct ReadRecord {
 /// What records gave, in their order.
 pub type ReadRecordList = Sequence<ReadRecord>;
 
+/// What is found of a source.
+#[derive(Drop)]
+pub enum Found {
+    /// A record of an audit log or of changes, before a callback is asked about it.
+    Record(Raw),
+    /// A line of a source of tables, which no callback is asked about.
+    Table(ReadRecord),
+}
+
 /// What became of the lines that were read.
 #[derive(Drop)]
 pub enum Next {
     /// A record is whole.
-    Whole(ReadRecord),
+    Whole(Found),
     /// A line was taken in.
     More,
     /// No line is left.

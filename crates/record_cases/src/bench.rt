@@ -7,6 +7,7 @@ use crate::feeding::push_feed;
 use crate::gathering::{push_gathered, push_groups};
 use crate::given::Given;
 use crate::publishing::push_published;
+use crate::recording::push_recorded;
 use crate::text::push_escaped;
 use case_text::{Bench, LineKind, json_of_line, kind_of, odd_member};
 use osq_value::NoMemory;
@@ -16,10 +17,11 @@ use std::alloc::Global;
 /// The members that lines of some kind have beside that.
 const MEMBERS: &[&str] = &[
     "paths", "limit", "offset", "by", "source", "kept", "most", "steps", "fails", "is_whole",
+    "is_shown",
 ];
 
 /// The kinds of lines.
-const KINDS: [LineKind; 10] = [
+const KINDS: [LineKind; 11] = [
     ("audit", MEMBERS),
     ("groups", MEMBERS),
     ("gathers", MEMBERS),
@@ -29,6 +31,7 @@ const KINDS: [LineKind; 10] = [
     ("table", MEMBERS),
     ("cut", MEMBERS),
     ("publisher", MEMBERS),
+    ("records", MEMBERS),
     ("feed", MEMBERS),
 ];
 
@@ -60,6 +63,7 @@ fn push_made(
         "pattern" => push_matches(text, given),
         "table" => push_table(alloc, text, given),
         "publisher" => push_published(alloc, text, given),
+        "records" => push_recorded(alloc, text, given),
         "feed" => push_feed(alloc, text, given),
         _ => push_lines(alloc, text, given, kind),
     }

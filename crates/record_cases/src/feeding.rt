@@ -1,12 +1,14 @@
 //! A feed over a source.
 
-ghost use Rattle.std.specs.Prelude.{◌≡◌, true, false, IfOk};
-ghost use Rattle.source_feeds.specs.Feeding.{IsOpen};
+ghost use Rattle.std.specs.Prelude.{◌≡◌, true, false, IfOk, OnOk};
+ghost use Rattle.source_feeds.specs.Feeding.{IsOpen, SameFeed};
 
 use crate::given::Given;
 use crate::readings::{push_end, push_readings, push_refusal};
+use crate::shown::Shown;
 use crate::sips::Sips;
 use osq_value::{NoMemory, ReadingList, SourceKind, Str};
+use publisher_core::error::StepError;
 use source_feeds::Feed;
 use std::alloc::Global;
 
@@ -36,6 +38,32 @@ fn push_step(
     push_end(text, feed.at_end())
 }
 
+/// Takes a step, and adds the records that it shows where the line says so.
+fn step(
+    alloc: Global,
+    text: &mut String,
+    feed: &mut Feed,
+    source: &mut Sips,
+    given: Given<'_>,
+) -> Result<ReadingList, StepError>
+    requires { (feed.old.reader.is_begun ≡ true) × (feed.old.reader.is_spent ≡ false) }
+    ensures { OnOk result (SameFeed feed.old feed.new) }
+{
+    let most = given.number("most").unwrap_or(1);
+    if !given.is_set("is_shown") {
+        return feed.step(source, most);
+    }
+    let mut shown = Shown {
+        text: String::new(alloc),
+    };
+    let readings = match feed.step_seen(source, most, &mut shown) {
+        Ok(readings) => readings,
+        Err(error) => return Err(error),
+    };
+    write!(text, " <{}>", shown.text.as_str())?;
+    Ok(readings)
+}
+
 /// Adds what so many steps give.
 fn push_steps(
     alloc: Global,
@@ -46,9 +74,8 @@ fn push_steps(
 ) -> Result<(), NoMemory>
     requires { (feed.old.reader.is_begun ≡ true) × (feed.old.reader.is_spent ≡ false) }
 {
-    let most = given.number("most").unwrap_or(1);
     for _ in 0..given.number("steps").unwrap_or(1) {
-        match feed.step(source, most) {
+        match step(alloc, text, feed, source, given) {
             Ok(readings) => push_step(alloc, text, feed, &readings, given.is_set("is_whole"))?,
             Err(error) => return push_refusal(text, error),
         }

@@ -17,12 +17,12 @@ fn subscribed(alloc: Global, given: Given<'_>) -> Result<Subscription<Recorded>,
 }
 
 /// A publisher that isn't begun, of the kept bytes and under the categories that the line gives.
-fn opened(
+pub(crate) fn opened(
     alloc: Global,
     given: Given<'_>,
     kind: SourceKind,
 ) -> Result<Publisher<Recorded>, NoMemory>
-    ensures { IfOk result (λ made. (made.is_begun ≡ false) × (made.is_spent ≡ false)) }
+    ensures { IfOk result (λ made. (made.is_begun ≡ false) × (made.is_spent ≡ false) × (made.kind ≡ kind)) }
 {
     let subscription = subscribed(alloc, given)?;
     let name = Str::of(alloc, "source")?;
@@ -34,7 +34,7 @@ fn opened(
 }
 
 /// Adds why a publisher refused, its name, and whether it is spent.
-fn push_spent(
+pub(crate) fn push_spent(
     text: &mut String,
     publisher: &Publisher<Recorded>,
     error: StepError,

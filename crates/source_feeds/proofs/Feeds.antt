@@ -1,23 +1,27 @@
 -- What a feed stands for behind its calls.
-use Rattle.std.proofs.Common.{◌≡◌, ℕ, ◌+◌, ◌≤◌, true, false, List, [], ◌∷◌, ◌++◌, length, drop, sym, ap, subst, ◌∙◌, arith, append_assoc, Result, Ok, Err, OnOk, IfErr}
+use Rattle.std.proofs.Common.{◌≡◌, ℕ, ◌+◌, ◌≤◌, true, false, List, [], ◌∷◌, ◌++◌, length, drop, sym, ap, subst, ◌∙◌, arith, append_assoc, refl, Result, Ok, Err, OnOk, IfErr}
 use Rattle.std.specs.Prelude.{All}
+use Rattle.std.specs.List.{AllZip}
 use Rattle.std.proofs.lemmas.Bool.{true≢false}
 use Rattle.osq_value.specs.declared.reading.Category.{Category}
 use Rattle.osq_value.specs.declared.reading.Reading.{Reading}
 use Rattle.publisher_core.specs.declared.error.StepError.{StepError}
+use Rattle.publisher_core.specs.declared.record.Found.{Found}
 use Rattle.publisher_core.specs.declared.record.ReadRecord.{ReadRecord}
 use Rattle.osq_value.specs.declared.source.SourceKind.{SourceKind}
 use Rattle.publisher_core.specs.Readings.{readings_of, skipped_of}
 use Rattle.publisher_core.specs.Standing.{Reader, HasPublished}
-use Rattle.publisher_core.specs.Stepping.{GrowsBy, SameSource, Steps}
+use Rattle.publisher_core.specs.Found.{IsGiven, items_found}
+use Rattle.publisher_core.specs.Stepping.{GrowsBy, SameSource, StepFinds, Steps}
+use Rattle.publisher_core.proofs.Giving.{AsFound, steps_given}
 use Rattle.source_feeds.specs.Feeding.{Fed, Feeding, HasRead, IsLeft, IsOpen, counted}
 use Rattle.source_feeds.specs.Joining.{Rise, skipped_told}
 use Rattle.source_feeds.specs.Readings.{IsReading}
-use Rattle.source_feeds.specs.Stepping.{IsStep}
-use Rattle.source_feeds.specs.Taking.{ReadsTo, Takes, TakesAll}
+use Rattle.source_feeds.specs.Stepping.{IsShown, IsStep}
+use Rattle.source_feeds.specs.Taking.{FindsTo, ReadsTo, Takes, TakesAll}
 use Rattle.source_feeds.proofs.Joins.{reads_skip, rises, skipped_of-append}
 use Rattle.source_feeds.proofs.Shapes.{good_readings}
-use Rattle.source_feeds.proofs.Steps.{behind, read_full, reads_to, still_full, takes_all, takes_of}
+use Rattle.source_feeds.proofs.Steps.{behind, finds_of, read_full, reads_to, still_full, takes_all, takes_of}
 
 -- a feed that was started, or is spent
 pub started : {T : Type 0} (result : Result T StepError) (kind : SourceKind) (old new : Reader) → HasRead kind old → OnOk result (new ≡ record old { is_begun = true }) → IfErr result (λ error. new ≡ record old { is_begun = true; is_spent = true })
@@ -114,3 +118,29 @@ stepped tells before middle after old new kept given most readings f (pieces, re
           size = left.size;
           bytes = left.bytes ∙ ap (λ (bytes : List ℕ). left.dropped ++ (f.stream ++ bytes)) (steps.left told) ∙ ap (λ (bytes : List ℕ). left.dropped ++ bytes) (sym (append_assoc f.stream steps.fresh after));
         }
+
+-- one more step, with what it found
+pub showed : (tells : Type 0) (before middle after : List ℕ) (old new : Feeding) (kept : ℕ) (given : List ReadRecord) (most : ℕ) (readings : List Reading) (f : Fed tells before middle old kept given)
+    → (had : AsFound old.reader given kept f.stream) (many : List Found) (pieces : List ReadRecord) → AllZip (IsGiven old.reader.paths) many pieces → readings ≡ readings_of old.reader.kind pieces
+    → StepFinds tells middle after new.reader had.many kept f.stream many most → GrowsBy old.reader.taken new.reader.taken readings → SameSource old.reader new.reader
+    → (tells → new.reader.is_ended ≡ true → after ≡ []) → new.skipped ≡ counted (old.skipped + skipped_told readings) → new.kind ≡ old.kind
+    → IsShown tells before middle after old new kept given most readings (items_found many)
+unfolding stepped
+showed tells before middle after old new kept given most readings f had many pieces each read finds grown same end skipped kind =
+    let old_each = subst (λ (p : List Category). AllZip (IsGiven p) had.many given) (sym same.paths) had.each in
+    let new_each = subst (λ (p : List Category). AllZip (IsGiven p) many pieces) (sym same.paths) each in
+    let steps = steps_given tells middle after new.reader had.many given kept f.stream many pieces most finds old_each new_each in
+    record {
+      step = stepped tells before middle after old new kept given most readings f (pieces, read, steps) grown same end skipped kind;
+      found = many;
+      each = each;
+      finds = λ told.
+          let left = f.left told in
+          subst (λ (k : SourceKind). FindsTo k old.reader.taken (drop old.reader.taken before) many new.reader.taken) f.kind
+          (finds_of old.reader new.reader kept had.many many f.stream finds.fresh before after had.stands finds.stands same.kind (goes_up old.reader.taken new.reader.taken readings grown) (record {
+            dropped = left.dropped;
+            size = left.size;
+            bytes = left.bytes ∙ ap (λ (bytes : List ℕ). left.dropped ++ (f.stream ++ bytes)) (finds.left told) ∙ ap (λ (bytes : List ℕ). left.dropped ++ bytes) (sym (append_assoc f.stream finds.fresh after));
+          }));
+      shown_are = refl;
+    }

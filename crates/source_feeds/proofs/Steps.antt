@@ -5,19 +5,22 @@ use Rattle.std.proofs.Math.Seq.{drop-append_seam}
 use Rattle.osq_value.specs.declared.reading.Category.{Category}
 use Rattle.audit_records.specs.Groups.{groups_of, whole}
 use Rattle.record_lines.specs.Lines.{lines_of}
+use Rattle.publisher_core.specs.declared.record.Found.{Found}
 use Rattle.publisher_core.specs.declared.record.ReadRecord.{ReadRecord}
 use Rattle.osq_value.specs.declared.source.SourceKind.{SourceKind}
 use Rattle.osq_value.specs.declared.source.SourceKind.TheVariants.{Audit, Changes, Tables}
 use Rattle.publisher_core.specs.Audit.{items_of}
 use Rattle.publisher_core.specs.AuditParts.{BeginsWithLine, lines_in}
 use Rattle.publisher_core.specs.Records.{ended, HaveNoFeed}
-use Rattle.publisher_core.specs.Standing.{Gives, Reader, HasPublished, Waits, is_at_end}
+use Rattle.publisher_core.specs.Found.{Finds}
+use Rattle.publisher_core.specs.Standing.{FoundBy, GivenBy, Gives, HasFound, HasMade, HasPublished, HeldBy, KeptBy, Reader, Waits, is_at_end}
 use Rattle.record_lines.specs.Limits.{STEP_BYTES}
 use Rattle.publisher_core.specs.Stepping.{HoldsLast, IsDry, Steps}
+use Rattle.publisher_core.proofs.Behind.{finds_behind}
 use Rattle.publisher_core.proofs.Given.{ended-append}
-use Rattle.publisher_core.proofs.Standing.{over_dry}
+use Rattle.publisher_core.proofs.Giving.{over_dry}
 use Rattle.source_feeds.specs.Feeding.{IsLeft}
-use Rattle.source_feeds.specs.Taking.{BeginWith, ReadsTo, Takes, TakesAll, TakesFront, TakesGroups, front_lines}
+use Rattle.source_feeds.specs.Taking.{BeginWith, FindsTo, ReadsTo, Takes, TakesAll, TakesFront, TakesGroups, front_lines}
 use Rattle.source_feeds.proofs.Cuts.{Longer, compare, front_taken, more_lines, plain_first, plain_last, whole_lines}
 use Rattle.source_feeds.proofs.Groups.{held_begins, held_groups, short_groups}
 use Rattle.source_feeds.proofs.Splits.{audit_split, gives_split}
@@ -29,7 +32,37 @@ spelt lines held rest = ap (λ (bytes : List ℕ). bytes ++ rest) (ended-append 
 size_spelt : (lines held : List (List ℕ)) → length (ended (lines ++ held)) ≡ length (ended lines) + length (ended held)
 size_spelt lines held = ap length (ended-append lines held) ∙ length-append (ended lines) (ended held)
 
--- what a publisher that went on has taken since
+-- the lines that a publisher that went on has taken since
+pub record Further {Thing : Type 0} (Makes : Reader → ℕ → List (List ℕ) → List Thing → Type 0) (Keeps : Reader → List Thing → ℕ → List (List ℕ) → List (List ℕ) → Type 0) (old new : Reader) (kept : ℕ) (given all : List Thing) (stream fresh : List ℕ) (s : HasMade Makes Keeps old given kept stream) (t : HasMade Makes Keeps new all kept (stream ++ fresh)) : Type 0 where
+  pub more : List (List ℕ)
+  pub lines_are : t.lines ≡ s.lines ++ more
+  pub bytes : stream ++ fresh ≡ ended s.lines ++ (ended (more ++ t.held) ++ t.rest)
+  pub plain : HaveNoFeed (more ++ t.held)
+  pub place : new.taken ≡ old.taken + length (ended more)
+
+pub further : {Thing : Type 0} (Makes : Reader → ℕ → List (List ℕ) → List Thing → Type 0) (Keeps : Reader → List Thing → ℕ → List (List ℕ) → List (List ℕ) → Type 0) (old new : Reader) (kept : ℕ) (given all : List Thing) (stream fresh : List ℕ)
+    → (s : HasMade Makes Keeps old given kept stream) (t : HasMade Makes Keeps new all kept (stream ++ fresh)) → old.taken ≤ new.taken → Further Makes Keeps old new kept given all stream fresh s t
+further Makes Keeps old new kept given all stream fresh s t grown =
+    let old_place = s.taken in
+    let new_place = t.taken in
+    let here : ended s.lines ++ (ended s.held ++ (s.rest ++ fresh)) ≡ stream ++ fresh =
+    sym (ap (λ (bytes : List ℕ). bytes ++ fresh) (s.cut ∙ spelt s.lines s.held s.rest) ∙ append_assoc (ended s.lines) (ended s.held ++ s.rest) fresh
+    ∙ ap (λ (bytes : List ℕ). ended s.lines ++ bytes) (append_assoc (ended s.held) s.rest fresh)) in
+    let begins = more_lines s.lines t.lines (ended s.held ++ (s.rest ++ fresh)) (ended t.held ++ t.rest) (plain_first s.lines s.held s.plain) (plain_first t.lines t.held t.plain)
+    (here ∙ t.cut ∙ spelt t.lines t.held t.rest) (omega (arith, old_place, new_place, grown)) in
+    let more = begins.0 in
+    let lines_are = begins.1 in
+    let all_lines : t.lines ++ t.held ≡ s.lines ++ (more ++ t.held) = ap (λ (ls : List (List ℕ)). ls ++ t.held) lines_are ∙ append_assoc s.lines more t.held in
+    let size = ap (λ (ls : List (List ℕ)). length (ended ls)) lines_are ∙ size_spelt s.lines more in
+    record {
+      more = more;
+      lines_are = lines_are;
+      bytes = t.cut ∙ ap (λ (ls : List (List ℕ)). ended ls ++ t.rest) all_lines ∙ spelt s.lines (more ++ t.held) t.rest;
+      plain = plain_last s.lines (more ++ t.held) (subst HaveNoFeed all_lines t.plain);
+      place = omega (arith, old_place, new_place, size);
+    }
+
+-- what a publisher that went on has given since
 pub record Behind (old new : Reader) (kept : ℕ) (given pieces : List ReadRecord) (stream fresh : List ℕ) (s : HasPublished old given kept stream) (t : HasPublished new (given ++ pieces) kept (stream ++ fresh)) : Type 0 where
   pub more : List (List ℕ)
   pub lines_are : t.lines ≡ s.lines ++ more
@@ -42,27 +75,17 @@ pub record Behind (old new : Reader) (kept : ℕ) (given pieces : List ReadRecor
 pub behind : (old new : Reader) (kept : ℕ) (given pieces : List ReadRecord) (stream fresh : List ℕ) (s : HasPublished old given kept stream) (t : HasPublished new (given ++ pieces) kept (stream ++ fresh))
     → new.kind ≡ old.kind → new.paths ≡ old.paths → old.taken ≤ new.taken → Behind old new kept given pieces stream fresh s t
 behind old new kept given pieces stream fresh s t kind paths grown =
-    let old_place = s.taken in
-    let new_place = t.taken in
-    let here : ended s.lines ++ (ended s.held ++ (s.rest ++ fresh)) ≡ stream ++ fresh =
-    sym (ap (λ (bytes : List ℕ). bytes ++ fresh) (s.cut ∙ spelt s.lines s.held s.rest) ∙ append_assoc (ended s.lines) (ended s.held ++ s.rest) fresh
-    ∙ ap (λ (bytes : List ℕ). ended s.lines ++ bytes) (append_assoc (ended s.held) s.rest fresh)) in
-    let begins = more_lines s.lines t.lines (ended s.held ++ (s.rest ++ fresh)) (ended t.held ++ t.rest) (plain_first s.lines s.held s.plain) (plain_first t.lines t.held t.plain)
-    (here ∙ t.cut ∙ spelt t.lines t.held t.rest) (omega (arith, old_place, new_place, grown)) in
-    let more = begins.0 in
-    let lines_are = begins.1 in
-    let all_lines : t.lines ++ t.held ≡ s.lines ++ (more ++ t.held) = ap (λ (ls : List (List ℕ)). ls ++ t.held) lines_are ∙ append_assoc s.lines more t.held in
-    let all = subst (λ (ls : List (List ℕ)). Gives old.kind old.paths kept ls (given ++ pieces)) lines_are
+    let f = further GivenBy KeptBy old new kept given (given ++ pieces) stream fresh s t grown in
+    let all = subst (λ (ls : List (List ℕ)). Gives old.kind old.paths kept ls (given ++ pieces)) f.lines_are
     (subst (λ (k : SourceKind). Gives k old.paths kept t.lines (given ++ pieces)) kind (subst (λ (p : List Category). Gives new.kind p kept t.lines (given ++ pieces)) paths t.gives)) in
-    let size = ap (λ (ls : List (List ℕ)). length (ended ls)) lines_are ∙ size_spelt s.lines more in
     record {
-      more = more;
-      lines_are = lines_are;
-      bytes = t.cut ∙ ap (λ (ls : List (List ℕ)). ended ls ++ t.rest) all_lines ∙ spelt s.lines (more ++ t.held) t.rest;
-      plain = plain_last s.lines (more ++ t.held) (subst HaveNoFeed all_lines t.plain);
+      more = f.more;
+      lines_are = f.lines_are;
+      bytes = f.bytes;
+      plain = f.plain;
       all = all;
-      gives = subst (λ (n : ℕ). Gives old.kind old.paths n more pieces) (sym s.taken) (gives_split old.kind old.paths kept s.lines more given pieces s.gives all);
-      place = omega (arith, old_place, new_place, size);
+      gives = subst (λ (n : ℕ). Gives old.kind old.paths n f.more pieces) (sym s.taken) (gives_split old.kind old.paths kept s.lines f.more given pieces s.gives all);
+      place = f.place;
     }
 
 -- the source's bytes behind the offset at which the step began
@@ -208,6 +231,24 @@ takes_of tells old new kept given pieces stream before middle after most s steps
       let b = behind old new kept given pieces stream steps.fresh s d.stands kind paths grown in
       takes_by old new kept given pieces stream steps.fresh before after most s d.stands b left steps.count
       (λ bytes. inr (takes_front old new kept given pieces stream steps.fresh after (drop old.taken before) s d b kind bytes (inr enough)))
+
+-- the lines in which a step found these
+pub finds_of : (old new : Reader) (kept : ℕ) (before many : List Found) (stream fresh bytes after : List ℕ) (s : HasFound old before kept stream) (t : HasFound new (before ++ many) kept (stream ++ fresh))
+    → new.kind ≡ old.kind → old.taken ≤ new.taken → IsLeft bytes after kept (stream ++ fresh)
+    → FindsTo old.kind old.taken (drop old.taken bytes) many new.taken
+finds_of old new kept before many stream fresh bytes after s t kind grown left =
+    let f = further FoundBy HeldBy old new kept before (before ++ many) stream fresh s t grown in
+    let all : Finds old.kind kept (s.lines ++ f.more) (before ++ many) = subst (λ (ls : List (List ℕ)). Finds old.kind kept ls (before ++ many)) f.lines_are
+    (subst (λ (k : SourceKind). Finds k kept t.lines (before ++ many)) kind t.gives) in
+    let cut = bytes_behind bytes after left.dropped (ended s.lines) (ended (f.more ++ t.held) ++ t.rest) (stream ++ fresh) kept old.taken left.size left.bytes f.bytes s.taken in
+    record {
+      lines = f.more;
+      rest = ended t.held ++ (t.rest ++ after);
+      cut = cut ∙ append_assoc (ended (f.more ++ t.held)) t.rest after ∙ spelt f.more t.held (t.rest ++ after);
+      plain = plain_first f.more t.held f.plain;
+      gives = subst (λ (n : ℕ). Finds old.kind n f.more many) (sym s.taken) (finds_behind old.kind kept s.lines f.more before many s.gives all);
+      place = f.place;
+    }
 
 both_true : (a b : Bool) → (a && b) ≡ true → a ≡ true
 both_true true b is = refl

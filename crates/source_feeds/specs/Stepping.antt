@@ -1,13 +1,17 @@
 -- What a step of a feed does.
 use Rattle.std.specs.Prelude.{◌≡◌, ◌⊎◌, ℕ, ◌≤◌, true, false, List, ◌++◌, length, drop}
+use Rattle.std.specs.List.{AllZip}
 use Rattle.osq_value.specs.declared.reading.Category.{Category}
 use Rattle.osq_value.specs.declared.reading.Reading.{Reading}
+use Rattle.publisher_core.specs.declared.record.Found.{Found}
 use Rattle.publisher_core.specs.declared.record.ReadRecord.{ReadRecord}
+use Rattle.publisher_core.specs.declared.record.Record.{Record}
+use Rattle.publisher_core.specs.Found.{IsGiven, items_found}
 use Rattle.publisher_core.specs.Readings.{readings_of, skipped_of}
 use Rattle.publisher_core.specs.Standing.{is_at_end}
 use Rattle.record_lines.specs.Limits.{STEP_BYTES}
 use Rattle.source_feeds.specs.Feeding.{Fed, Feeding, counted}
-use Rattle.source_feeds.specs.Taking.{ReadsTo, Takes, TakesAll}
+use Rattle.source_feeds.specs.Taking.{FindsTo, ReadsTo, Takes, TakesAll}
 
 -- A step took these records behind those that were given before, and the readings are theirs. Where the source tells its bytes: all records of
 -- the session are those of the lines between the kept offset and the new one; the step took what a step takes of the bytes behind the offset
@@ -26,6 +30,15 @@ pub record IsStep (tells : Type 0) (before between after : List ℕ) (old new : 
   pub fresh : List ℕ
   pub left : tells → between ≡ fresh ++ after
   pub reads : tells → is_at_end new.reader ≡ false → (length pieces ≡ most) ⊎ (STEP_BYTES ≤ length fresh)
+
+-- A step showed these records, in order: those of which its readings came. Where the source tells its bytes, they are the records of the lines
+-- between the offset at which the step began and the new one.
+pub record IsShown (tells : Type 0) (before between after : List ℕ) (old new : Feeding) (kept : ℕ) (given : List ReadRecord) (most : ℕ) (readings : List Reading) (shown : List Record) : Type 0 where
+  pub step : IsStep tells before between after old new kept given most readings
+  pub found : List Found
+  pub each : AllZip (IsGiven old.reader.paths) found step.pieces
+  pub finds : tells → FindsTo old.kind old.reader.taken (drop old.reader.taken before) found new.reader.taken
+  pub shown_are : shown ≡ items_found found
 
 -- Of a source that had the bytes `before` to give when the session began, of which earlier sessions had `kept`, the feed counts the lines that were
 -- skipped up to some place, which isn't before `from`. It does so also where a call on it has refused.

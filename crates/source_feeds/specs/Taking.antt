@@ -3,7 +3,9 @@ use Rattle.std.specs.Prelude.{◌≡◌, ◌⊎◌, ℕ, ◌+◌, ◌≤◌, ◌
 use Rattle.osq_value.specs.declared.reading.Category.{Category}
 use Rattle.record_lines.specs.Lines.{HasNoFeed, lines_of}
 use Rattle.audit_records.specs.Groups.{groups_of}
+use Rattle.publisher_core.specs.declared.record.Found.{Found}
 use Rattle.publisher_core.specs.declared.record.ReadRecord.{ReadRecord}
+use Rattle.publisher_core.specs.Found.{Finds}
 use Rattle.osq_value.specs.declared.source.SourceKind.{SourceKind}
 use Rattle.osq_value.specs.declared.source.SourceKind.TheVariants.{Audit, Changes, Tables}
 use Rattle.publisher_core.specs.Audit.{items_of}
@@ -37,14 +39,22 @@ TakesFront Audit from bytes lines = BeginWith (front_lines bytes) lines ⊎ Take
 TakesFront Changes from bytes lines = BeginWith (front_lines bytes) lines
 TakesFront Tables from bytes lines = BeginWith (front_lines bytes) lines
 
--- of a source that has these bytes behind the offset `from` these are the records of the lines between `from` and `to`
-pub record ReadsTo (kind : SourceKind) (paths : List Category) (from : ℕ) (bytes : List ℕ) (pieces : List ReadRecord) (to : ℕ) : Type 0 where
+-- of a source that has these bytes behind the offset `from` these things are made of the lines between `from` and `to`
+pub record LinesTo {Thing : Type 0} (Makes : ℕ → List (List ℕ) → List Thing → Type 0) (from : ℕ) (bytes : List ℕ) (things : List Thing) (to : ℕ) : Type 0 where
   pub lines : List (List ℕ)
   pub rest : List ℕ
   pub cut : bytes ≡ ended lines ++ rest
   pub plain : HaveNoFeed lines
-  pub gives : Gives kind paths from lines pieces
+  pub gives : Makes from lines things
   pub place : to ≡ from + length (ended lines)
+
+-- they are what a callback makes of the records of these lines
+abbrev pub ReadsTo : SourceKind → List Category → ℕ → List ℕ → List ReadRecord → ℕ → Type 0
+ReadsTo kind paths from bytes pieces to = LinesTo (λ start lines given. Gives kind paths start lines given) from bytes pieces to
+
+-- they are what is found in these lines before a callback is asked
+abbrev pub FindsTo : SourceKind → ℕ → List ℕ → List Found → ℕ → Type 0
+FindsTo kind from bytes found to = LinesTo (λ start lines many. Finds kind start lines many) from bytes found to
 
 -- What a step takes of a source that has these bytes behind the offset `from`, where it may take `most` records: as many records of the
 -- first lines, or all lines of the first 16777216 bytes.

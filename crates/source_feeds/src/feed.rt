@@ -1,15 +1,16 @@
 //! A source of a session.
 
-ghost use Rattle.std.specs.Prelude.{◌≡◌, ◌≢◌, ◌<◌, ℕ, [], length, List, true, false, All, Err, IfOk, OnOk, IfErr};
+ghost use Rattle.std.specs.Prelude.{◌≡◌, ◌≢◌, ◌<◌, ◌++◌, ℕ, [], length, List, true, false, All, Err, IfOk, OnOk, IfErr};
 ghost use Rattle.osq_outside.specs.Causes.{FaultHasCause};
 ghost use Rattle.publisher_core.specs.declared.error.StepError.{StepError};
 ghost use Rattle.publisher_core.specs.declared.record.ReadRecord.{ReadRecord};
+ghost use Rattle.publisher_core.specs.declared.record.Record.{Record};
 ghost use Rattle.publisher_core.specs.Standing.{is_at_end};
 ghost use Rattle.publisher_core.specs.Stepping.{GrowsBy};
 ghost use Rattle.source_feeds.specs.Feeding.{Fed, IsOpen, SameFeed};
 ghost use Rattle.source_feeds.specs.Joining.{Rise};
 ghost use Rattle.source_feeds.specs.Readings.{IsReading};
-ghost use Rattle.source_feeds.specs.Stepping.{IsStep};
+ghost use Rattle.source_feeds.specs.Stepping.{IsShown, IsStep};
 
 use crate::skips::skipped_with;
 use osq_outside::Source;
@@ -17,6 +18,7 @@ use osq_value::{CategoryList, Copied, NoMemory, ReadingList, SourceKind, Str};
 use publisher_core::error::StepError;
 use publisher_core::publisher::Publisher;
 use publisher_core::subscription::{Recorded, Subscription};
+use publisher_core::watching::{Unseen, Watcher};
 use std::alloc::Global;
 use std::marker::Model;
 
@@ -129,7 +131,33 @@ impl Feed {
         ensures shrank { (kept found : ℕ) → result ≢ Err (StepError.SourceShrank kept found) }
         ensures cause { FaultHasCause StepError.SourceFault (S.faults source.old) (S.faults source.new) result }
     {
-        match self.publisher.step(source, most) {
+        self.step_seen(source, most, &mut Unseen)
+    }
+
+    /// Takes a step, and shows the records from which its readings come to the watcher, once each and in order. All else is as `step` has it.
+    /// What a watcher has seen in a step that is refused is not promised.
+    pub fn step_seen<S: Source, W: Watcher>(
+        &mut self,
+        source: &mut S,
+        most: u64,
+        watcher: &mut W,
+    ) -> Result<ReadingList, StepError>
+        requires begun { (self.old.reader.is_begun ≡ true) × (self.old.reader.is_spent ≡ false) }
+        ensures steps { (before : List ℕ) → (kept : ℕ) → (given : List ReadRecord) → Fed S.tells before (S.left source.old) self.old kept given
+            → IfOk result (λ readings. IsStep S.tells before (S.left source.old) (S.left source.new) self.old self.new kept given most readings) }
+        ensures seen { (before : List ℕ) → (kept : ℕ) → (given : List ReadRecord) → (seen : List Record) → Fed S.tells before (S.left source.old) self.old kept given → W.saw watcher.old seen
+            → IfOk result (λ readings. (shown : List Record) × IsShown S.tells before (S.left source.old) (S.left source.new) self.old self.new kept given most readings shown × W.saw watcher.new (seen ++ shown)) }
+        ensures each { IfOk result (λ readings. All IsReading readings) }
+        ensures rise { IfOk result (λ readings. Rise self.old.reader.taken readings self.new.reader.taken) }
+        ensures grown { IfOk result (λ readings. GrowsBy self.old.reader.taken self.new.reader.taken readings) }
+        ensures same { OnOk result (SameFeed self.old self.new) }
+        ensures spent { IfErr result (λ error. self.new.reader.is_spent ≡ true) }
+        ensures source { (self.new.name ≡ self.old.name) × (self.new.kind ≡ self.old.kind) }
+        ensures uncounted { IfErr result (λ error. self.new.skipped ≡ self.old.skipped) }
+        ensures shrank { (kept found : ℕ) → result ≢ Err (StepError.SourceShrank kept found) }
+        ensures cause { FaultHasCause StepError.SourceFault (S.faults source.old) (S.faults source.new) result }
+    {
+        match self.publisher.step_seen(source, most, watcher) {
             Ok(readings) => {
                 self.skipped = skipped_with(self.skipped, readings.as_slice());
                 Ok(readings)

@@ -1,5 +1,5 @@
 use Rattle.std.proofs.Common.{◌∙◌, sym}
-use Rattle.publisher_core.proofs.Standing.{over_dry}
+use Rattle.publisher_core.proofs.Giving.{over_dry}
 use Rattle.publisher_core.proofs.publisher.Publisher.at_end.Goals as goal
 
 pub returns-clause-all : goal.returns-clause-all

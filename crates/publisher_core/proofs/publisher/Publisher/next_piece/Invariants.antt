@@ -1,12 +1,12 @@
 use Rattle.std.proofs.Common.{◌≡◌, ℕ, List, length}
-use Rattle.publisher_core.specs.declared.record.ReadRecord.{ReadRecord}
-use Rattle.publisher_core.specs.Standing.{HasPublished}
+use Rattle.publisher_core.specs.declared.record.Found.{Found}
+use Rattle.publisher_core.specs.Standing.{HasFound}
 use Rattle.publisher_core.proofs.publisher.Publisher.next_piece.Given as goal
 
 abbrev pub invariant-loop-piece : goal.invariant-loop-piece
 invariant-loop-piece g l = record {
-  stands : (given : List ReadRecord) → (start : ℕ) → (stream : List ℕ) → HasPublished l.fn.self given start stream → HasPublished l.self given start stream;
-  still : (given : List ReadRecord) → (start : ℕ) → (stream : List ℕ) → HasPublished l.fn.self given start stream → l.self.taken ≡ l.fn.self.taken;
+  stands : (given : List Found) → (start : ℕ) → (stream : List ℕ) → HasFound l.fn.self given start stream → HasFound l.self given start stream;
+  still : (given : List Found) → (start : ℕ) → (stream : List ℕ) → HasFound l.fn.self given start stream → l.self.taken ≡ l.fn.self.taken;
   same : l.self ≡ record l.fn.self { taken = l.self.taken; cutter = l.self.cutter; gathering = l.self.gathering; ready = l.self.ready };
 }
 

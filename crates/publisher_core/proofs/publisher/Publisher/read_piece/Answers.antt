@@ -2,7 +2,7 @@ use Rattle.std.proofs.Common.{◌≡◌, ◌∙◌, ℕ, List, ◌+◌, ◌++◌
 use Rattle.std.proofs.lemmas.List.{with_items_is}
 use Rattle.publisher_core.specs.Records.{ended}
 use Rattle.publisher_core.specs.Standing.{Reader}
-use Rattle.publisher_core.specs.Stepping.{IsDry}
+use Rattle.publisher_core.specs.Stepping.{IsDrained}
 use Rattle.publisher_core.proofs.Standing.{fed}
 use Rattle.publisher_core.proofs.publisher.Publisher.read_piece.Goals as goal
 
@@ -12,7 +12,7 @@ returns-clause-read g c = λ given start stream d.
     let value = c.as_slice.ensures.value in
     let whole = with_items_is c.self.inside.piece c.read.new.into (c.read.auto.into ∙ c.as_mut_slice.ensures.len) in
     let size = c.split_at.ensures.front_len in
-    let dry = subst (λ (r : Reader). IsDry r given start stream) (sym c.self.view_is) d in
+    let dry = subst (λ (r : Reader). IsDrained r given start stream) (sym c.self.view_is) d in
     let s = dry.stands in
     let open_is : c.self.inside.is_ended ≡ false = ap (λ (r : Reader). r.is_ended) c.self.view_is ∙ c.requires.more in
     record {

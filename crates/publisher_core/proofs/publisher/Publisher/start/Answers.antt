@@ -1,6 +1,6 @@
 use Rattle.std.proofs.Common.{refl, subst, sym}
 use Rattle.publisher_core.specs.Standing.{Reader, HasPublished}
-use Rattle.publisher_core.proofs.Standing.{begins}
+use Rattle.publisher_core.proofs.Giving.{begins}
 use Rattle.publisher_core.proofs.publisher.Publisher.start.Goals as goal
 
 pub returns-in-Ok-clause-stands : goal.returns-in-Ok-clause-stands

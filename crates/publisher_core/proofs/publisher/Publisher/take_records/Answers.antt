@@ -1,91 +1,101 @@
-use Rattle.std.proofs.Common.{◌≡◌, ◌⊎◌, ◌∙◌, ◌≤◌, ◌<◌, List, [], ◌∷◌, ◌++◌, length, length-append, sym, ap, subst, true, inl, inr, arith, Option, MatchOption, Ok}
+use Rattle.std.proofs.Common.{◌≡◌, ◌∙◌, ◌≤◌, ◌<◌, ◌+◌, List, [], ◌∷◌, ◌++◌, length, length-append, append_assoc, append-nil, refl, sym, ap, subst, arith, Option, MatchOption, Some, None}
+use Rattle.std.specs.List.{AllZip}
+use Rattle.std.proofs.lemmas.Slice.Zip.{AllZip-long}
+use Rattle.osq_value.specs.declared.reading.Category.{Category}
+use Rattle.publisher_core.specs.declared.record.Found.{Found}
 use Rattle.publisher_core.specs.declared.record.ReadRecord.{ReadRecord}
-use Rattle.publisher_core.specs.Standing.{Reader, HasPublished}
-use Rattle.record_lines.specs.Limits.{STEP_BYTES}
-use Rattle.publisher_core.specs.Stepping.{GrowsBy, IsDry, UnderWay}
-use Rattle.publisher_core.proofs.Stepping.{more_given, more_read, dry_steps, full_steps, next_same, read_same, end_read, grows_more, grows_same}
+use Rattle.publisher_core.specs.declared.record.Record.{Record}
+use Rattle.publisher_core.specs.Found.{IsGiven, item_of, items_found}
+use Rattle.publisher_core.specs.Standing.{Reader, HasFound}
+use Rattle.publisher_core.specs.Stepping.{FindsNext, GrowsBy, UnderWay}
+use Rattle.publisher_core.proofs.Given.{zip_more}
+use Rattle.publisher_core.proofs.Giving.{items_more}
+use Rattle.publisher_core.proofs.Stepping.{begun, dry_steps, full_steps, grows_more, grows_same, more_found, source_same}
 use Rattle.publisher_core.proofs.publisher.Publisher.take_records.Goals as goal
-use Rattle.publisher_core.proofs.publisher.Publisher.take_records.Goals.{then-self-via-then-self, then-self-via-else-self+then-read-ge-STEP_BYTES}
-
-pub loop-self-preserved-in-Ok-push : goal.loop-self-preserved-in-Ok-push
-loop-self-preserved-in-Ok-push g c =
-    let i = c.loop-self.invariant in
-    let pushed : c.push.new.self ≡ c.loop-self.pieces ++ c.in-Ok-Some.piece ∷ [] = c.in-Ok.ensures.ok in
-    let size = ap length pushed ∙ length-append c.loop-self.pieces (c.in-Ok-Some.piece ∷ []) in
-    let less = c.loop-self-test.true in
-    let len = c.len.ensures in
-    record {
-      within = i.within;
-      few = omega (arith, size, less, len);
-      later = i.later;
-      end = λ before told over. i.end before told (sym (ap (λ (r : Reader). r.is_ended) c.in-Ok-Some.ensures.same) ∙ over);
-      same = next_same c.args.self.now c.loop-self.self c.next_piece.new.self i.same c.in-Ok-Some.ensures.same;
-      grown = λ given start stream s.
-          let w = i.way given start stream s in
-          let less =
-          subst (λ (o : Option ReadRecord). MatchOption o (c.next_piece.new.self.taken ≡ c.loop-self.self.taken) (λ (piece : ReadRecord). c.loop-self.self.taken < c.next_piece.new.self.taken))
-          c.in-Ok-Some.field-0-is (c.in-Ok-Some.ensures.grown (given ++ c.loop-self.pieces) start (stream ++ w.fresh) w.stands) in
-          subst (λ (ps : List ReadRecord). GrowsBy c.args.self.now.taken c.next_piece.new.self.taken ps) (sym pushed)
-          (grows_more c.args.self.now.taken c.loop-self.self.taken c.next_piece.new.self.taken c.loop-self.pieces c.in-Ok-Some.piece (i.grown given start stream s) less);
-      way = λ given start stream s.
-          let w = i.way given start stream s in
-          let found = subst (λ (o : Option ReadRecord). MatchOption o (IsDry c.next_piece.new.self (given ++ c.loop-self.pieces) start (stream ++ w.fresh)) (λ (piece : ReadRecord). HasPublished c.next_piece.new.self ((given ++ c.loop-self.pieces) ++ piece ∷ []) start (stream ++ w.fresh)))
-          c.in-Ok-Some.field-0-is (c.in-Ok-Some.ensures.found (given ++ c.loop-self.pieces) start (stream ++ w.fresh) w.stands) in
-          subst (λ (ps : List ReadRecord). UnderWay g.S.Source.tells (g.S.Source.left c.args.source.now) (g.S.Source.left c.loop-self.source) c.next_piece.new.self given start stream ps c.loop-self.read) (sym pushed)
-          (more_given g.S.Source.tells _ _ _ c.next_piece.new.self given start stream c.loop-self.pieces c.in-Ok-Some.piece c.loop-self.read w found);
-    }
-
-pub returns-then-self-clause-steps : goal.returns-then-self-clause-steps
-returns-then-self-clause-steps g c = λ given start stream s.
-    let i = c.loop-self.invariant in
-    let w = i.way given start stream s in
-    let dry = subst (λ (o : Option ReadRecord). MatchOption o (IsDry c.next_piece.new.self (given ++ c.loop-self.pieces) start (stream ++ w.fresh)) (λ (piece : ReadRecord). HasPublished c.next_piece.new.self ((given ++ c.loop-self.pieces) ++ piece ∷ []) start (stream ++ w.fresh)))
-    c.in-Ok-None.field-0-is (c.in-Ok-None.ensures.found (given ++ c.loop-self.pieces) start (stream ++ w.fresh) w.stands) in
-    let why : (c.next_piece.new.self.is_ended ≡ true) ⊎ (STEP_BYTES ≤ c.loop-self.read) = elim c.then-self.branch [
-      | then-self-via-then-self b ↦ inl (sym (ap (λ (r : Reader). r.is_ended) c.self-in-Ok-None.view_is) ∙ b.if-self.true)
-      | then-self-via-else-self+then-read-ge-STEP_BYTES b ↦ inr b.if-read-ge-STEP_BYTES.true
-    ] in
-    dry_steps g.S.Source.tells _ _ _ c.next_piece.new.self given start stream c.loop-self.pieces c.loop-self.read c.args.most w dry i.few why
 
 pub loop-self-preserved : goal.loop-self-preserved
 loop-self-preserved g c =
     let i = c.loop-self.invariant in
-    let reads = c.in-Ok-read_piece.ensures.count in
-    let over = c.if-read-ge-STEP_BYTES.false in
-    let later = c.in-Ok-read_piece.ensures.cause.later in
-    let before = i.later in
+    let one = c.in-Ok-Some.one in
+    let piece = c.in-Ok.piece in
+    let pushed : c.push.new.self ≡ c.loop-self.pieces ++ piece ∷ [] = c.in-Ok-push.ensures.ok in
+    let size = ap length pushed ∙ length-append c.loop-self.pieces (piece ∷ []) in
+    let less = c.loop-self-test.true in
+    let len = c.len.ensures in
+    let later = c.in-Ok-Some.ensures.cause.later in
+    let before_later = i.later in
+    let same = source_same c.args.self.now c.loop-self.self c.next_found.new.self i.same c.in-Ok-Some.ensures.same in
+    let paths = ap (λ (r : Reader). r.paths) c.self-in-loop-self.view_is ∙ same.paths in
     record {
-      within = omega (arith, reads, over);
-      few = i.few;
-      later = omega (arith, later, before);
-      end = λ at told over. end_read c.in-Ok-read_piece.count c.read_piece.new.self.is_ended (g.S.Source.left c.read_piece.new.source) c.in-Ok-read_piece.ensures.end.0 c.in-Ok-read_piece.ensures.end.1 (λ none. c.in-Ok-read_piece.ensures.left told (ap Ok none)) over;
-      same = read_same c.args.self.now c.next_piece.new.self c.read_piece.new.self (next_same c.args.self.now c.loop-self.self c.next_piece.new.self i.same c.in-Ok-None.ensures.same) c.in-Ok-read_piece.ensures.same;
-      grown = λ given start stream s.
-          let w = i.way given start stream s in
-          let still =
-          subst (λ (o : Option ReadRecord). MatchOption o (c.next_piece.new.self.taken ≡ c.loop-self.self.taken) (λ (piece : ReadRecord). c.loop-self.self.taken < c.next_piece.new.self.taken))
-          c.in-Ok-None.field-0-is (c.in-Ok-None.ensures.grown (given ++ c.loop-self.pieces) start (stream ++ w.fresh) w.stands) in
-          grows_same c.args.self.now.taken c.loop-self.self.taken c.read_piece.new.self.taken c.loop-self.pieces (i.grown given start stream s) (ap (λ (r : Reader). r.taken) c.in-Ok-read_piece.ensures.same ∙ still);
-      way = λ given start stream s.
-          let w = i.way given start stream s in
-          let dry = subst (λ (o : Option ReadRecord). MatchOption o (IsDry c.next_piece.new.self (given ++ c.loop-self.pieces) start (stream ++ w.fresh)) (λ (piece : ReadRecord). HasPublished c.next_piece.new.self ((given ++ c.loop-self.pieces) ++ piece ∷ []) start (stream ++ w.fresh)))
-          c.in-Ok-None.field-0-is (c.in-Ok-None.ensures.found (given ++ c.loop-self.pieces) start (stream ++ w.fresh) w.stands) in
-          more_read g.S.Source.tells _ _ _ _ c.read_piece.new.self given start stream c.loop-self.pieces c.loop-self.read c.in-Ok-read_piece.count w
-          (c.in-Ok-read_piece.ensures.read (given ++ c.loop-self.pieces) start (stream ++ w.fresh) dry);
+      within = c.in-Ok-Some.ensures.within;
+      few = omega (arith, size, less, len);
+      later = omega (arith, later, before_later);
+      end = λ at told over. c.in-Ok-Some.ensures.end (i.end at) told over;
+      same = same;
+      many = i.many ++ one ∷ [];
+      each = subst (λ (ps : List ReadRecord). AllZip (IsGiven c.args.self.now.paths) (i.many ++ one ∷ []) ps) (sym pushed)
+          (zip_more (IsGiven c.args.self.now.paths) i.many c.loop-self.pieces one piece i.each (subst (λ (p : List Category). IsGiven p one piece) paths c.in-Ok.ensures.given));
+      shown = λ seen saw.
+          subst (λ (rs : List Record). g.W.Watcher.saw c.given.new.watcher rs) (append_assoc seen (items_found i.many) (item_of one) ∙ ap (λ (rs : List Record). seen ++ rs) (sym (items_more i.many one)))
+          (c.in-Ok.ensures.seen (seen ++ items_found i.many) (i.shown seen saw));
+      grown = λ before start stream s.
+          let w = i.way before start stream s in
+          let up =
+          subst (λ (o : Option Found). MatchOption o (c.next_found.new.self.taken ≡ c.loop-self.self.taken) (λ (x : Found). c.loop-self.self.taken < c.next_found.new.self.taken))
+          c.in-Ok-Some.field-0-is (c.in-Ok-Some.ensures.grown (before ++ i.many) start (stream ++ w.fresh) w.stands) in
+          subst (λ (ps : List ReadRecord). GrowsBy c.args.self.now.taken c.next_found.new.self.taken ps) (sym pushed)
+          (grows_more c.args.self.now.taken c.loop-self.self.taken c.next_found.new.self.taken c.loop-self.pieces piece (i.grown before start stream s) up);
+      way = λ before start stream s.
+          let w = i.way before start stream s in
+          more_found g.S.Source.tells _ _ _ _ c.next_found.new.self before start stream i.many one _ _ w
+          (subst (λ (o : Option Found). FindsNext g.S.Source.tells (g.S.Source.left c.loop-self.source) (g.S.Source.left c.next_found.new.source) c.next_found.new.self (before ++ i.many) start (stream ++ w.fresh) c.loop-self.read c.next_found.new.read o)
+          c.in-Ok-Some.field-0-is (c.in-Ok-Some.ensures.found (before ++ i.many) start (stream ++ w.fresh) w.stands));
     }
 
-pub returns-clause-steps : goal.returns-clause-steps
-returns-clause-steps g c = λ given start stream s.
+pub returns-in-Ok-None-clause-seen : goal.returns-in-Ok-None-clause-seen
+returns-in-Ok-None-clause-seen g c = λ before start stream s.
+    let i = c.loop-self.invariant in
+    let w = i.way before start stream s in
+    let size = AllZip-long (IsGiven c.args.self.now.paths) i.many c.loop-self.pieces i.each in
+    let few = i.few in (
+      i.many,
+      i.each,
+      dry_steps g.S.Source.tells _ _ _ _ c.next_found.new.self before start stream i.many _ _ c.args.most w
+          (subst (λ (o : Option Found). FindsNext g.S.Source.tells (g.S.Source.left c.loop-self.source) (g.S.Source.left c.next_found.new.source) c.next_found.new.self (before ++ i.many) start (stream ++ w.fresh) c.loop-self.read c.next_found.new.read o)
+          c.in-Ok-None.field-0-is (c.in-Ok-None.ensures.found (before ++ i.many) start (stream ++ w.fresh) w.stands)) (omega (arith, size, few)),
+      i.shown,
+    )
+
+pub returns-clause-seen : goal.returns-clause-seen
+returns-clause-seen g c = λ before start stream s.
     let i = c.loop-self.invariant in
     let over = c.loop-self-test.false in
     let len = c.len.ensures in
     let few = i.few in
-    full_steps g.S.Source.tells _ _ _ given start stream c.loop-self.pieces c.loop-self.read c.args.most (i.way given start stream s) (omega (arith, over, len, few))
+    let size = AllZip-long (IsGiven c.args.self.now.paths) i.many c.loop-self.pieces i.each in
+    (i.many, i.each, full_steps g.S.Source.tells _ _ _ before start stream i.many c.loop-self.read c.args.most (i.way before start stream s) (omega (arith, over, len, few, size)), i.shown)
 
-pub returns-then-self-clause-grown : goal.returns-then-self-clause-grown
-returns-then-self-clause-grown g c = λ given start stream s.
+pub returns-in-Ok-None-clause-grown : goal.returns-in-Ok-None-clause-grown
+returns-in-Ok-None-clause-grown g c = λ before start stream s.
     let i = c.loop-self.invariant in
-    let w = i.way given start stream s in
-    let still = subst (λ (o : Option ReadRecord). MatchOption o (c.next_piece.new.self.taken ≡ c.loop-self.self.taken) (λ (piece : ReadRecord). c.loop-self.self.taken < c.next_piece.new.self.taken))
-    c.in-Ok-None.field-0-is (c.in-Ok-None.ensures.grown (given ++ c.loop-self.pieces) start (stream ++ w.fresh) w.stands) in
-    grows_same c.args.self.now.taken c.loop-self.self.taken c.next_piece.new.self.taken c.loop-self.pieces (i.grown given start stream s) still
+    let w = i.way before start stream s in
+    let still = subst (λ (o : Option Found). MatchOption o (c.next_found.new.self.taken ≡ c.loop-self.self.taken) (λ (x : Found). c.loop-self.self.taken < c.next_found.new.self.taken))
+    c.in-Ok-None.field-0-is (c.in-Ok-None.ensures.grown (before ++ i.many) start (stream ++ w.fresh) w.stands) in
+    grows_same c.args.self.now.taken c.loop-self.self.taken c.next_found.new.self.taken c.loop-self.pieces (i.grown before start stream s) still
+
+pub loop-self-init : goal.loop-self-init
+loop-self-init g c =
+    let none = c.new-pieces.ensures in
+    let size = ap length none in
+    record {
+      within = omega arith;
+      few = omega (arith, size);
+      later = omega arith;
+      end = λ at. at;
+      same = record { kind = refl; paths = refl; is_begun = refl; is_spent = refl };
+      many = [];
+      each = subst (λ (ps : List ReadRecord). AllZip (IsGiven c.args.self.now.paths) [] ps) (sym none) tt;
+      shown = λ seen saw. subst (λ (rs : List Record). g.W.Watcher.saw c.args.watcher.now rs) (sym (append-nil seen)) saw;
+      grown = λ before start stream s. subst (λ (ps : List ReadRecord). GrowsBy c.args.self.now.taken c.args.self.now.taken ps) (sym none) refl;
+      way = λ before start stream s. begun g.S.Source.tells (g.S.Source.left c.args.source.now) c.args.self.now before start stream s;
+    }
