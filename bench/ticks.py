@@ -10,6 +10,8 @@ one of the differences is told.
 - slices: 1000 ticks more of an evented query that has read all of the live events, by tick (goal 0.1 ms beside 1000000).
 - cuts: 1000 ticks more of a snapshot query, whose cut holds all of 50000 live events and reads none of them, by tick, less the same beside no event.
   Beside it a copy of 50000 rows of ten values in Python, whose values are shared as a cut's are (goal 0.02 of it).
+- readers: 1000 ticks more of 10000 evented queries that are due in the first tick alone and for which the old of 100000 events wait, by tick, less the
+  same with snapshot queries, which hold nothing back (goal 5 ms).
 - events: the peak of a session of 1000000 events of ten columns, less that of one of 500000, by event (goal 500 bytes).
 - steady: the peak of sessions of 50000, 100000 and 150000 ticks, in each of which an event comes and one expires: bytes a tick between them. The
   keeper in memory holds the kept list, which gains four entries and an event a tick; what a tick takes is in step with it where both figures are one.
@@ -117,6 +119,18 @@ def cuts(program: str, folder: pathlib.Path, events: int) -> None:
     print(f"  a cut of {events} live events: {(beside - alone) * 1e6:.0f} microseconds, {(beside - alone) / copying:.4f} of a copy")
 
 
+def readers(program: str, folder: pathlib.Path, queries: int, events: int) -> None:
+    sources = ("--changes", str(changes(folder, events)))
+    took = []
+    for kind in ({}, {"snapshot": True}):
+        asked = {"query": "SELECT target_path FROM file_events WHERE action = 'DELETED'", "interval": 604800, **kind}
+        config = configured(folder, "readers", {f"q{at:05}": asked for at in range(queries)})
+        # a hundred events a tick, so that the first one's batches see few
+        first = events // 100 + 3
+        took.append(apart(replay(program, config, first + MANY, *sources, records=100), replay(program, config, first, *sources, records=100)) / MANY)
+    print(f"  a tick of {queries} readers beside {events} live events: {(took[0] - took[1]) * 1e3:.2f} ms more than of as many snapshots")
+
+
 def events(program: str, folder: pathlib.Path, count: int) -> None:
     config = configured(folder, "bare", {})
     many = peak(replay(program, config, 3 + count // 80000, "--changes", str(changes(folder, count))))
@@ -147,6 +161,7 @@ def main() -> None:
             tables(program, folder, 300000)
             slices(program, folder, 1000000)
             cuts(program, folder, 50000)
+            readers(program, folder, 10000, 100000)
 
 
 if __name__ == "__main__":
