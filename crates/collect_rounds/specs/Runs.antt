@@ -1,12 +1,13 @@
 -- What a run of a collector leaves.
 use Rattle.std.specs.Prelude.{◌≡◌, ℕ, ◌+◌, ◌*◌, ◌≤◌, ◌<◌, ◌^◌, Bool, true, false, List, [], ◌++◌, length, take, Result, Ok, Err}
+use Rattle.record_lines.specs.Limits.{PIECE_BYTES, STEP_BYTES}
 use Rattle.record_lines.specs.Lines.{lines_of}
 use Rattle.collector_core.specs.Received.{HostDigests}
 use Rattle.collector_answers.specs.declared.judging.Judged.{Judged}
 use Rattle.collector_answers.specs.Judging.{AreJudged}
 use Rattle.collect_rounds.specs.Collecting.{added_lines, after_lines, answers_to, behind_rest}
 
--- and so reads at most so many
+-- a round ends once it has read the bytes of a step, and so reads at most so many
 abbrev pub ROUND_BYTES : ℕ
 ROUND_BYTES = STEP_BYTES + PIECE_BYTES
 
