@@ -3,7 +3,7 @@ use Rattle.std.specs.Prelude.{◌≡◌, ℕ, ◌<◌, ◌≤◌, ◌^◌, List,
 use Rattle.batch_frames.specs.declared.error.BadKind.{BadKind}
 use Rattle.batch_frames.specs.declared.error.BadKind.TheVariants as fault
 use Rattle.batch_frames.specs.declared.frame.Frame.{Frame}
-use Rattle.batch_frames.specs.Decodes.{IsBad, IsFrameOf, IsNoFrame}
+use Rattle.batch_frames.specs.Decodes.{IsBad, IsFrameOf, IsNoFrame, ReadsFrame}
 use Rattle.batch_frames.specs.Texts.{IsHeld, digest_of}
 use Rattle.collector_answers.specs.declared.answer.BadAnswer.{BadAnswer}
 use Rattle.collector_answers.specs.declared.answer.BadAnswer.TheVariants.{TooLong, NotJson, WrongShape, BadDigest, NotCanonical}
@@ -26,6 +26,11 @@ bad_kind NotCanonical = Some fault.NotCanonical
 abbrev pub IsJudged : List ℕ → Judged → Type 0
 IsJudged line (Framed frame digest) = (length line ≤ LIMIT) × IsFrameOf line frame × (digest ≡ digest_of frame) × IsHeld frame
 IsJudged line (Bad kind) = MatchOption (bad_kind kind) (LIMIT < length line) (λ k. (length line ≤ LIMIT) × IsNoFrame line × IsBad line k)
+
+-- no other frame that can be held has this text
+abbrev pub IsAlone : List ℕ → Judged → Type 0
+IsAlone line (Framed frame digest) = ReadsFrame line frame
+IsAlone line (Bad kind) = Unit {0}
 
 -- each line is that to a collector
 abbrev pub AreJudged : List (List ℕ) → List Judged → Type 0

@@ -1,7 +1,7 @@
 //! The lines that a collector is sent.
 
 ghost use Rattle.std.specs.Prelude.{◌≡◌, Some, IfOk};
-ghost use Rattle.collector_answers.specs.Judging.{IsJudged, bad_kind};
+ghost use Rattle.collector_answers.specs.Judging.{IsAlone, IsJudged, bad_kind};
 
 use crate::answer::{BadAnswer, Digest};
 use crate::held::held;
@@ -44,7 +44,8 @@ fn kind_of(kind: BadKind) -> BadAnswer
 /// The frame that a line is, without its line feed, or what is wrong with it: TooLong where it has more than 1073741824 bytes, whatever
 /// they are, and else what `decode_frame` says.
 pub fn judge(alloc: Global, line: &[u8]) -> Result<Judged, NoMemory>
-    ensures { IfOk result (IsJudged line.now) }
+    ensures judged { IfOk result (IsJudged line.now) }
+    ensures alone { IfOk result (IsAlone line.now) }
 {
     if line.len() as u64 > FRAME_LIMIT {
         return Ok(Judged::Bad {

@@ -1,12 +1,12 @@
 -- What holds of the frames that are received.
 use Rattle.std.proofs.Common.{◌≡◌, ◌∙◌, ℕ, ◌+◌, ◌==◌, Bool, true, false, List, [], ◌∷◌, ◌++◌, length, map, cond, bytes_eq, ap, refl, sym, subst, arith}
-use Rattle.std.specs.Prelude.{if◌then◌else◌}
+use Rattle.std.specs.Prelude.{◌&&◌, if◌then◌else◌}
 use Rattle.std.proofs.lemmas.List.{append_assoc, append-nil, length_push}
 use Rattle.std.proofs.lemmas.Slice.Eq.{bytes_eq-Decides}
 use Rattle.batch_frames.specs.Texts.{digest_of}
 use Rattle.batch_frames.specs.declared.frame.Frame.{Frame}
-use Rattle.collector_core.specs.Laws.{Stays, AreNumbered, InOrder, Isolation, Once, frames_of}
-use Rattle.collector_core.specs.Received.{HostDigests, all_received, none_recorded, received}
+use Rattle.collector_core.specs.Laws.{Stays, AreNumbered, InOrder, Isolation, Once, Recorded, frames_of}
+use Rattle.collector_core.specs.Received.{HostDigests, all_received, none_recorded, received, recorded_from}
 use Rattle.collector_core.specs.Receipts.{kept_after}
 
 -- the digests of a host after its frames
@@ -91,3 +91,26 @@ stays recorded (frame ∷ frames) host =
     let first = added-own (bytes_eq frame.host host) (recorded host) frame.batch.number (digest_of frame) in
     let later = stays (received recorded frame) frames host in
     (first.0 ++ later.0, later.1 ∙ ap (λ (digests : List (List ℕ)). digests ++ later.0) first.1 ∙ append_assoc (recorded host) first.0 later.0)
+
+-- the digests of a host after a frame, which is its own or not, and the next or not
+abbrev after_frame : Bool → Bool → List (List ℕ) → Frame → List (List ℕ)
+after_frame own next digests frame = if own then (if next then digests ++ digest_of frame ∷ [] else digests) else digests
+
+recorded-step : (host : List ℕ) (own next : Bool) (digests : List (List ℕ)) (frame : Frame) (frames : List Frame)
+    → digests ++ map digest_of (if own && next then frame ∷ recorded_from (length digests + 1) host frames else recorded_from (length digests) host frames)
+    ≡ after_frame own next digests frame ++ map digest_of (recorded_from (length (after_frame own next digests frame)) host frames)
+recorded-step host true true digests frame frames =
+    ap (λ (n : ℕ). digests ++ digest_of frame ∷ map digest_of (recorded_from n host frames)) (sym (length_push digests (digest_of frame)))
+    ∙ sym (append_assoc digests (digest_of frame ∷ []) (map digest_of (recorded_from (length (digests ++ digest_of frame ∷ [])) host frames)))
+recorded-step host true false digests frame frames = refl
+recorded-step host false next digests frame frames = refl
+
+recorded-on : (host : List ℕ) (recorded : HostDigests) (frames : List Frame)
+    → recorded host ++ map digest_of (recorded_from (length (recorded host)) host frames) ≡ all_received recorded frames host
+recorded-on host recorded [] = append-nil (recorded host)
+recorded-on host recorded (frame ∷ frames) =
+    recorded-step host (bytes_eq frame.host host) (frame.batch.number == length (recorded host) + 1) (recorded host) frame frames
+    ∙ recorded-on host (received recorded frame) frames
+
+pub recorded : Recorded
+recorded host frames = recorded-on host none_recorded frames

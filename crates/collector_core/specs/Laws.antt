@@ -2,7 +2,7 @@
 use Rattle.std.specs.Prelude.{◌≡◌, ℕ, ◌+◌, bytes_eq, List, [], ◌∷◌, ◌++◌, filter, map}
 use Rattle.batch_frames.specs.Texts.{digest_of}
 use Rattle.batch_frames.specs.declared.frame.Frame.{Frame}
-use Rattle.collector_core.specs.Received.{HostDigests, all_received, none_recorded, received}
+use Rattle.collector_core.specs.Received.{HostDigests, all_received, none_recorded, received, recorded_from}
 
 -- the frames of a host
 abbrev pub frames_of : List ℕ → List Frame → List Frame
@@ -29,3 +29,7 @@ AreNumbered number host (frame ∷ frames) = (frame.host ≡ host) × (frame.bat
 -- of frames numbered 1, 2, 3 .. each is recorded
 abbrev pub InOrder : Type 0
 InOrder = (host : List ℕ) (frames : List Frame) → AreNumbered 1 host frames → all_received none_recorded frames host ≡ map digest_of frames
+
+-- the digests that are kept of a host are those of the frames that are recorded of it
+abbrev pub Recorded : Type 0
+Recorded = (host : List ℕ) (frames : List Frame) → map digest_of (recorded_from 0 host frames) ≡ all_received none_recorded frames host

@@ -1,5 +1,5 @@
 -- What is recorded of each host once frames are received, one after another.
-use Rattle.std.specs.Prelude.{ℕ, bytes_eq, List, [], ◌∷◌, if◌then◌else◌}
+use Rattle.std.specs.Prelude.{ℕ, ◌+◌, ◌==◌, ◌&&◌, bytes_eq, List, [], ◌∷◌, if◌then◌else◌}
 use Rattle.batch_frames.specs.Texts.{digest_of}
 use Rattle.batch_frames.specs.declared.frame.Frame.{Frame}
 use Rattle.collector_core.specs.Receipts.{kept_after}
@@ -21,3 +21,9 @@ received recorded frame host =
 abbrev pub all_received : HostDigests → List Frame → HostDigests
 all_received recorded [] = recorded
 all_received recorded (frame ∷ frames) = all_received (received recorded frame) frames
+
+-- of the frames that come one after another those of a host that are recorded, where so many were before: each time the next number
+abbrev pub recorded_from : ℕ → List ℕ → List Frame → List Frame
+recorded_from count host [] = []
+recorded_from count host (frame ∷ frames) =
+    if bytes_eq frame.host host && frame.batch.number == count + 1 then frame ∷ recorded_from (count + 1) host frames else recorded_from count host frames
