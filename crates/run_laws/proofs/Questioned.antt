@@ -2,7 +2,6 @@
 use Rattle.std.proofs.Common.{◌≡◌, ◌∙◌, ℕ, List, ◌++◌, Some, ap, sym, subst}
 use Rattle.batch_frames.specs.declared.frame.Frame.{Frame}
 use Rattle.collector_ledger.specs.Frames.{AreRecorded}
-use Rattle.collector_ledger.proofs.Frames.{recorded_once}
 use Rattle.fleet_query.specs.Tables.{fleet_derived, fleet_view}
 use Rattle.program_words.specs.declared.command.FleetWords.{FleetWords}
 use Rattle.sql_meaning.specs.Meaning.{meaning_of}
@@ -17,7 +16,7 @@ use Rattle.osq_program.specs.Fleets.{IsFleet, IsRefusedFrom, ShowsRows, causes_o
 use Rattle.osq_program.specs.Observed.{Observed}
 use Rattle.osq_program.specs.Querying.{IsRefusedOver, row_lines}
 use Rattle.run_laws.specs.Completeness.{IsComplete}
-use Rattle.run_laws.specs.Questions.{AnswerAlike, AsksOf, QuestionsIsolate}
+use Rattle.run_laws.specs.Questions.{AnswerAlike, AsksOf, QuestionsIsolate, RecordSame}
 use Rattle.run_laws.specs.Ready.{IsFleetReady, NoneFails}
 use Rattle.run_laws.proofs.Accepted.{none_some, some_same}
 use Rattle.run_laws.proofs.Settled.{settled}
@@ -56,39 +55,69 @@ same_fault frames text place at kind name (fault, some, there, named) (other, al
     let same : fault ≡ other = some_same (sym some ∙ also) in
     (there ∙ ap place_of_fault same ∙ sym here, named ∙ ap name_of_fault same ∙ sym called)
 
-module _ (host text : List ℕ) (frames : List Frame) where
-  -- the frames of an answer are those
-  one_list : (words : FleetWords) (seen : Observed) → AsksOf host text frames words seen → (others : List Frame) → AreRecorded (file_in words seen) words.host others → others ≡ frames
-  one_list words seen asks others are =
-      recorded_once (file_in words seen) host others frames (subst (λ (h : List ℕ). AreRecorded (file_in words seen) h others) asks.host_is are) asks.recorded
+-- the lines of an answer, and a refusal, are over frames of the host that the file records
+record Answered (host text : List ℕ) (words : FleetWords) (seen : Observed) (lines : List ℕ) : Type 0 where
+  frames : List Frame
+  recorded : AreRecorded (file_in words seen) host frames
+  shows : ShowsRows frames text lines
+  grown : seen.results_after ≡ seen.results_before ++ lines
 
-  done_by : (words : FleetWords) (seen : Observed) → AsksOf host text frames words seen → IsFleet words seen Done → (lines : List ℕ) × ShowsRows frames text lines × (seen.results_after ≡ seen.results_before ++ lines)
+record Refused (host text : List ℕ) (words : FleetWords) (seen : Observed) (place : ℕ) (kind : List ℕ) : Type 0 where
+  frames : List Frame
+  recorded : AreRecorded (file_in words seen) host frames
+  refused : IsRefusedOver (fleet_derived frames) text place kind
+
+module _ (host text : List ℕ) where
+  of_host : (words : FleetWords) (seen : Observed) → AsksOf host text words seen → (frames : List Frame) → AreRecorded (file_in words seen) words.host frames → AreRecorded (file_in words seen) host frames
+  of_host words seen asks frames are = subst (λ (h : List ℕ). AreRecorded (file_in words seen) h frames) asks.host_is are
+
+  done_by : (words : FleetWords) (seen : Observed) → AsksOf host text words seen → IsFleet words seen Done → (lines : List ℕ) × Answered host text words seen lines
   done_by words seen asks does =
-      let (lines, has, grown) = does.leaves in
-      let one = one_list words seen asks has.frames (has.are asks.files_tell) in
-      (lines, subst (λ (fs : List Frame). ShowsRows fs text lines) one (subst (λ (t : List ℕ). ShowsRows has.frames t lines) asks.text_is has.shows), grown asks.sink_tells)
+      let (lines, has, grown) = does.leaves in (
+        lines,
+        record {
+          frames = has.frames;
+          recorded = of_host words seen asks has.frames (has.are asks.files_tell);
+          shows = subst (λ (t : List ℕ). ShowsRows has.frames t lines) asks.text_is has.shows;
+          grown = grown asks.sink_tells;
+        },
+      )
 
-  refused_by : (words : FleetWords) (seen : Observed) (place : ℕ) (kind : List ℕ) → AsksOf host text frames words seen → IsRefusedFrom words seen place kind → IsRefusedOver (fleet_derived frames) text place kind
-  refused_by words seen place kind asks (others, are, refused) =
-      let one = one_list words seen asks others (are asks.files_tell) in
-      subst (λ (fs : List Frame). IsRefusedOver (fleet_derived fs) text place kind) one (subst (λ (t : List ℕ). IsRefusedOver (fleet_derived others) t place kind) asks.text_is refused)
+  refused_by : (words : FleetWords) (seen : Observed) (place : ℕ) (kind : List ℕ) → AsksOf host text words seen → IsRefusedFrom words seen place kind → Refused host text words seen place kind
+  refused_by words seen place kind asks (frames, are, refused) = record {
+    frames = frames;
+    recorded = of_host words seen asks frames (are asks.files_tell);
+    refused = subst (λ (t : List ℕ). IsRefusedOver (fleet_derived frames) t place kind) asks.text_is refused;
+  }
 
-  module _ (words others : FleetWords) (seen other : Observed) (asks : AsksOf host text frames words seen) (also : AsksOf host text frames others other) where
+  module _ (words others : FleetWords) (seen other : Observed) (asks : AsksOf host text words seen) (also : AsksOf host text others other) (same : RecordSame host (file_in words seen) (file_in others other)) where
     alike : (status answer : Status) → IsFleet words seen status → IsFleet others other answer → AnswerAlike seen other status answer
     alike Done Done one two =
-        let (lines, shows, grown) = done_by words seen asks one in
-        let (its, showing, grows) = done_by others other also two in
-        (lines, grown, grows ∙ ap (λ (l : List ℕ). other.results_before ++ l) (same_lines frames text its lines showing shows))
+        let (lines, mine) = done_by words seen asks one in
+        let (its, theirs) = done_by others other also two in
+        let is = same mine.frames theirs.frames mine.recorded theirs.recorded in
+        let shows : ShowsRows theirs.frames text lines = subst (λ (frames : List Frame). ShowsRows frames text lines) is mine.shows in
+        (lines, mine.grown, theirs.grown ∙ ap (λ (l : List ℕ). other.results_before ++ l) (same_lines theirs.frames text its lines theirs.shows shows))
     alike Done (QueryRefused place kind) one two =
-        let (lines, shows, grown) = done_by words seen asks one in
-        shown_not_refused frames text lines place kind.now shows (refused_by others other place kind.now also (two.cause tt))
+        let (lines, mine) = done_by words seen asks one in
+        let theirs = refused_by others other place kind.now also (two.cause tt) in
+        let is = same mine.frames theirs.frames mine.recorded theirs.recorded in
+        let shows : ShowsRows theirs.frames text lines = subst (λ (frames : List Frame). ShowsRows frames text lines) is mine.shows in
+        shown_not_refused theirs.frames text lines place kind.now shows theirs.refused
     alike (QueryRefused place kind) Done one two =
-        let (lines, shows, grown) = done_by others other also two in
-        shown_not_refused frames text lines place kind.now shows (refused_by words seen place kind.now asks (one.cause tt))
+        let mine = refused_by words seen place kind.now asks (one.cause tt) in
+        let (lines, theirs) = done_by others other also two in
+        let is = same mine.frames theirs.frames mine.recorded theirs.recorded in
+        let refused : IsRefusedOver (fleet_derived theirs.frames) text place kind.now = subst (λ (frames : List Frame). IsRefusedOver (fleet_derived frames) text place kind.now) is mine.refused in
+        shown_not_refused theirs.frames text lines place kind.now theirs.shows refused
     alike (QueryRefused place kind) (QueryRefused at name) one two =
-        same_fault frames text place at kind.now name.now (refused_by words seen place kind.now asks (one.cause tt)) (refused_by others other at name.now also (two.cause tt))
+        let mine = refused_by words seen place kind.now asks (one.cause tt) in
+        let theirs = refused_by others other at name.now also (two.cause tt) in
+        let is = same mine.frames theirs.frames mine.recorded theirs.recorded in
+        let refused : IsRefusedOver (fleet_derived theirs.frames) text place kind.now = subst (λ (frames : List Frame). IsRefusedOver (fleet_derived frames) text place kind.now) is mine.refused in
+        same_fault theirs.frames text place at kind.now name.now refused theirs.refused
     alike _ _ one two = tt
 
 pub questions_isolate : {W : Type 0} (observed : W → W → Observed) → QuestionsIsolate observed
-questions_isolate observed host text frames words others old new first last status answer asks also one two =
-    alike host text frames words others (observed old new) (observed first last) asks also status answer one two
+questions_isolate observed host text words others old new first last status answer asks also same one two =
+    alike host text words others (observed old new) (observed first last) asks also same status answer one two
