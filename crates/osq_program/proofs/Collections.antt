@@ -16,7 +16,7 @@ use Rattle.osq_program.specs.Ending.{IsNamedAt}
 use Rattle.osq_program.specs.Observed.{Observed}
 use Rattle.osq_program.specs.Reasons.{HasFailed}
 use Rattle.osq_program.specs.Report.{HasFields, IsRefusedAs, IsUnread}
-use Rattle.osq_program.specs.Telling.{MayCollectTell}
+use Rattle.osq_program.specs.Telling.{MayTellOfLedger}
 
 -- the stream is what the first source gives
 pub first_stream : {S : Type 0} → (left : S → List ℕ) (sources : List S) (source : S) → slice_get sources 0 ≡ Some source → stream (map left sources) ≡ left source
@@ -88,8 +88,8 @@ stopped_as sources stop.SinkFault stopped status by (inr (fields, is)) = absurd 
 stopped_as sources stop.NoMemory stopped status by (inr (fields, is)) = absurd (subst HasFields by fields)
 
 -- none of these answers tells of a file
-pub collect_may : (words : CollectWords) (error : CollectError) (status : Status) → IsStoppedBy words.sources error status → MayCollectTell words status []
-collect_may words stop.SourceFault status (inl is) = subst (λ (s : Status). MayCollectTell words s []) (sym is) refl
-collect_may words stop.SourceFault status (inr (name, named, is)) = subst (λ (s : Status). MayCollectTell words s []) (sym is) refl
-collect_may words stop.SinkFault status is = subst (λ (s : Status). MayCollectTell words s []) (sym is) refl
-collect_may words stop.NoMemory status is = subst (λ (s : Status). MayCollectTell words s []) (sym is) refl
+pub collect_may : (words : CollectWords) (error : CollectError) (status : Status) → IsStoppedBy words.sources error status → MayTellOfLedger words.ledger status []
+collect_may words stop.SourceFault status (inl is) = subst (λ (s : Status). MayTellOfLedger words.ledger s []) (sym is) refl
+collect_may words stop.SourceFault status (inr (name, named, is)) = subst (λ (s : Status). MayTellOfLedger words.ledger s []) (sym is) refl
+collect_may words stop.SinkFault status is = subst (λ (s : Status). MayTellOfLedger words.ledger s []) (sym is) refl
+collect_may words stop.NoMemory status is = subst (λ (s : Status). MayTellOfLedger words.ledger s []) (sym is) refl

@@ -4,7 +4,7 @@ use Rattle.std.proofs.Common.{◌∙◌, ◌≡◌, Bool, true, false, List, [],
 use Rattle.std.specs.Prelude.{ℕ, unwrap_or}
 use Rattle.program_words.specs.Commands.{words_of}
 use Rattle.program_words.specs.declared.command.CommandWords.{CommandWords}
-use Rattle.program_words.specs.declared.command.CommandWords.TheVariants.{Replay as AsksReplay, Daemon as AsksDaemon, Query as AsksQuery, Check as AsksCheck, Collect as AsksCollect, Generate as AsksGenerate, SelfTest as AsksSelfTest, Report as AsksReport}
+use Rattle.program_words.specs.declared.command.CommandWords.TheVariants.{Replay as AsksReplay, Daemon as AsksDaemon, Query as AsksQuery, Check as AsksCheck, Collect as AsksCollect, Generate as AsksGenerate, SelfTest as AsksSelfTest, Report as AsksReport, Fleet as AsksFleet}
 use Rattle.program_words.specs.declared.command.QueryWords.{QueryWords}
 use Rattle.program_words.specs.declared.error.WordsError.{WordsError}
 use Rattle.program_words.specs.declared.error.WordsError.TheVariants as faults
@@ -45,6 +45,7 @@ wants (AsksCheck words) seen unread kept same ledger = wants_memory words seen O
 wants (AsksCollect words) seen unread kept same ledger = record { leaves = inl (λ tells. (same tells, ledger tells)); quiet = λ done. absurd done; cause = λ refusal. tt; kept = kept }
 wants (AsksSelfTest words) seen unread kept same ledger = untested words seen same OutOfMemory refl
 wants (AsksReport words) seen unread kept same ledger = record { leaves = same; quiet = λ done. absurd done; unspent = λ spent. spent; cause = λ refusal. tt; kept = kept }
+wants (AsksFleet words) seen unread kept same ledger = record { leaves = same; quiet = λ done. absurd done; unspent = λ spent. spent; cause = λ refusal. tt; kept = kept }
 wants (AsksGenerate words) seen unread kept same ledger = memory_wanting words seen (λ tells. (0, same tells ∙ sym (append-nil seen.results_before))) OutOfMemory refl
 
 pub wants_by : (command : CommandWords) (seen : Observed) (status : Status) → status ≡ OutOfMemory → seen.has_read [] → (seen.keeper_tells → seen.kept_after ≡ seen.kept_before) → (seen.sink_tells → seen.results_after ≡ seen.results_before) → (seen.sink_tells → seen.ledger_after ≡ seen.ledger_before) → MeetsCommand command seen status
@@ -75,6 +76,7 @@ wanting (AsksCollect words) seen unread told = record { tells = λ short. record
 wanting (AsksGenerate words) seen unread told = record { tells = λ short. record { front = []; before = refl; behind = told } }
 wanting (AsksSelfTest words) seen unread told = record { tells = λ short. record { front = []; before = refl; behind = told } }
 wanting (AsksReport words) seen unread told = record { tells = λ short. record { front = []; before = refl; behind = told } }
+wanting (AsksFleet words) seen unread told = record { tells = λ short. record { front = []; before = refl; behind = told } }
 
 pub tells_wanting : (command : CommandWords) (seen : Observed) (status : Status) → status ≡ OutOfMemory → seen.has_read [] → (seen.sink_tells → Tells seen.status_failed seen.status_before seen.status_after (refusal_line OutOfMemory)) → TellsCommand command seen status
 tells_wanting command seen status is unread told = subst (λ (s : Status). TellsCommand command seen s) (sym is) (wanting command seen unread told)

@@ -1,20 +1,21 @@
 -- What a run of each command does.
 use Rattle.std.specs.Prelude.{Bool, true, false}
 use Rattle.program_words.specs.declared.command.CommandWords.{CommandWords}
-use Rattle.program_words.specs.declared.command.CommandWords.TheVariants.{Replay as AsksReplay, Daemon as AsksDaemon, Query as AsksQuery, Check as AsksCheck, Collect as AsksCollect, Generate as AsksGenerate, SelfTest as AsksSelfTest, Report as AsksReport}
+use Rattle.program_words.specs.declared.command.CommandWords.TheVariants.{Replay as AsksReplay, Daemon as AsksDaemon, Query as AsksQuery, Check as AsksCheck, Collect as AsksCollect, Generate as AsksGenerate, SelfTest as AsksSelfTest, Report as AsksReport, Fleet as AsksFleet}
 use Rattle.program_words.specs.declared.command.QueryWords.{QueryWords}
 use Rattle.session_model.specs.Orders.{in_turn, at_once}
 use Rattle.osq_program.specs.declared.status.Status.{Status}
 use Rattle.osq_program.specs.Checking.{IsCheck}
 use Rattle.osq_program.specs.Collecting.{IsCollect}
 use Rattle.osq_program.specs.Explaining.{IsExplain}
+use Rattle.osq_program.specs.Fleets.{IsFleet}
 use Rattle.osq_program.specs.Generating.{IsGenerate}
 use Rattle.osq_program.specs.Querying.{IsQuery}
 use Rattle.osq_program.specs.Replaying.{IsReplay}
 use Rattle.osq_program.specs.Reporting.{IsShown}
 use Rattle.osq_program.specs.Observed.{Observed}
 use Rattle.osq_program.specs.SelfTesting.{IsSelfTest}
-use Rattle.osq_program.specs.Telling.{TellsAlone, TellsCheck, TellsCollect, TellsQuery, TellsReplay}
+use Rattle.osq_program.specs.Telling.{TellsAlone, TellsCheck, TellsCollect, TellsFleet, TellsQuery, TellsReplay}
 
 abbrev pub QueriesBy : Bool → QueryWords → Observed → Status → Type 0
 QueriesBy true words seen status = IsExplain (record { text = words.text }) seen status
@@ -32,6 +33,7 @@ MeetsCommand (AsksCollect words) seen status = IsCollect words seen status
 MeetsCommand (AsksGenerate words) seen status = IsGenerate words seen status
 MeetsCommand (AsksSelfTest words) seen status = IsSelfTest words seen status
 MeetsCommand (AsksReport words) seen status = IsShown seen status
+MeetsCommand (AsksFleet words) seen status = IsFleet words seen status
 
 abbrev pub TellsQueryBy : Bool → QueryWords → Observed → Status → Type 0
 TellsQueryBy true words seen status = TellsAlone seen status
@@ -50,3 +52,4 @@ TellsCommand (AsksCollect words) seen status = TellsCollect words seen status
 TellsCommand (AsksGenerate words) seen status = TellsAlone seen status
 TellsCommand (AsksSelfTest words) seen status = TellsAlone seen status
 TellsCommand (AsksReport words) seen status = TellsAlone seen status
+TellsCommand (AsksFleet words) seen status = TellsFleet words seen status

@@ -11,7 +11,8 @@ use Rattle.result_batches.specs.Labels.{labelled}
 use Rattle.result_batches.specs.Lines.{object}
 use Rattle.sql_texts.specs.Meaning.{names_of}
 use Rattle.sql_texts.specs.declared.text.TextError.{TextError}
-use Rattle.sql_texts.specs.TextFaults.{text_fault, place_of_fault, name_of_fault}
+use Rattle.sql_query.specs.declared.derived.Derived.{Derived}
+use Rattle.sql_texts.specs.TextFaults.{text_fault, text_fault_with, place_of_fault, name_of_fault}
 use Rattle.session_model.specs.Given.{Given}
 use Rattle.query_rounds.specs.Asking.{IsAnswer, AnswersSomeContinuation, Spends}
 use Rattle.query_rounds.specs.Skipping.{TellsSkipped}
@@ -31,6 +32,11 @@ row_lines names rows = flat_map (λ row. object names row ++ 10 ∷ []) rows
 -- the same by the labels of the names
 abbrev pub labelled_lines : List (List ℕ) → List (List Value) → List ℕ
 labelled_lines labels rows = flat_map (λ row. labelled labels row ++ 10 ∷ []) rows
+
+-- where FROM may mean these tables too, the text's fault is this
+abbrev pub IsRefusedOver : List Derived → List ℕ → ℕ → List ℕ → Type 0
+IsRefusedOver derived text place kind =
+    (fault : TextError) × (text_fault_with derived text ≡ Some fault) × (place ≡ place_of_fault fault) × (kind ≡ name_of_fault fault)
 
 -- the text's fault is this
 abbrev pub IsRefusedAt : List ℕ → ℕ → List ℕ → Type 0

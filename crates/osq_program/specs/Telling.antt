@@ -2,6 +2,7 @@
 use Rattle.std.specs.Prelude.{◌≡◌, ◌⊎◌, ℕ, Bool, false, List, [], ◌++◌}
 use Rattle.program_words.specs.declared.command.CheckWords.{CheckWords}
 use Rattle.program_words.specs.declared.command.CollectWords.{CollectWords}
+use Rattle.program_words.specs.declared.command.FleetWords.{FleetWords}
 use Rattle.program_words.specs.declared.command.QueryWords.{QueryWords}
 use Rattle.program_words.specs.declared.command.ReplayWords.{ReplayWords}
 use Rattle.session_model.specs.Given.{Given}
@@ -47,12 +48,16 @@ TellsAlone seen status = TellsEnd (λ status front. front ≡ []) seen status
 abbrev pub TellsUnread : (List ℕ → Type 0) → List ℕ → Type 0
 TellsUnread is_file front = (file : List ℕ) × is_file file × (front ≡ unread_line file)
 
-abbrev pub MayCollectTell : CollectWords → Status → List ℕ → Type 0
-MayCollectTell words FilesFault front = front ≡ unread_line words.ledger
-MayCollectTell words status front = front ≡ []
+-- the ledger's file of this path can't be read
+abbrev pub MayTellOfLedger : List ℕ → Status → List ℕ → Type 0
+MayTellOfLedger ledger FilesFault front = front ≡ unread_line ledger
+MayTellOfLedger ledger status front = front ≡ []
 
 abbrev pub TellsCollect : CollectWords → Observed → Status → Type 0
-TellsCollect words seen status = TellsEnd (MayCollectTell words) seen status
+TellsCollect words seen status = TellsEnd (MayTellOfLedger words.ledger) seen status
+
+abbrev pub TellsFleet : FleetWords → Observed → Status → Type 0
+TellsFleet words seen status = TellsEnd (MayTellOfLedger words.ledger) seen status
 
 -- before a fault of a sink there stands what a session would tell of the configuration
 abbrev pub MayCheckTell : CheckWords → Observed → Status → List ℕ → Type 0

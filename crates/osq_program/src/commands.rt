@@ -4,10 +4,11 @@ ghost use Rattle.std.specs.Prelude.{◌≡◌, ◌≢◌, ℕ, List, [], ◌∷�
 ghost use Rattle.program_words.specs.Bounds.{IsBounded, RunBounds};
 ghost use Rattle.program_words.specs.declared.command.CheckWords.{CheckWords};
 ghost use Rattle.program_words.specs.declared.command.CollectWords.{CollectWords};
+ghost use Rattle.program_words.specs.declared.command.FleetWords.{FleetWords};
 ghost use Rattle.program_words.specs.declared.command.GenerateWords.{GenerateWords};
 ghost use Rattle.program_words.specs.declared.command.QueryWords.{QueryWords};
 ghost use Rattle.program_words.specs.declared.command.ReportWords.{ReportWords};
-ghost use Rattle.program_words.specs.declared.command.CommandWords.TheVariants.{Check as AsksCheck, Collect as AsksCollect, Generate as AsksGenerate, Query as AsksQuery, Report as AsksReport, SelfTest as AsksSelfTest};
+ghost use Rattle.program_words.specs.declared.command.CommandWords.TheVariants.{Check as AsksCheck, Collect as AsksCollect, Fleet as AsksFleet, Generate as AsksGenerate, Query as AsksQuery, Report as AsksReport, SelfTest as AsksSelfTest};
 ghost use Rattle.program_words.specs.Commands.{by_threads, sources_in};
 ghost use Rattle.osq_program.specs.Answers.{IsUsageStatus};
 ghost use Rattle.osq_program.specs.Commands.{is_forwarding};
@@ -16,6 +17,7 @@ ghost use Rattle.osq_program.specs.Doing.{MeetsCommand, DoesQuery, TellsCommand,
 use crate::check::run_check;
 use crate::collect::run_collect;
 use crate::explain::run_explain;
+use crate::fleet::run_fleet;
 use crate::generate::run_generate;
 use crate::orders::run_in_turn;
 use crate::outside::{Observes, Outside};
@@ -73,6 +75,7 @@ pub(crate) fn run_command<S: Source, O: Sink, F: Files, C: Clock, K: Keeper, L: 
     ensures generate_unread { (generate : GenerateWords) → words.now ≡ AsksGenerate generate → outside.new ≡ record outside.old { results = outside.new.results; status = outside.new.status } }
     ensures self_test_unread { (load : GenerateWords) → words.now ≡ AsksSelfTest load → outside.new ≡ record outside.old { results = outside.new.results; status = outside.new.status } }
     ensures report_unread { (report : ReportWords) → words.now ≡ AsksReport report → outside.new ≡ record outside.old { results = outside.new.results; status = outside.new.status; keeper = outside.new.keeper } }
+    ensures fleet_unread { (fleet : FleetWords) → words.now ≡ AsksFleet fleet → outside.new ≡ record outside.old { results = outside.new.results; status = outside.new.status; files = outside.new.files } }
     ensures does { MeetsCommand words.now (⟦<Outside<S, O, F, C, K, L> as Observes>⟧.observed outside.old outside.new) result }
     ensures told { TellsCommand words.now (⟦<Outside<S, O, F, C, K, L> as Observes>⟧.observed outside.old outside.new) result }
 {
@@ -85,5 +88,6 @@ pub(crate) fn run_command<S: Source, O: Sink, F: Files, C: Clock, K: Keeper, L: 
         CommandWords::Generate(words) => run_generate(alloc, words, outside),
         CommandWords::SelfTest(words) => run_self_test(alloc, words, outside),
         CommandWords::Report(_) => run_report(alloc, outside),
+        CommandWords::Fleet(words) => run_fleet(alloc, words, outside),
     }
 }

@@ -4,13 +4,13 @@ ghost use Rattle.std.specs.Prelude.{◌≡◌, ◌≤◌, List, ◌∷◌, [], �
 ghost use Rattle.osq_outside.specs.Causes.{Rose};
 ghost use Rattle.program_words.specs.Bounds.{RunBounds};
 ghost use Rattle.osq_program.specs.Answers.{no_causes, IsCaused, IsDoneStatus, IsUsageStatus};
-ghost use Rattle.osq_program.specs.Querying.{IsQuery, IsRefusedAt, Writes, labelled_lines, row_lines};
+ghost use Rattle.osq_program.specs.Querying.{IsQuery, IsRefusedAt, IsRefusedOver, Writes, labelled_lines, row_lines};
 ghost use Rattle.osq_program.specs.Report.{Tells, refusal_line};
 ghost use Rattle.osq_program.specs.Telling.{EndsShort, TellsQuery};
 ghost use Rattle.sql_query.specs.Answers.{result_names};
 ghost use Rattle.sql_query.specs.Resolved.{query_of};
-ghost use Rattle.sql_texts.specs.TextFaults.{text_fault};
-ghost use Rattle.sql_texts.specs.Texts.{query_in};
+ghost use Rattle.sql_texts.specs.TextFaults.{text_fault, text_fault_with};
+ghost use Rattle.sql_texts.specs.Texts.{query_in, query_with_in};
 
 use crate::ending::{answer_to, ended};
 use crate::outside::{Observes, Outside};
@@ -26,17 +26,19 @@ use query_rounds::{Asked, ask_kept};
 use result_batches::labels::{Labels, labels_of};
 use result_batches::object::push_object;
 use sql_query::answers::names_of;
+use sql_query::derived::Derived;
 use sql_query::query::Query;
-use sql_texts::text::{TextError, query_of_text};
+use sql_texts::text::{TextError, query_with};
 use std::alloc::Global;
 
-/// The query that the text asks for.
-pub(crate) fn asked(alloc: Global, text: &str) -> Result<Query, Status>
-    ensures query { IfOk result (λ query. query_in text.now ≡ Some (query_of query)) }
-    ensures accepted { OnOk result (text_fault text.now ≡ None) }
-    ensures cause { IfErr result (IsCaused (record no_causes { query = IsRefusedAt text.now })) }
+/// The query that the text asks for where FROM may mean these tables too.
+pub(crate) fn asked_over(alloc: Global, derived: &[Derived], text: &str) -> Result<Query, Status>
+    requires few { length derived.now ≤ 100 }
+    ensures query { IfOk result (λ query. query_with_in derived.now text.now ≡ Some (query_of query)) }
+    ensures accepted { OnOk result (text_fault_with derived.now text.now ≡ None) }
+    ensures cause { IfErr result (IsCaused (record no_causes { query = IsRefusedOver derived.now text.now })) }
 {
-    match query_of_text(alloc, text) {
+    match query_with(alloc, text, derived) {
         Ok(query) => Ok(query),
         Err(TextError::NoMemory) => Err(Status::OutOfMemory),
         Err(error) => Err(Status::QueryRefused {
@@ -44,6 +46,16 @@ pub(crate) fn asked(alloc: Global, text: &str) -> Result<Query, Status>
             kind: error.name(),
         }),
     }
+}
+
+/// The query that the text asks for where FROM means the catalogue's tables alone.
+#[tactic(auto, unfolding(sql_texts::specs::TextFaults::text_fault, sql_texts::specs::Texts::query_in))]
+pub(crate) fn asked(alloc: Global, text: &str) -> Result<Query, Status>
+    ensures query { IfOk result (λ query. query_in text.now ≡ Some (query_of query)) }
+    ensures accepted { OnOk result (text_fault text.now ≡ None) }
+    ensures cause { IfErr result (IsCaused (record no_causes { query = IsRefusedAt text.now })) }
+{
+    asked_over(alloc, &[], text)
 }
 
 /// A line for each row: its object, by the labels of the names.
@@ -67,7 +79,7 @@ fn lines_of(alloc: Global, names: &TextList, rows: &RowList) -> Result<Bytes, No
 }
 
 /// The lines that show these rows of a query.
-fn answer_lines(alloc: Global, query: &Query, rows: &RowList) -> Result<Bytes, NoMemory>
+pub(crate) fn answer_lines(alloc: Global, query: &Query, rows: &RowList) -> Result<Bytes, NoMemory>
     ensures { IfOk result (λ lines. lines ≡ row_lines (result_names (query_of query.now)) rows.now) }
 {
     let names = names_of(alloc, query)?;

@@ -15,7 +15,7 @@ use Rattle.clap.proofs.FaultLemmas.{leaf_fault}
 use Rattle.clap.specs.declared.builder.value_parser.Reading.TheVariants.{AsWritten}
 use Rattle.clap.specs.declared.parser.matches.ValueSource.TheVariants.{DefaultValue}
 use Rattle.program_words.specs.declared.command.CommandName.{CommandName}
-use Rattle.program_words.specs.declared.command.CommandName.TheVariants.{Replay, Daemon, Query, Check, Collect, Generate, SelfTest, Report}
+use Rattle.program_words.specs.declared.command.CommandName.TheVariants.{Replay, Daemon, Query, Check, Collect, Generate, SelfTest, Report, Fleet}
 use Rattle.program_words.specs.declared.name.Name.{Name}
 use Rattle.program_words.specs.declared.name.Name.TheVariants.{Other}
 use Rattle.program_words.specs.declared.name.Takes.{Takes}
@@ -194,6 +194,7 @@ required_real Collect = refl
 required_real Generate = refl
 required_real SelfTest = refl
 required_real Report = refl
+required_real Fleet = refl
 
 optional_real : (command : CommandName) → are_names (optional command) ≡ true
 unfolding optional place
@@ -205,6 +206,7 @@ optional_real Collect = refl
 optional_real Generate = refl
 optional_real SelfTest = refl
 optional_real Report = refl
+optional_real Fleet = refl
 
 abbrev rules_of : CommandName → List Rule
 rules_of command = filled_from 1 (table (required command) (optional command))
@@ -257,6 +259,7 @@ simple Collect = refl
 simple Generate = refl
 simple SelfTest = refl
 simple Report = refl
+simple Fleet = refl
 
 -- the words that clap reads, with no `--` among them
 no_two : (word : List ℕ) → is_refused word ≡ false → not (bytes_eq word dashes) ≡ true

@@ -7,13 +7,13 @@ use Rattle.std.proofs.lemmas.Slice.Eq.{bytes_eq-Decides}
 use Rattle.program_words.specs.declared.name.Name.{Name}
 use Rattle.program_words.specs.declared.name.Name.TheVariants.{Config, Host, Platform, Agent, Text, Audit, Changes, Tables, Start, Step, Ticks, Records, Explain, Frames, Ledger, Store, From, Count, Workers, FramesOut, AnswersIn}
 use Rattle.program_words.specs.declared.command.CommandName.{CommandName}
-use Rattle.program_words.specs.declared.command.CommandName.TheVariants.{Replay, Daemon, Query, Check, Collect, Generate, SelfTest, Report}
-use Rattle.program_words.specs.declared.command.CommandWords.TheVariants.{Replay as AsReplay, Daemon as AsDaemon, Query as AsQuery, Check as AsCheck, Collect as AsCollect, Generate as AsGenerate, SelfTest as AsSelfTest, Report as AsReport}
+use Rattle.program_words.specs.declared.command.CommandName.TheVariants.{Replay, Daemon, Query, Check, Collect, Generate, SelfTest, Report, Fleet}
+use Rattle.program_words.specs.declared.command.CommandWords.TheVariants.{Replay as AsReplay, Daemon as AsDaemon, Query as AsQuery, Check as AsCheck, Collect as AsCollect, Generate as AsGenerate, SelfTest as AsSelfTest, Report as AsReport, Fleet as AsFleet}
 use Rattle.osq_value.specs.declared.source.SourceKind.{SourceKind}
 use Rattle.osq_value.specs.declared.source.SourceKind.TheVariants.{Audit as AuditLog, Changes as ChangeList, Tables as TableLines}
 use Rattle.program_words.specs.Names.{is_source, place, same_name, takes}
 use Rattle.program_words.specs.Given.{Given, is_named, none_repeats, number_of, number_or, number_taken, repeats, same_value, stands, value_of, value_or}
-use Rattle.program_words.specs.Commands.{are_options, asked_by, check_of, collect_of, daemon_of, command_with, default_agent, default_platform, generate_of, has_few_sources, has_required, has_whole_link, is_right, link_by, link_of, query_of, replay_of, report_of, required, sources_named, sources_of}
+use Rattle.program_words.specs.Commands.{are_options, asked_by, check_of, collect_of, daemon_of, command_with, default_agent, default_platform, fleet_of, generate_of, has_few_sources, has_required, has_whole_link, is_right, link_by, link_of, query_of, replay_of, report_of, required, sources_named, sources_of}
 use Rattle.program_words.specs.Laws.{AnyOrder}
 use Rattle.program_words.proofs.Swaps.{count_by-swap, filter-swap, find-swap, list_all-same, list_all-swap, list_any-swap}
 
@@ -138,6 +138,10 @@ module _ (front : List Given) (g h : Given) (behind : List Given) (different : s
   unfolding report_of
   report_of-swap = cc (value_or-swap [] Store)
 
+  fleet_of-swap : fleet_of (front ++ g ∷ h ∷ behind) ≡ fleet_of (front ++ h ∷ g ∷ behind)
+  unfolding fleet_of
+  fleet_of-swap = cc (value_or-swap [] Ledger, value_or-swap [] Host, value_or-swap [] Text)
+
   asked_by-swap : (command : CommandName) → asked_by command (front ++ g ∷ h ∷ behind) ≡ asked_by command (front ++ h ∷ g ∷ behind)
   asked_by-swap Replay = ap AsReplay replay_of-swap
   asked_by-swap Daemon = ap AsDaemon daemon_of-swap
@@ -147,6 +151,7 @@ module _ (front : List Given) (g h : Given) (behind : List Given) (different : s
   asked_by-swap Generate = ap AsGenerate generate_of-swap
   asked_by-swap SelfTest = ap AsSelfTest generate_of-swap
   asked_by-swap Report = ap AsReport report_of-swap
+  asked_by-swap Fleet = ap AsFleet fleet_of-swap
 
   has_required-swap : (command : CommandName) → has_required command (front ++ g ∷ h ∷ behind) ≡ has_required command (front ++ h ∷ g ∷ behind)
   unfolding has_required

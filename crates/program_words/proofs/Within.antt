@@ -11,16 +11,16 @@ use Rattle.program_words.specs.declared.name.Name.TheVariants.{Config, Host, Pla
 use Rattle.program_words.specs.declared.name.Takes.{Takes}
 use Rattle.program_words.specs.declared.name.Takes.TheVariants.{Number}
 use Rattle.program_words.specs.declared.command.CommandName.{CommandName}
-use Rattle.program_words.specs.declared.command.CommandName.TheVariants.{Replay, Daemon, Query, Check, Collect, Generate, SelfTest, Report}
+use Rattle.program_words.specs.declared.command.CommandName.TheVariants.{Replay, Daemon, Query, Check, Collect, Generate, SelfTest, Report, Fleet}
 use Rattle.program_words.specs.declared.command.CommandWords.{CommandWords}
-use Rattle.program_words.specs.declared.command.CommandWords.TheVariants.{Replay as AsReplay, Daemon as AsDaemon, Query as AsQuery, Check as AsCheck, Collect as AsCollect, Generate as AsGenerate, SelfTest as AsSelfTest, Report as AsReport}
+use Rattle.program_words.specs.declared.command.CommandWords.TheVariants.{Replay as AsReplay, Daemon as AsDaemon, Query as AsQuery, Check as AsCheck, Collect as AsCollect, Generate as AsGenerate, SelfTest as AsSelfTest, Report as AsReport, Fleet as AsFleet}
 use Rattle.osq_value.specs.declared.source.SourceKind.{SourceKind}
 use Rattle.osq_value.specs.declared.source.SourceKind.TheVariants.{Audit as AuditLog, Changes as ChangeList, Tables as TableLines}
 use Rattle.osq_value.specs.Spelling.{value_of as digits_value}
 use Rattle.program_words.specs.Texts.{is_number, is_text, number_in}
 use Rattle.program_words.specs.Names.{is_source, place, same_name, takes}
 use Rattle.program_words.specs.Given.{Given, fits, is_named, none_repeats, options_of, number_of, number_or, number_taken, stands, value_of, value_or}
-use Rattle.program_words.specs.Commands.{are_options, asked_by, check_of, collect_of, daemon_of, command_named, command_with, has_few_sources, has_option, has_refused, generate_of, has_required, is_right, paths_in, query_of, replay_of, required, sources_named, sources_of, unsourced, words_of}
+use Rattle.program_words.specs.Commands.{are_options, asked_by, check_of, collect_of, daemon_of, fleet_of, command_named, command_with, has_few_sources, has_option, has_refused, generate_of, has_required, is_right, paths_in, query_of, replay_of, required, sources_named, sources_of, unsourced, words_of}
 use Rattle.program_words.proofs.Sources.{sources_own}
 use Rattle.program_words.proofs.Conditions.{first, second}
 use Rattle.program_words.specs.Bounds.{ArePathsBounded, ClockBounds, GenerateBounds, HostBounds, IsBounded, RunBounds, SessionBounds}
@@ -175,11 +175,11 @@ parts_of command gs are =
     let two = first (all && have) _ three in
     (first all _ two, second all _ two, second (all && have) _ three, second (all && have && few) _ four)
 
-has_host : (command : CommandName) (gs : List Given) → required command ≡ Config ∷ Host ∷ [] → has_required command gs ≡ true → stands Host gs ≡ true
+has_host : (command : CommandName) (gs : List Given) (front : Name) (behind : List Name) → required command ≡ front ∷ Host ∷ behind → has_required command gs ≡ true → stands Host gs ≡ true
 unfolding has_required
-has_host command gs is have =
-    let both : list_all (λ name. stands name gs) (Config ∷ Host ∷ []) ≡ true = subst (λ names. list_all (λ name. stands name gs) names ≡ true) is have in
-    first (stands Host gs) _ (second (stands Config gs) _ both)
+has_host command gs front behind is have =
+    let all : list_all (λ name. stands name gs) (front ∷ Host ∷ behind) ≡ true = subst (λ names. list_all (λ name. stands name gs) names ≡ true) is have in
+    first (stands Host gs) _ (second (stands front gs) _ all)
 
 run_within : (command : CommandName) (gs : List Given) (rounds : ℕ) → Between 1 1000000 rounds → Parts command gs → RunBounds (number_of Start gs) (number_or 60 Step gs) (number_or rounds Ticks gs) (number_or 10000 Records gs) (sources_of gs)
 unfolding takes
@@ -198,7 +198,7 @@ run_within command gs rounds within (right, have, few, none) =
 session_within : (command : CommandName) (gs : List Given) → required command ≡ Config ∷ Host ∷ [] → Parts command gs → SessionBounds (replay_of gs)
 unfolding replay_of
 session_within command gs is parts =
-    (run_within command gs 60 (omega arith, omega arith) parts, host_within command gs parts.0 (has_host command gs is parts.1))
+    (run_within command gs 60 (omega arith, omega arith) parts, host_within command gs parts.0 (has_host command gs Config [] is parts.1))
 
 pub few_workers : (gs : List Given) → (1 ≤ number_or 4 Workers gs) × (number_or 4 Workers gs ≤ 16)
 unfolding takes
@@ -212,19 +212,20 @@ load_within gs =
     record { from_in = omega arith; some_lines = count.0; lines_in = count.1 }
 
 asked_within : (command : CommandName) (gs : List Given) → Parts command gs → IsBounded (asked_by command gs)
-unfolding daemon_of query_of check_of collect_of generate_of required takes IsBounded
+unfolding daemon_of query_of check_of collect_of fleet_of generate_of required takes IsBounded
 asked_within Replay gs parts = session_within Replay gs refl parts
 asked_within Daemon gs parts =
     let workers = few_workers gs in
     record { run_in = session_within Daemon gs refl parts; some_workers = workers.0; workers_in = workers.1 }
 asked_within Query gs parts = run_within Query gs 1000000 (omega arith, omega arith) parts
-asked_within Check gs parts = host_within Check gs parts.0 (has_host Check gs refl parts.1)
+asked_within Check gs parts = host_within Check gs parts.0 (has_host Check gs Config [] refl parts.1)
 asked_within Collect gs parts =
     let ticks = number_or-between 1000000 Ticks gs 1 1000000 refl (omega arith, omega arith) in
     record { one = refl; some_ticks = ticks.0; ticks_in = ticks.1 }
 asked_within Generate gs parts = load_within gs
 asked_within SelfTest gs parts = load_within gs
 asked_within Report gs parts = tt
+asked_within Fleet gs parts = host_within Fleet gs parts.0 (has_host Fleet gs Ledger (Text ∷ []) refl parts.1)
 
 asked_bounded : (gs : List Given) (refused : Bool) (named : Option CommandName) (command : CommandWords) → cond refused None (option_and_then (command_with gs) named) ≡ Some command → IsBounded command
 asked_bounded gs true named command is = absurd cc
@@ -256,3 +257,4 @@ paths_bounded (AsCollect words) bounded =
 paths_bounded (AsGenerate words) bounded = unsourced_bounded None
 paths_bounded (AsSelfTest words) bounded = unsourced_bounded None
 paths_bounded (AsReport words) bounded = unsourced_bounded (Some words.store)
+paths_bounded (AsFleet words) bounded = unsourced_bounded None

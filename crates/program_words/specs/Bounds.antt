@@ -2,7 +2,7 @@
 use Rattle.std.specs.Prelude.{◌≡◌, ℕ, ◌≤◌, ◌<◌, ◌^◌, ◌≢◌, AllPairs, List, length, Option, IfSome}
 use Rattle.program_words.specs.declared.command.CollectWords.{CollectWords}
 use Rattle.program_words.specs.declared.command.CommandWords.{CommandWords}
-use Rattle.program_words.specs.declared.command.CommandWords.TheVariants.{Replay, Daemon, Query, Check, Collect, Generate, SelfTest, Report}
+use Rattle.program_words.specs.declared.command.CommandWords.TheVariants.{Replay, Daemon, Query, Check, Collect, Generate, SelfTest, Report, Fleet}
 use Rattle.program_words.specs.declared.command.DaemonWords.{DaemonWords}
 use Rattle.program_words.specs.declared.command.GenerateWords.{GenerateWords}
 use Rattle.program_words.specs.declared.command.ReplayWords.{ReplayWords}
@@ -62,6 +62,7 @@ IsBounded (Collect words) = CollectBounds words
 IsBounded (Generate words) = GenerateBounds words
 IsBounded (SelfTest words) = GenerateBounds words
 IsBounded (Report words) = Unit {0}
+IsBounded (Fleet words) = HostBounds words.host
 
 unfoldable pub ArePathsBounded : Paths → Type 0
 ArePathsBounded paths = ClockBounds paths.start paths.step × SourceBounds paths.sources

@@ -6,15 +6,16 @@ use Rattle.std.specs.Option.{option_map, option_map_or}
 use Rattle.program_words.specs.declared.name.Name.{Name}
 use Rattle.program_words.specs.declared.name.Name.TheVariants.{Config, Host, Platform, Agent, Text, Audit, Changes, Tables, Start, Step, Ticks, Records, Explain, Frames, Ledger, Store, From, Count, Workers, FramesOut, AnswersIn}
 use Rattle.program_words.specs.declared.command.CommandName.{CommandName}
-use Rattle.program_words.specs.declared.command.CommandName.TheVariants.{Replay as ReplayName, Daemon as DaemonName, Query as QueryName, Check as CheckName, Collect as CollectName, Generate as GenerateName, SelfTest as SelfTestName, Report as ReportName}
+use Rattle.program_words.specs.declared.command.CommandName.TheVariants.{Replay as ReplayName, Daemon as DaemonName, Query as QueryName, Check as CheckName, Collect as CollectName, Generate as GenerateName, SelfTest as SelfTestName, Report as ReportName, Fleet as FleetName}
 use Rattle.program_words.specs.declared.command.CommandWords.{CommandWords}
-use Rattle.program_words.specs.declared.command.CommandWords.TheVariants.{Replay, Daemon, Query, Check, Collect, Generate, SelfTest, Report}
+use Rattle.program_words.specs.declared.command.CommandWords.TheVariants.{Replay, Daemon, Query, Check, Collect, Generate, SelfTest, Report, Fleet}
 use Rattle.program_words.specs.declared.command.LinkPaths.{LinkPaths}
 use Rattle.program_words.specs.declared.command.ReplayWords.{ReplayWords}
 use Rattle.program_words.specs.declared.command.DaemonWords.{DaemonWords}
 use Rattle.program_words.specs.declared.command.QueryWords.{QueryWords}
 use Rattle.program_words.specs.declared.command.CheckWords.{CheckWords}
 use Rattle.program_words.specs.declared.command.CollectWords.{CollectWords}
+use Rattle.program_words.specs.declared.command.FleetWords.{FleetWords}
 use Rattle.program_words.specs.declared.command.GenerateWords.{GenerateWords}
 use Rattle.program_words.specs.declared.command.ReportWords.{ReportWords}
 use Rattle.program_words.specs.declared.command.Paths.{Paths}
@@ -35,7 +36,8 @@ command_named word =
     else (if bytes_eq word (codes "generate") then Some GenerateName
     else (if bytes_eq word (codes "selftest") then Some SelfTestName
     else (if bytes_eq word (codes "report") then Some ReportName
-    else None)))))))
+    else (if bytes_eq word (codes "fleet") then Some FleetName
+    else None))))))))
 
 -- the options that a command must have
 unfoldable pub required : CommandName → List Name
@@ -47,6 +49,7 @@ required CollectName = Frames ∷ Ledger ∷ []
 required GenerateName = From ∷ Count ∷ []
 required SelfTestName = From ∷ Count ∷ []
 required ReportName = Store ∷ []
+required FleetName = Ledger ∷ Host ∷ Text ∷ []
 
 -- those that it may have
 unfoldable pub optional : CommandName → List Name
@@ -61,6 +64,7 @@ optional CollectName = Ticks ∷ []
 optional GenerateName = []
 optional SelfTestName = []
 optional ReportName = []
+optional FleetName = []
 
 abbrev pub is_one_of : List Name → Name → Bool
 is_one_of names name = list_any (same_name name) names
@@ -168,6 +172,9 @@ generate_of gs = record { from = number_or 0 From gs; count = number_or 1 Count 
 unfoldable pub report_of : List Given → ReportWords
 report_of gs = record { store = value_or [] Store gs }
 
+unfoldable pub fleet_of : List Given → FleetWords
+fleet_of gs = record { ledger = value_or [] Ledger gs; host = value_or [] Host gs; text = value_or [] Text gs }
+
 abbrev pub asked_by : CommandName → List Given → CommandWords
 asked_by ReplayName gs = Replay (replay_of gs)
 asked_by DaemonName gs = Daemon (daemon_of gs)
@@ -177,6 +184,7 @@ asked_by CollectName gs = Collect (collect_of gs)
 asked_by GenerateName gs = Generate (generate_of gs)
 asked_by SelfTestName gs = SelfTest (generate_of gs)
 asked_by ReportName gs = Report (report_of gs)
+asked_by FleetName gs = Fleet (fleet_of gs)
 
 abbrev pub command_with : List Given → CommandName → Option CommandWords
 command_with gs command = if are_options command gs then Some (asked_by command gs) else None
@@ -230,7 +238,8 @@ session_paths words = record {
   link = words.link;
 }
 
--- the sources that a command names, with the moments of its clock, the store that it keeps in, the file that it adds to, and its link
+-- the sources that a command names, with the moments of its clock, the store that it keeps in, the file that it adds to, and its link;
+-- a ledger that is only asked is no such file
 abbrev pub paths_in : CommandWords → Paths
 paths_in (Replay words) = session_paths words
 paths_in (Daemon words) = session_paths words.run
@@ -247,6 +256,7 @@ paths_in (Collect words) = record { sources = words.sources; store = None; start
 paths_in (Generate words) = unsourced None
 paths_in (SelfTest words) = unsourced None
 paths_in (Report words) = unsourced (Some words.store)
+paths_in (Fleet words) = unsourced None
 
 abbrev pub paths_of : List (List ℕ) → Option Paths
 paths_of words = option_map paths_in (words_of words)

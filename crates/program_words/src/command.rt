@@ -18,6 +18,7 @@ pub(crate) enum CommandName {
     Generate,
     SelfTest,
     Report,
+    Fleet,
 }
 
 impl CommandName {
@@ -35,6 +36,7 @@ impl CommandName {
             "generate" => Some(CommandName::Generate),
             "selftest" => Some(CommandName::SelfTest),
             "report" => Some(CommandName::Report),
+            "fleet" => Some(CommandName::Fleet),
             _ => None,
         }
     }
@@ -52,6 +54,7 @@ impl CommandName {
             CommandName::Collect => &[Name::Frames, Name::Ledger],
             CommandName::Generate | CommandName::SelfTest => &[Name::From, Name::Count],
             CommandName::Report => &[Name::Store],
+            CommandName::Fleet => &[Name::Ledger, Name::Host, Name::Text],
         }
     }
 
@@ -104,7 +107,10 @@ impl CommandName {
             ],
             CommandName::Check => &[Name::Platform, Name::Agent],
             CommandName::Collect => &[Name::Ticks],
-            CommandName::Generate | CommandName::SelfTest | CommandName::Report => &[],
+            CommandName::Generate
+            | CommandName::SelfTest
+            | CommandName::Report
+            | CommandName::Fleet => &[],
         }
     }
 }
@@ -217,6 +223,17 @@ pub struct ReportWords {
     pub store: Str,
 }
 
+/// The words of one question to a ledger.
+#[derive(Drop)]
+pub struct FleetWords {
+    /// The path of the ledger's file, which is read and never made.
+    pub ledger: Str,
+    /// The identifier of the host whose recorded frames are asked.
+    pub host: Str,
+    /// The SQL text.
+    pub text: Str,
+}
+
 /// The words of a command.
 #[derive(Drop)]
 pub enum CommandWords {
@@ -236,6 +253,8 @@ pub enum CommandWords {
     SelfTest(GenerateWords),
     /// Shows the values of a kept list.
     Report(ReportWords),
+    /// Answers one text over the frames that a ledger records of a host.
+    Fleet(FleetWords),
 }
 
 /// What the program opens for a command: its sources, its store, its clock, the file that a ledger is added to, and its link.
@@ -301,9 +320,10 @@ impl CommandWords {
                 ledger: None,
                 link: None,
             },
-            CommandWords::Check(_) | CommandWords::Generate(_) | CommandWords::SelfTest(_) => {
-                unsourced(alloc, None)
-            }
+            CommandWords::Check(_)
+            | CommandWords::Generate(_)
+            | CommandWords::SelfTest(_)
+            | CommandWords::Fleet(_) => unsourced(alloc, None),
             CommandWords::Report(words) => unsourced(alloc, Some(words.store)),
             CommandWords::Collect(words) => Paths {
                 sources: words.sources,
@@ -327,7 +347,8 @@ impl CommandWords {
             CommandWords::Check(_)
             | CommandWords::Generate(_)
             | CommandWords::SelfTest(_)
-            | CommandWords::Report(_) => 0,
+            | CommandWords::Report(_)
+            | CommandWords::Fleet(_) => 0,
             CommandWords::Collect(words) => words.sources.len(),
         }
     }

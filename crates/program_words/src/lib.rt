@@ -10,8 +10,8 @@ mod options;
 mod read;
 
 pub use command::{
-    CheckWords, CollectWords, CommandWords, DaemonWords, GenerateWords, LinkPaths, Paths,
-    QueryWords, ReplayWords, ReportWords,
+    CheckWords, CollectWords, CommandWords, DaemonWords, FleetWords, GenerateWords, LinkPaths,
+    Paths, QueryWords, ReplayWords, ReportWords,
 };
 pub use error::WordsError;
 pub use read::{is_by_threads, paths_of, read_words};

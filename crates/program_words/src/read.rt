@@ -2,13 +2,13 @@
 
 ghost use Rattle.std.specs.Prelude.{◌≡◌, ◌⊎◌, drop, IfOk, IsSome, MatchOption, None, Some, Err, false, map};
 ghost use Rattle.program_words.specs.Bounds.{ArePathsBounded, IsBounded};
-ghost use Rattle.program_words.specs.Commands.{asked_by, by_threads, check_of, collect_of, command_with, daemon_of, generate_of, has_refused, is_by_threads, is_refused, paths_of, query_of, replay_of, report_of, sources_of, words_of};
+ghost use Rattle.program_words.specs.Commands.{asked_by, by_threads, check_of, collect_of, command_with, daemon_of, fleet_of, generate_of, has_refused, is_by_threads, is_refused, paths_of, query_of, replay_of, report_of, sources_of, words_of};
 ghost use Rattle.program_words.specs.Given.{options_of};
 ghost use Rattle.program_words.specs.Left.{options_in};
 
 use crate::command::{
-    CheckWords, CollectWords, CommandName, CommandWords, DaemonWords, GenerateWords, Paths,
-    QueryWords, ReplayWords, ReportWords,
+    CheckWords, CollectWords, CommandName, CommandWords, DaemonWords, FleetWords, GenerateWords,
+    Paths, QueryWords, ReplayWords, ReportWords,
 };
 use crate::error::WordsError;
 use crate::name::Name;
@@ -167,6 +167,17 @@ fn report_of(alloc: Global, options: &GivenOptions<'_>) -> Result<ReportWords, N
     })
 }
 
+#[tactic(auto, unfolding(crate::specs::Commands::fleet_of, crate::specs::Names::takes))]
+fn fleet_of(alloc: Global, options: &GivenOptions<'_>) -> Result<FleetWords, NoMemory>
+    ensures { IfOk result (λ words. words ≡ fleet_of (options_in options.now)) }
+{
+    Ok(FleetWords {
+        ledger: options.text_or(alloc, "", Name::Ledger)?,
+        host: options.text_or(alloc, "", Name::Host)?,
+        text: options.text_or(alloc, "", Name::Text)?,
+    })
+}
+
 fn asked_by(alloc: Global, options: &GivenOptions<'_>) -> Result<CommandWords, NoMemory>
     ensures { IfOk result (λ words. words ≡ asked_by options.now.command (options_in options.now)) }
 {
@@ -179,6 +190,7 @@ fn asked_by(alloc: Global, options: &GivenOptions<'_>) -> Result<CommandWords, N
         CommandName::Generate => Ok(CommandWords::Generate(generate_of(options))),
         CommandName::SelfTest => Ok(CommandWords::SelfTest(generate_of(options))),
         CommandName::Report => Ok(CommandWords::Report(report_of(alloc, options)?)),
+        CommandName::Fleet => Ok(CommandWords::Fleet(fleet_of(alloc, options)?)),
     }
 }
 

@@ -14,10 +14,10 @@ use Rattle.osq_program.specs.Checking.{IsRefusedFor}
 use Rattle.osq_program.specs.Querying.{IsRefusedAt}
 use Rattle.osq_program.specs.Watching.{IsRefusedIn, Watches}
 
-some_same : {X : Type 0} → {x y : X} → Some x ≡ Some y → x ≡ y
+pub some_same : {X : Type 0} → {x y : X} → Some x ≡ Some y → x ≡ y
 some_same e = cc
 
-none_some : {X : Type 0} → {x : X} → {o : Option X} → o ≡ None → o ≡ Some x → ⊥
+pub none_some : {X : Type 0} → {x : X} → {o : Option X} → o ≡ None → o ≡ Some x → ⊥
 none_some none some = cc
 
 -- a document has one value

@@ -3,7 +3,7 @@ use Rattle.std.proofs.Common.{◌≡◌, Bool, true, false}
 use Rattle.program_words.specs.Bounds.{IsBounded}
 use Rattle.program_words.specs.declared.command.CheckWords.{CheckWords}
 use Rattle.program_words.specs.declared.command.CommandWords.{CommandWords}
-use Rattle.program_words.specs.declared.command.CommandWords.TheVariants.{Replay as AsksReplay, Daemon as AsksDaemon, Query as AsksQuery, Check as AsksCheck, Collect as AsksCollect, Generate as AsksGenerate, SelfTest as AsksSelfTest, Report as AsksReport}
+use Rattle.program_words.specs.declared.command.CommandWords.TheVariants.{Replay as AsksReplay, Daemon as AsksDaemon, Query as AsksQuery, Check as AsksCheck, Collect as AsksCollect, Generate as AsksGenerate, SelfTest as AsksSelfTest, Report as AsksReport, Fleet as AsksFleet}
 use Rattle.program_words.specs.declared.command.GenerateWords.{GenerateWords}
 use Rattle.program_words.specs.declared.command.QueryWords.{QueryWords}
 use Rattle.program_words.specs.Bounds.{RunBounds}
@@ -30,6 +30,7 @@ use Rattle.run_laws.specs.Ready.{IsAskReady, IsCheckReady, IsReady, IsReportRead
 use Rattle.run_laws.proofs.Accepted.{no_text_fault, not_refused}
 use Rattle.run_laws.proofs.Asked.{asked}
 use Rattle.run_laws.proofs.Collected.{collected}
+use Rattle.run_laws.proofs.Questioned.{questioned}
 use Rattle.run_laws.proofs.Replayed.{either, replayed}
 use Rattle.run_laws.proofs.Settled.{settled}
 
@@ -133,6 +134,7 @@ complete (AsksCollect words) seen bounds fails ready status does usage = collect
 complete (AsksGenerate words) seen bounds fails ready status does usage = generated words seen fails status does usage
 complete (AsksSelfTest words) seen bounds fails ready status does usage = tested words seen fails status does usage
 complete (AsksReport words) seen bounds fails ready status does usage = shown seen fails ready status does usage
+complete (AsksFleet words) seen bounds fails ready status does usage = questioned words seen fails ready status does usage
 
 pub completes : {W : Type 0} (observed : W → W → Observed) → Completes observed
 completes observed command old new status bounds does usage fails ready = complete command (observed old new) bounds fails ready status does usage

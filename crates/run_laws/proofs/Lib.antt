@@ -8,6 +8,7 @@ mod Generated
 mod Isolated
 mod Lines
 mod Names
+mod Questioned
 mod Replayed
 mod Same
 mod Schedules

@@ -2,18 +2,22 @@
 use Rattle.std.specs.Prelude.{◌≡◌, ℕ, ◌+◌, ◌/◌, ◌≤◌, Bool, true, false, All, List, length, None}
 use Rattle.osq_value.specs.declared.moment.TheConstants.{LAST_MOMENT}
 use Rattle.osq_config.specs.declared.config.Config.{Config}
+use Rattle.batch_frames.specs.declared.frame.Frame.{Frame}
+use Rattle.collector_ledger.specs.Frames.{AreRecorded}
 use Rattle.config_files.specs.Configurations.{IsConfigured}
+use Rattle.fleet_query.specs.Tables.{fleet_derived}
 use Rattle.entry_model.specs.declared.entry.Entry.{Entry}
 use Rattle.entry_model.specs.Legal.{Legal}
 use Rattle.entry_model.specs.Values.{taken_from}
 use Rattle.program_words.specs.declared.command.CheckWords.{CheckWords}
 use Rattle.program_words.specs.declared.command.CollectWords.{CollectWords}
 use Rattle.program_words.specs.declared.command.CommandWords.{CommandWords}
-use Rattle.program_words.specs.declared.command.CommandWords.TheVariants.{Replay as AsksReplay, Daemon as AsksDaemon, Query as AsksQuery, Check as AsksCheck, Collect as AsksCollect, Generate as AsksGenerate, SelfTest as AsksSelfTest, Report as AsksReport}
+use Rattle.program_words.specs.declared.command.CommandWords.TheVariants.{Replay as AsksReplay, Daemon as AsksDaemon, Query as AsksQuery, Check as AsksCheck, Collect as AsksCollect, Generate as AsksGenerate, SelfTest as AsksSelfTest, Report as AsksReport, Fleet as AsksFleet}
+use Rattle.program_words.specs.declared.command.FleetWords.{FleetWords}
 use Rattle.program_words.specs.declared.command.QueryWords.{QueryWords}
 use Rattle.program_words.specs.declared.command.ReplayWords.{ReplayWords}
 use Rattle.osq_value.specs.declared.source.SourceName.{SourceName}
-use Rattle.sql_texts.specs.TextFaults.{text_fault}
+use Rattle.sql_texts.specs.TextFaults.{text_fault, text_fault_with}
 use Rattle.session_model.specs.Given.{Given, Source}
 use Rattle.session_model.specs.Orders.{Order, in_turn, at_once}
 use Rattle.replay_rounds.specs.Spent.{RanOutOfNumbers}
@@ -21,6 +25,7 @@ use Rattle.run_laws.specs.Enough.{AreEnough}
 use Rattle.query_rounds.specs.Asking.{Spends}
 use Rattle.record_lines.specs.Limits.{STEP_BYTES}
 use Rattle.osq_program.specs.Collecting.{stream}
+use Rattle.osq_program.specs.Fleets.{file_in}
 use Rattle.osq_program.specs.Observed.{Observed}
 use Rattle.osq_program.specs.Querying.{IsPosed, IsQueryGiven}
 use Rattle.osq_program.specs.Replaying.{IsAccepted, IsReplayGiven, run_in}
@@ -87,6 +92,11 @@ pub record IsReportReady (seen : Observed) : Type 0 where
   pub keeper_tells : seen.keeper_tells
   pub legal : Legal seen.kept_before
 
+-- a question to a ledger: over the tables of the frames that its file records of the host the text has no fault
+pub record IsFleetReady (words : FleetWords) (seen : Observed) : Type 0 where
+  pub files_tell : seen.files_tell
+  pub accepted : (frames : List Frame) → AreRecorded (file_in words seen) words.host frames → text_fault_with (fleet_derived frames) words.text ≡ None
+
 abbrev pub IsReady : CommandWords → Observed → Type 0
 IsReady (AsksReplay words) seen = IsReplayReady in_turn words seen
 IsReady (AsksDaemon words) seen = IsReplayReady at_once words.run seen
@@ -96,3 +106,4 @@ IsReady (AsksCollect words) seen = IsCollectReady words seen
 IsReady (AsksGenerate words) seen = Unit {0}
 IsReady (AsksSelfTest words) seen = Unit {0}
 IsReady (AsksReport words) seen = IsReportReady seen
+IsReady (AsksFleet words) seen = IsFleetReady words seen

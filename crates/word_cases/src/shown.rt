@@ -2,8 +2,8 @@
 
 use osq_value::{NoMemory, SourceKind, SourceNameList, Str};
 use program_words::{
-    CheckWords, CollectWords, CommandWords, DaemonWords, GenerateWords, LinkPaths, Paths,
-    QueryWords, ReplayWords, ReportWords,
+    CheckWords, CollectWords, CommandWords, DaemonWords, FleetWords, GenerateWords, LinkPaths,
+    Paths, QueryWords, ReplayWords, ReportWords,
 };
 
 /// The most sources that are named.
@@ -142,6 +142,17 @@ fn push_report(text: &mut String, words: &ReportWords) -> Result<(), NoMemory> {
     Ok(())
 }
 
+fn push_fleet(text: &mut String, words: &FleetWords) -> Result<(), NoMemory> {
+    write!(
+        text,
+        "fleet ledger {} host {} text {}",
+        words.ledger.as_str(),
+        words.host.as_str(),
+        words.text.as_str()
+    )?;
+    Ok(())
+}
+
 /// Adds a command, without an end of the line.
 pub(crate) fn push_command(text: &mut String, command: &CommandWords) -> Result<(), NoMemory> {
     match command {
@@ -153,6 +164,7 @@ pub(crate) fn push_command(text: &mut String, command: &CommandWords) -> Result<
         CommandWords::Generate(words) => push_load(text, "generate", words),
         CommandWords::SelfTest(words) => push_load(text, "selftest", words),
         CommandWords::Report(words) => push_report(text, words),
+        CommandWords::Fleet(words) => push_fleet(text, words),
     }
 }
 

@@ -2,7 +2,7 @@ use Rattle.std.proofs.Common.{rules, ◌≡◌, [], List, Ok, Err, length, refl,
 use Rattle.osq_value.specs.declared.source.SourceName.{SourceName}
 use Rattle.osq_program.specs.Collecting.{IsStoppedBy}
 use Rattle.osq_program.specs.declared.status.Status.TheVariants.{OutOfMemory, TicksSpent}
-use Rattle.osq_program.specs.Telling.{MayCollectTell, TellsSome}
+use Rattle.osq_program.specs.Telling.{MayTellOfLedger, TellsSome}
 use Rattle.osq_program.proofs.Collections.{collect_may, done_so, run_so, spent_so, stopped_as, stopped_so, unread_so}
 use Rattle.osq_program.proofs.Replays.{fails_there}
 use Rattle.osq_program.proofs.Toldings.{as_plain, tells_end, tells_line, tells_unread}
@@ -43,20 +43,20 @@ returns-in-Err-Fault-clause-does g c =
 
 pub returns-in-Err-Fault-clause-told : goal.returns-in-Err-Fault-clause-told
 returns-in-Err-Fault-clause-told g c =
-    tells_end (MayCollectTell c.args.words.now) _ c.refuse_unread.result (tells_unread (MayCollectTell c.args.words.now) _ c.args.words.now.ledger c.refuse_unread.result c.refuse_unread.ensures.unread refl refl c.refuse_unread.ensures.told)
+    tells_end (MayTellOfLedger c.args.words.now.ledger) _ c.refuse_unread.result (tells_unread (MayTellOfLedger c.args.words.now.ledger) _ c.args.words.now.ledger c.refuse_unread.result c.refuse_unread.ensures.unread refl refl c.refuse_unread.ensures.told)
 
 pub returns-in-Err-NoMemory-clause-told : goal.returns-in-Err-NoMemory-clause-told
 returns-in-Err-NoMemory-clause-told g c =
-    tells_end (MayCollectTell c.args.words.now) _ c.starve.result (subst (TellsSome (MayCollectTell c.args.words.now) _) (sym c.starve.ensures.same) (tells_line (MayCollectTell c.args.words.now) _ OutOfMemory refl c.starve.ensures.told))
+    tells_end (MayTellOfLedger c.args.words.now.ledger) _ c.starve.result (subst (TellsSome (MayTellOfLedger c.args.words.now.ledger) _) (sym c.starve.ensures.same) (tells_line (MayTellOfLedger c.args.words.now.ledger) _ OutOfMemory refl c.starve.ensures.told))
 
 pub returns-in-Ok-false-clause-told : goal.returns-in-Ok-false-clause-told
 returns-in-Ok-false-clause-told g c =
-    tells_end (MayCollectTell c.args.words.now) _ c.refuse.result
-    (tells_line (MayCollectTell c.args.words.now) _ c.refuse.result (subst (λ s. MayCollectTell c.args.words.now s []) (sym (as_plain TicksSpent _ (λ none. none) c.refuse.ensures.same)) refl) c.refuse.ensures.told)
+    tells_end (MayTellOfLedger c.args.words.now.ledger) _ c.refuse.result
+    (tells_line (MayTellOfLedger c.args.words.now.ledger) _ c.refuse.result (subst (λ s. MayTellOfLedger c.args.words.now.ledger s []) (sym (as_plain TicksSpent _ (λ none. none) c.refuse.ensures.same)) refl) c.refuse.ensures.told)
 
 pub returns-in-Err-clause-told : goal.returns-in-Err-clause-told
 returns-in-Err-clause-told g c =
     let error = c.in-Err.error in
     let answer = subst (λ (sources : List SourceName). IsStoppedBy sources error c.stopped-status.result) c.as_slice.ensures c.stopped-status.ensures in
-    tells_end (MayCollectTell c.args.words.now) _ c.refuse-in-Err.result
-    (tells_line (MayCollectTell c.args.words.now) _ c.refuse-in-Err.result (collect_may c.args.words.now error c.refuse-in-Err.result (stopped_as c.args.words.now.sources error c.stopped-status.result c.refuse-in-Err.result answer c.refuse-in-Err.ensures.same)) c.refuse-in-Err.ensures.told)
+    tells_end (MayTellOfLedger c.args.words.now.ledger) _ c.refuse-in-Err.result
+    (tells_line (MayTellOfLedger c.args.words.now.ledger) _ c.refuse-in-Err.result (collect_may c.args.words.now error c.refuse-in-Err.result (stopped_as c.args.words.now.sources error c.stopped-status.result c.refuse-in-Err.result answer c.refuse-in-Err.ensures.same)) c.refuse-in-Err.ensures.told)
