@@ -28,7 +28,7 @@ counted host false count frame frames others later = later count
 
 pub recorded-append : (host : List ℕ) (frames others : List Frame) (count : ℕ)
     → recorded_from count host (frames ++ others) ≡ recorded_from count host frames ++ recorded_from (count + length (recorded_from count host frames)) host others
-recorded-append host [] others count = ap (λ (n : ℕ). recorded_from n host others) (let same : count ≡ count + length {Frame} [] = omega arith in same)
+recorded-append host [] others count = ap (λ (n : ℕ). recorded_from n host others) (let none : List Frame = [] in let same : count ≡ count + length none = omega arith in same)
 recorded-append host (frame ∷ frames) others count =
     counted host (bytes_eq frame.host host && frame.batch.number == count + 1) count frame frames others (recorded-append host frames others)
 
@@ -97,10 +97,10 @@ found_all file host rest frames after before last takes =
 -- a line that is a frame isn't bad
 not_bad : (line digest : List ℕ) (frame : Frame) (kind : BadAnswer) → IsJudged line (Framed frame digest) → IsJudged line (Bad kind) → ⊥
 not_bad line digest frame TooLong is bad = let gone : ⊥ = omega (arith, is.0, bad) in gone
-not_bad line digest frame NotJson is bad = bad.1.0 frame is.1.1.1 is.1.0
-not_bad line digest frame WrongShape is bad = bad.1.0 frame is.1.1.1 is.1.0
-not_bad line digest frame BadDigest is bad = bad.1.0 frame is.1.1.1 is.1.0
-not_bad line digest frame NotCanonical is bad = bad.1.0 frame is.1.1.1 is.1.0
+not_bad line digest frame NotJson is bad = bad.1 frame is.3 is.1
+not_bad line digest frame WrongShape is bad = bad.1 frame is.3 is.1
+not_bad line digest frame BadDigest is bad = bad.1 frame is.3 is.1
+not_bad line digest frame NotCanonical is bad = bad.1 frame is.3 is.1
 
 one_frames : (lines : List (List ℕ)) (one other : List Judged) → AreJudged lines one → AreAlone lines one → AreJudged lines other → frames_of one ≡ frames_of other
 one_frames [] [] [] are alone also = refl
@@ -109,7 +109,7 @@ one_frames [] (j ∷ one) other are alone also = absurd are
 one_frames (line ∷ lines) [] other are alone also = absurd are
 one_frames (line ∷ lines) (j ∷ one) [] are alone also = absurd also
 one_frames (line ∷ lines) (Framed frame digest ∷ one) (Framed made sum ∷ other) are alone also =
-    ap (λ (f : Frame). f ∷ frames_of one) (alone.0 made also.0.1.1.1 also.0.1.0) ∙ ap (λ (rest : List Frame). made ∷ rest) (one_frames lines one other are.1 alone.1 also.1)
+    ap (λ (f : Frame). f ∷ frames_of one) (alone.0 made also.0.3 also.0.1) ∙ ap (λ (rest : List Frame). made ∷ rest) (one_frames lines one other are.1 alone.1 also.1)
 one_frames (line ∷ lines) (Framed frame digest ∷ one) (Bad kind ∷ other) are alone also = absurd (not_bad line digest frame kind are.0 also.0)
 one_frames (line ∷ lines) (Bad kind ∷ one) (Framed frame digest ∷ other) are alone also = absurd (not_bad line digest frame kind also.0 are.0)
 one_frames (line ∷ lines) (Bad kind ∷ one) (Bad found ∷ other) are alone also = one_frames lines one other are.1 alone.1 also.1

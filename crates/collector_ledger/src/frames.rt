@@ -15,12 +15,18 @@ use std::alloc::Global;
 /// Frames, one after another.
 pub type FrameList = Sequence<Frame>;
 
+/// The number is the next behind so many.
+fn is_next(number: u64, count: u64) -> bool
+    ensures { result ≡ (number == count + 1) }
+{
+    number > count && number - count == 1
+}
+
 /// Takes a frame where it is the next of the host.
 fn take_frame(frames: &mut FrameList, frame: Frame, host: &str) -> Result<(), NoMemory>
     ensures { OnOk result (frames.new ≡ frames.old ++ (if bytes_eq frame.host host.now && frame.batch.number == length frames.old + 1 then frame ∷ [] else [])) }
 {
-    let is_next = frame.batch.number == frames.len() as u64 + 1;
-    if frame.host.as_str() == host && is_next {
+    if frame.host.as_str() == host && is_next(frame.batch.number, frames.len() as u64) {
         frames.push(frame)
     } else {
         Ok(())

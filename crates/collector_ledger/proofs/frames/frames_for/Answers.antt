@@ -4,7 +4,7 @@ use Rattle.collector_ledger.proofs.Taken.{first_line, last_line}
 use Rattle.collector_ledger.proofs.frames.frames_for.Goals as goal
 
 pub loop-at-init : goal.loop-at-init
-loop-at-init c = found_none c.args.file.now c.args.host.now _ c.new-FrameList.ensures
+loop-at-init c = found_none c.args.file.now c.args.host.now _ c.new-frames.ensures
 
 pub loop-at-preserved : goal.loop-at-preserved
 loop-at-preserved c =

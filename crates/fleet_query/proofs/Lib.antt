@@ -1,0 +1,4 @@
+pub mod Lasts
+pub mod LastsShown
+pub mod Walked
+pub mod WantedRows

@@ -1,0 +1,4 @@
+pub mod Filled
+pub mod Names
+pub mod Tables
+pub mod Wanted
