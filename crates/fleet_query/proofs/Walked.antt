@@ -1,5 +1,5 @@
 -- Rows of frames that were gone over up to a place.
-use Rattle.std.proofs.Common.{◌≡◌, ℕ, ◌+◌, ◌<◌, ◌≤◌, refl, sym, ap, ◌∙◌, List, [], ◌∷◌, ◌++◌, length, map, take, get_or, append-nil, append_assoc, arith}
+use Rattle.std.proofs.Common.{◌≡◌, ℕ, ◌+◌, ◌<◌, ◌≤◌, sym, ap, ◌∙◌, List, [], ◌∷◌, ◌++◌, length, map, take, get_or, append-nil, append_assoc, arith}
 use Rattle.std.specs.Prelude.{zip, min}
 use Rattle.std.proofs.lemmas.List.{map_more, take_all, take_more, length-take-le}
 use Rattle.std.proofs.lemmas.Slice.Zip.{get_or-zip, length-zip}

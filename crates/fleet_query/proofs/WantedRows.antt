@@ -1,6 +1,6 @@
 -- The rows of filled tables by their numbers.
-use Rattle.std.proofs.Common.{◌≡◌, ℕ, ◌+◌, ◌-◌, ◌<◌, ◌≤◌, refl, sym, ap, ◌∙◌, Bool, true, false, List, [], Option, ◌∷◌, length, map, take, get_or, arith, ⊎_elim}
-use Rattle.std.specs.Prelude.{if◌then◌else◌, nat_le, min}
+use Rattle.std.proofs.Common.{◌≡◌, ℕ, ◌+◌, ◌-◌, ◌<◌, ◌≤◌, refl, sym, ap, ◌∙◌, Bool, true, false, List, [], Option, map, get_or, arith, ⊎_elim}
+use Rattle.std.specs.Prelude.{if◌then◌else◌, nat_le}
 use Rattle.std.specs.List.{range_with_len}
 use Rattle.std.proofs.lemmas.Bool.{cases_lt}
 use Rattle.std.proofs.lemmas.List.{get_or_past, length-map, length-take}
@@ -25,6 +25,7 @@ at_place query frames place among = ⊎_elim within past (cases_lt place 92)
   where
     within : place < 92 → get_or (map (wanted_rows query frames) (range_with_len 0 TABLES)) place [] ≡ rows_at frames place
     within low = get_or-map-range_with_len (wanted_rows query frames) 0 92 place place [] low (let e : 0 + place ≡ place = omega arith in e) ∙ ap (λ (b : Bool). if b then rows_at frames place else []) among
+
     past : 92 ≤ place → get_or (map (wanted_rows query frames) (range_with_len 0 TABLES)) place [] ≡ rows_at frames place
     past high =
         let long = length-map-range_with_len (wanted_rows query frames) 0 92 in
@@ -38,6 +39,7 @@ filled_rows query frames table among = ⊎_elim low high (cases_lt table 100)
   where
     low : table < 100 → (if nat_le 100 table then get_or (map (wanted_rows query frames) (range_with_len 0 TABLES)) (table - 100) [] else []) ≡ (if nat_le 100 table then rows_at frames (table - 100) else [])
     low below = (let e : nat_le 100 table ≡ false = grind arith in rw e refl)
+
     high : 100 ≤ table → (if nat_le 100 table then get_or (map (wanted_rows query frames) (range_with_len 0 TABLES)) (table - 100) [] else []) ≡ (if nat_le 100 table then rows_at frames (table - 100) else [])
     high above =
         let e : 100 + (table - 100) ≡ table = omega (arith, above) in

@@ -14,6 +14,7 @@ use std::alloc::Global;
 const MOST_COLUMNS: usize = 32767;
 
 const INTEGER: Option<Affinity> = Some(Affinity::Integer);
+
 const TEXT: Option<Affinity> = Some(Affinity::Text);
 
 /// The derived tables of a host's frames, in the order of their numbers: `batches`, `batch_rows`, and a table for each of the first ninety
@@ -113,11 +114,7 @@ fn query_table(alloc: Global, last: &Frame) -> Result<Derived, NoMemory>
 }
 
 /// Adds columns of these names, which have no affinity. No column behind the last that a table may have is looked at.
-fn push_names(
-    alloc: Global,
-    columns: &mut SourceColumnList,
-    names: &[Str],
-) -> Result<(), NoMemory>
+fn push_names(alloc: Global, columns: &mut SourceColumnList, names: &[Str]) -> Result<(), NoMemory>
     ensures { OnOk result (columns.new ≡ columns.old ++ map any names.now) }
 {
     if names.len() > MOST_COLUMNS {
@@ -144,11 +141,7 @@ fn columns(
 }
 
 /// A column that `*` writes.
-fn column(
-    alloc: Global,
-    name: &str,
-    affinity: Option<Affinity>,
-) -> Result<SourceColumn, NoMemory>
+fn column(alloc: Global, name: &str, affinity: Option<Affinity>) -> Result<SourceColumn, NoMemory>
     ensures { IfOk result (λ made. made ≡ column name.now affinity) }
 {
     Ok(SourceColumn {

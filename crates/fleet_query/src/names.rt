@@ -16,10 +16,7 @@ pub(crate) type FrameRefs<'a> = Sequence<&'a Frame>;
 const QUERY_TABLES: usize = 90;
 
 /// The last frame of each query's name, in byte order of the names, for as many of them as have a table.
-pub(crate) fn last_frames<'a>(
-    alloc: Global,
-    frames: &'a [Frame],
-) -> Result<FrameRefs<'a>, NoMemory>
+pub(crate) fn last_frames<'a>(alloc: Global, frames: &'a [Frame]) -> Result<FrameRefs<'a>, NoMemory>
     ensures { IfOk result (λ lasts. map (λ last. last.now) lasts ≡ shown_lasts frames.now) }
 {
     let index = last_by_name(alloc, frames)?;

@@ -1,4 +1,4 @@
-use Rattle.std.proofs.Common.{◌≡◌, ◌∙◌, sym, ap, subst, map, arith}
+use Rattle.std.proofs.Common.{◌∙◌, sym, ap, subst, map, arith}
 use Rattle.fleet_query.specs.Names.{with_frame}
 use Rattle.fleet_query.proofs.Lasts.{AreKeyed, frame_in, inserted, still_keyed, last_more}
 use Rattle.fleet_query.proofs.names.last_by_name.Goals as goal

@@ -1,4 +1,4 @@
-use Rattle.std.proofs.Common.{◌≡◌, ℕ, ◌<◌, ◌∙◌, ◌++◌, ◌∷◌, [], List, append_assoc, length, map, take, ap, sym, arith}
+use Rattle.std.proofs.Common.{ℕ, ◌<◌, ◌∙◌, ◌++◌, ◌∷◌, [], List, append_assoc, length, map, take, ap, sym, arith}
 use Rattle.std.specs.Prelude.{zip}
 use Rattle.osq_value.specs.declared.value.Value.{Value}
 use Rattle.fleet_query.specs.Tables.{cell}
