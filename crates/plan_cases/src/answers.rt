@@ -2,7 +2,7 @@
 
 use crate::queries::push_all;
 use crate::sql::{answer, found_packs, names, schedule_for};
-use crate::view::ThreeTables;
+use crate::view::GivenTables;
 use osq_config::{Config, ConfigError, Pack, read_config};
 use osq_value::{NoMemory, Str};
 use pack_rules::Host;
@@ -31,7 +31,7 @@ fn push_answered(
     alloc: Global,
     shown: &mut String,
     text: &str,
-    view: &ThreeTables,
+    view: &GivenTables,
 ) -> Result<(), NoMemory> {
     match answer(alloc, text, view)? {
         None => Ok(shown.push_str(" not accepted")?),
@@ -44,7 +44,7 @@ pub(crate) fn push_answer(
     alloc: Global,
     shown: &mut String,
     text: &str,
-    view: &ThreeTables,
+    view: &GivenTables,
 ) -> Result<(), NoMemory> {
     push_names(alloc, shown, text)?;
     push_answered(alloc, shown, text, view)
@@ -73,7 +73,7 @@ fn push_found(
     alloc: Global,
     shown: &mut String,
     config: &Config,
-    view: &ThreeTables,
+    view: &GivenTables,
 ) -> Result<(), NoMemory> {
     let found = found_packs(alloc, config, view)?;
     push_marked(shown, config.packs.as_slice(), found.as_slice())
@@ -93,7 +93,7 @@ fn push_schedule(
     shown: &mut String,
     config: &Config,
     host: &Host,
-    view: &ThreeTables,
+    view: &GivenTables,
 ) -> Result<(), NoMemory> {
     let schedule = schedule_for(alloc, config, host, view)?;
     push_queries(shown, schedule.queries.as_slice())
@@ -103,7 +103,7 @@ fn push_scheduled(
     alloc: Global,
     shown: &mut String,
     config: &Config,
-    view: &ThreeTables,
+    view: &GivenTables,
 ) -> Result<(), NoMemory> {
     let host = host(alloc)?;
     push_schedule(alloc, shown, config, &host, view)
@@ -113,7 +113,7 @@ fn push_configured(
     alloc: Global,
     shown: &mut String,
     config: &Config,
-    view: &ThreeTables,
+    view: &GivenTables,
 ) -> Result<(), NoMemory> {
     push_found(alloc, shown, config, view)?;
     push_scheduled(alloc, shown, config, view)
@@ -123,7 +123,7 @@ fn push_read(
     alloc: Global,
     shown: &mut String,
     document: &[u8],
-    view: &ThreeTables,
+    view: &GivenTables,
 ) -> Result<(), NoMemory> {
     match read_config(alloc, document) {
         Err(ConfigError::NoMemory) => Err(NoMemory),
@@ -137,7 +137,7 @@ pub(crate) fn push_packs(
     alloc: Global,
     shown: &mut String,
     line: &Json,
-    view: &ThreeTables,
+    view: &GivenTables,
 ) -> Result<(), NoMemory> {
     match line.get("packs") {
         None => Ok(()),

@@ -4,7 +4,7 @@ use crate::answers::{push_answer, push_packs};
 use crate::joins::push_join;
 use crate::queries::push_query;
 use crate::scans::push_scan;
-use crate::view::ThreeTables;
+use crate::view::GivenTables;
 use case_text::{Bench, LineKind, json_of_line, kind_of, member_text, odd_member};
 use osq_value::NoMemory;
 use serde_json::Value as Json;
@@ -20,7 +20,7 @@ const KINDS: [LineKind; 7] = [
     ("packs", &[]),
 ];
 
-const TABLES: LineKind = ("tables", &["users", "groups", "user_groups"]);
+const TABLES: LineKind = ("tables", &["users", "groups", "user_groups", "parts"]);
 
 fn push_odd_name(shown: &mut String, kind: &str, name: &str) -> Result<(), NoMemory> {
     shown.push_str(" (no line of ")?;
@@ -44,7 +44,7 @@ fn push_given(
     shown: &mut String,
     line: &Json,
     name: &str,
-    view: &ThreeTables,
+    view: &GivenTables,
 ) -> Result<(), NoMemory> {
     let text = member_text(line, name);
     match name {
@@ -57,8 +57,8 @@ fn push_given(
 }
 
 /// Takes the tables that a line gives.
-fn take_tables(alloc: Global, view: &mut ThreeTables, tables: &Json) -> Result<(), NoMemory> {
-    *view = ThreeTables::of(alloc, tables)?;
+fn take_tables(alloc: Global, view: &mut GivenTables, tables: &Json) -> Result<(), NoMemory> {
+    *view = GivenTables::of(alloc, tables)?;
     Ok(())
 }
 
@@ -66,7 +66,7 @@ fn push_taken(
     alloc: Global,
     shown: &mut String,
     tables: &Json,
-    view: &mut ThreeTables,
+    view: &mut GivenTables,
 ) -> Result<(), NoMemory> {
     push_odd(shown, tables, TABLES)?;
     take_tables(alloc, view, tables)?;
@@ -77,7 +77,7 @@ fn push_case(
     alloc: Global,
     shown: &mut String,
     line: &Json,
-    view: &mut ThreeTables,
+    view: &mut GivenTables,
 ) -> Result<(), NoMemory> {
     let Some(kind) = kind_of(line, KINDS.as_slice()) else {
         return Ok(shown.push_str(" no kind of line")?);
@@ -95,7 +95,7 @@ fn push_told(
     shown: &mut String,
     line: &str,
     case: &Json,
-    view: &mut ThreeTables,
+    view: &mut GivenTables,
 ) -> Result<(), NoMemory> {
     shown.push_str(line)?;
     shown.push_str("\n=>")?;
@@ -104,7 +104,7 @@ fn push_told(
 }
 
 /// Lines are over the tables that the last of them gave.
-impl Bench for ThreeTables {
+impl Bench for GivenTables {
     fn take_line(&mut self, alloc: Global, line: &str) -> Result<String, NoMemory> {
         let mut shown = String::new(alloc);
         if let Some(case) = json_of_line(alloc, line)? {

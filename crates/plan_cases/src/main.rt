@@ -1,6 +1,6 @@
 //! Reads queries over small tables, and prints each line and behind `=>` what it gives. Standard input has a line of JSON for each:
 //!
-//! - `tables`: the rows of `users`, `groups` and `user_groups` that the lines behind it are over: arrays of values, or an object with
+//! - `tables`: the rows of `users`, `groups`, `user_groups` and of the derived table `parts` that the lines behind it are over: arrays of values, or an object with
 //!   `numbered`, how many rows that hold their number in the first two columns, and their `width`.
 //! - `rows`: the rows of a text, behind `both` where its meaning and its plan give the same, and else those of each; with `by_plan` the rows
 //!   of the plan alone. `explain`: the lines that show its plan, behind `|`.
@@ -15,6 +15,7 @@
 
 mod answers;
 mod cases;
+mod derived;
 mod joins;
 mod queries;
 mod scans;
@@ -23,10 +24,10 @@ mod view;
 
 use case_text::print_told;
 use std::io;
-use view::ThreeTables;
+use view::GivenTables;
 
 fn main(rt: HostRuntime) -> io::Result<()> {
     let alloc = rt.alloc();
-    let mut given = ThreeTables::empty(alloc);
+    let mut given = GivenTables::empty(alloc);
     print_told(&rt, alloc, &mut given)
 }

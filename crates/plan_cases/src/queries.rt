@@ -1,7 +1,8 @@
 //! Lines with queries: their rows by the meaning and by the plan, and what shows the plan.
 
-use crate::sql::{Plan, Query, TextError, explain, plain_rows, plan_of, query_of_text, run_plan};
-use crate::view::ThreeTables;
+use crate::derived::query_of;
+use crate::sql::{Plan, Query, TextError, explain, plain_rows, plan_of, run_plan};
+use crate::view::GivenTables;
 use case_text::push_rows;
 use osq_value::{NoMemory, RowList};
 use serde_json::Value as Json;
@@ -76,7 +77,7 @@ fn push_with_plan(
     shown: &mut String,
     plain: &RowList,
     plan: &Plan,
-    view: &ThreeTables,
+    view: &GivenTables,
 ) -> Result<(), NoMemory> {
     let planned = run_plan(alloc, plan, view)?;
     push_both_ways(alloc, shown, plain, "by the plan", &planned)
@@ -87,7 +88,7 @@ fn push_both(
     alloc: Global,
     shown: &mut String,
     plan: &Plan,
-    view: &ThreeTables,
+    view: &GivenTables,
 ) -> Result<(), NoMemory> {
     let plain = plain_rows(alloc, &plan.query, view)?;
     push_with_plan(alloc, shown, &plain, plan, view)
@@ -97,7 +98,7 @@ fn push_by_plan(
     alloc: Global,
     shown: &mut String,
     plan: &Plan,
-    view: &ThreeTables,
+    view: &GivenTables,
 ) -> Result<(), NoMemory> {
     push_all(shown, &run_plan(alloc, plan, view)?)
 }
@@ -133,7 +134,7 @@ fn push_wanted(
     shown: &mut String,
     line: &Json,
     plan: &Plan,
-    view: &ThreeTables,
+    view: &GivenTables,
 ) -> Result<(), NoMemory> {
     if line.get("explain").is_some() {
         push_explained(alloc, shown, plan)
@@ -149,7 +150,7 @@ fn push_planned(
     shown: &mut String,
     line: &Json,
     query: &Query,
-    view: &ThreeTables,
+    view: &GivenTables,
 ) -> Result<(), NoMemory> {
     let plan = plan_of(alloc, query)?;
     push_wanted(alloc, shown, line, &plan, view)
@@ -161,9 +162,9 @@ pub(crate) fn push_query(
     shown: &mut String,
     line: &Json,
     text: &str,
-    view: &ThreeTables,
+    view: &GivenTables,
 ) -> Result<(), NoMemory> {
-    match query_of_text(alloc, text) {
+    match query_of(alloc, text) {
         Err(error) => push_fault(shown, error),
         Ok(query) => push_planned(alloc, shown, line, &query, view),
     }

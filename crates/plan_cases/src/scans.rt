@@ -1,7 +1,7 @@
 //! Lines with constraints of a table.
 
 use crate::sql::{Constraint, ConstraintList, ConstraintOp, scan};
-use crate::view::ThreeTables;
+use crate::view::GivenTables;
 use case_text::{items_of, member_text, push_row, value_of};
 use osq_value::{NoMemory, Row, TableId, table_of};
 use serde_json::Value as Json;
@@ -58,7 +58,7 @@ fn push_lent(shown: &mut String, rows: &[&Row]) -> Result<(), NoMemory> {
 fn push_met(
     alloc: Global,
     shown: &mut String,
-    view: &ThreeTables,
+    view: &GivenTables,
     table: TableId,
     constraints: &ConstraintList,
 ) -> Result<(), NoMemory> {
@@ -69,7 +69,7 @@ fn push_met(
 fn push_found(
     alloc: Global,
     shown: &mut String,
-    view: &ThreeTables,
+    view: &GivenTables,
     name: &str,
     constraints: Option<&ConstraintList>,
 ) -> Result<(), NoMemory> {
@@ -84,7 +84,7 @@ pub(crate) fn push_scan(
     alloc: Global,
     shown: &mut String,
     line: &Json,
-    view: &ThreeTables,
+    view: &GivenTables,
 ) -> Result<(), NoMemory> {
     let constraints = constraints_of(alloc, items_of(line.get("where")))?;
     let name = member_text(line, "scan");

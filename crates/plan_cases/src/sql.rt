@@ -6,6 +6,7 @@ pub(crate) use sql_joins::{
 };
 pub(crate) use sql_meaning::{Joined, plain_rows, singles};
 pub(crate) use sql_planner::{Plan, explain, plan_of, run_plan};
-pub(crate) use sql_query::query::{Query, QuerySource};
-pub(crate) use sql_texts::text::{TextError, query_of_text};
+pub(crate) use sql_query::derived::{Derived, DerivedList, FIRST_DERIVED};
+pub(crate) use sql_query::query::{Query, QuerySource, SourceColumn, SourceColumnList};
+pub(crate) use sql_texts::text::{TextError, query_with};
 pub(crate) use virtual_tables::{Constraint, ConstraintList, ConstraintOp, scan};

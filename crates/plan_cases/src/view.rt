@@ -1,24 +1,27 @@
 //! The tables that queries are over.
 
+use crate::sql::FIRST_DERIVED;
 use case_text::{items_of, rows_of};
 use osq_value::{NoMemory, Row, RowList, TableId, Tables, Value};
 use serde_json::Value as Json;
 use std::alloc::Global;
 
-/// A view with rows of `users`, of `groups` and of `user_groups`.
+/// A view with rows of `users`, of `groups`, of `user_groups` and of the derived table `parts`.
 #[derive(Drop)]
-pub(crate) struct ThreeTables {
+pub(crate) struct GivenTables {
     users: RowList,
     groups: RowList,
     user_groups: RowList,
+    parts: RowList,
 }
 
-impl Tables for ThreeTables {
+impl Tables for GivenTables {
     ghost use Rattle.std.specs.Prelude.{◌==◌, if◌then◌else◌, []};
     ghost use Rattle.std.proofs.Common.{arith};
     ghost use Rattle.osq_value.specs.declared.value.TheConstants.TableId.{USERS, GROUPS, USER_GROUPS};
+    ghost use Rattle.sql_query.specs.Tables.{FIRST_DERIVED};
 
-    ghost rows_of = { λ s table. if table == USERS.0 then s.users else (if table == GROUPS.0 then s.groups else (if table == USER_GROUPS.0 then s.user_groups else [])) };
+    ghost rows_of = { λ s table. if table == USERS.0 then s.users else (if table == GROUPS.0 then s.groups else (if table == USER_GROUPS.0 then s.user_groups else (if table == FIRST_DERIVED then s.parts else []))) };
 
     fn count(&self, table: TableId) -> usize {
         if table.0 == TableId::USERS.0 {
@@ -27,6 +30,8 @@ impl Tables for ThreeTables {
             self.groups.len()
         } else if table.0 == TableId::USER_GROUPS.0 {
             self.user_groups.len()
+        } else if table.0 == FIRST_DERIVED {
+            self.parts.len()
         } else {
             0
         }
@@ -39,6 +44,8 @@ impl Tables for ThreeTables {
             self.groups.get(at)
         } else if table.0 == TableId::USER_GROUPS.0 {
             self.user_groups.get(at)
+        } else if table.0 == FIRST_DERIVED {
+            self.parts.get(at)
         } else {
             None
         }
@@ -47,22 +54,24 @@ impl Tables for ThreeTables {
     ghost outside = { λ s table past named. Prim.grind (arith) };
 }
 
-impl ThreeTables {
+impl GivenTables {
     /// The view without rows.
-    pub(crate) fn empty(alloc: Global) -> ThreeTables {
-        ThreeTables {
+    pub(crate) fn empty(alloc: Global) -> GivenTables {
+        GivenTables {
             users: RowList::new(alloc),
             groups: RowList::new(alloc),
             user_groups: RowList::new(alloc),
+            parts: RowList::new(alloc),
         }
     }
 
     /// The view with the rows of these members.
-    pub(crate) fn of(alloc: Global, tables: &Json) -> Result<ThreeTables, NoMemory> {
-        Ok(ThreeTables {
+    pub(crate) fn of(alloc: Global, tables: &Json) -> Result<GivenTables, NoMemory> {
+        Ok(GivenTables {
             users: table_rows(alloc, tables.get("users"))?,
             groups: table_rows(alloc, tables.get("groups"))?,
             user_groups: table_rows(alloc, tables.get("user_groups"))?,
+            parts: table_rows(alloc, tables.get("parts"))?,
         })
     }
 }

@@ -28,7 +28,7 @@ use Rattle.virtual_tables.specs.Constraints.{affinity_at, comparison, is_met, me
 use Rattle.virtual_tables.specs.declared.constraint.Constraint.{Constraint}
 use Rattle.virtual_tables.specs.declared.constraint.ConstraintOp.{ConstraintOp}
 use Rattle.sql_planner.specs.Pushing.{AreParts, AreRows, AreWide, IsAnswered, IsPlaced, IsWide, Stands, asked_of, kept}
-use Rattle.sql_planner.specs.Reading.{AreHalves, IsTestOf}
+use Rattle.sql_planner.specs.Reading.{AreHalves, IsLiteralFor, IsTestOf}
 use Rattle.sql_planner.specs.Within.{AreStepsWithin, AreWithin, IsStepWithin, IsWithin}
 use Rattle.sql_planner.proofs.Columns.{truth-met}
 use Rattle.sql_planner.proofs.Pushed.{holds-append, joins-behind, wide-join}
@@ -161,15 +161,14 @@ asked-means query sources parts view same = ap (λ (rows : List (List Value)). s
 -- a comparison of a column behind so many values says what the constraint says of the table's row
 pub test-behind : (table : ℕ) (part : ExprTree) (source number at column before : ℕ) (affinity : Option Affinity) (op : ConstraintOp) (literal value : Value)
     → part ≡ expr.chain (expr.column source number at affinity) (expr.then expr.no_steps (expr.binary (operator_of op) (expr.literal literal)))
-    → affinity_at table column ≡ affinity → value ≡ literal → at ≡ before + column → IsTestOf table before part (record { column = column; op = op; value = value })
-test-behind table part source number at column before affinity op literal value is affine copied place = λ left right wide.
+    → IsLiteralFor (affinity_at table column) affinity literal value → at ≡ before + column → IsTestOf table before part (record { column = column; op = op; value = value })
+test-behind table part source number at column before affinity op literal value is same place = λ left right wide.
     let c : Constraint = record { column = column; op = op; value = value } in
     let found : get_or (left ++ right) at Null ≡ get_or right column Null =
     ap (λ (n : ℕ). get_or (left ++ right) n Null) (place ∙ ap (λ (n : ℕ). n + column) (sym wide)) ∙ get_or-append-add left right column Null in
     ap (λ (e : ExprTree). is_true (value_of (alone (left ++ right)) e)) is
     ∙ ap (λ (v : Value). is_true (apply_of (operator_of op) affinity None v literal)) found
-    ∙ ap (λ (a : Option Affinity). is_true (apply_of (operator_of op) a None (get_or right column Null) literal)) (sym affine)
-    ∙ ap (λ (v : Value). is_true (apply_of (operator_of op) (affinity_at table column) None (get_or right column Null) v)) (sym copied)
+    ∙ ap is_true (sym (same op (get_or right column Null)))
     ∙ sym (truth-met (truth_of (comparison table c right)))
 
 pub halves-test : (table width : ℕ) (parts on : List ExprTree) (tests : List Constraint) (e : ExprTree) (c : Constraint) → IsTestOf table width e c

@@ -10,4 +10,5 @@ mod Paired
 mod Pieces
 mod Pushed
 mod Seen
+mod Turned
 mod Walked

@@ -1,20 +1,20 @@
 //! What is asked of a table's rows where they are read.
-ghost use Rattle.std.specs.Prelude.{◌≡◌, ℕ, ◌+◌, ◌++◌, ◌∷◌, [], IfOk, IfSome, List, OnOk, map, true};
+ghost use Rattle.std.specs.Prelude.{◌≡◌, ℕ, ◌+◌, ◌++◌, ◌∷◌, [], IfOk, IfSome, List, OnOk, Some, map, true};
 ghost use Rattle.virtual_tables.specs.Constraints.{affinity_at};
 ghost use Rattle.sql_query.specs.Exprs.{ExprTree};
 ghost use Rattle.sql_query.specs.Resolved.{source_of};
 ghost use Rattle.sql_query.specs.View.{expr_of};
-ghost use Rattle.sql_planner.specs.Reading.{AreHalves, AreReadings, IsReading, IsTestOf};
+ghost use Rattle.sql_planner.specs.Reading.{AreHalves, AreReadings, IsLiteralFor, IsReading, IsTestOf};
 ghost use Rattle.sql_planner.specs.declared.reading.Reading.{Reading as ReadingOf};
 
 use crate::column_test::column_test;
 use crate::comparison::compares_by;
-use osq_value::{Affinity, Copied, NoMemory, Sequence, TableId, column_of};
+use osq_value::{Affinity, Copied, NoMemory, Sequence, TableId, Value, column_of};
 use sql_query::copy::copy_expr;
 use sql_query::query::{Condition, ExprList, QuerySource};
 use sql_query::tree::Expr;
 use std::alloc::Global;
-use virtual_tables::{Constraint, ConstraintList};
+use virtual_tables::{Constraint, ConstraintList, turn};
 
 /// A condition of a join in two parts.
 #[derive(Drop)]
@@ -118,14 +118,10 @@ fn constraint_behind(
     let Some(column) = column_behind(width, found.at) else {
         return Ok(None);
     };
-    if !has_affinity(table, column, found.affinity) {
+    let Some(value) = literal_for(alloc, table, column, found.affinity, found.value)? else {
         return Ok(None);
-    }
-    Ok(Some(Constraint {
-        column,
-        op,
-        value: found.value.copy(alloc)?,
-    }))
+    };
+    Ok(Some(Constraint { column, op, value }))
 }
 
 /// The column that stands at a place behind so many values.
@@ -141,15 +137,34 @@ fn column_behind(width: Option<usize>, at: u32) -> Option<u32>
     }
 }
 
-/// Whether the column of a table has that affinity.
-fn has_affinity(table: TableId, column: u32, affinity: Option<Affinity>) -> bool
-    ensures { result ≡ true → affinity_at table.0 column ≡ affinity }
+/// The literal with which a scan compares a column, so that it finds what the text asks, in which the column has that affinity. A scan compares a
+/// column of the catalogue by its affinity, and that of a derived table as it is, so that its literal is turned here. None where the catalogue
+/// has another affinity.
+fn literal_for(
+    alloc: Global,
+    table: TableId,
+    column: u32,
+    affinity: Option<Affinity>,
+    literal: &Value,
+) -> Result<Option<Value>, NoMemory>
+    ensures { IfOk result (λ made. IfSome made (IsLiteralFor (affinity_at table.0 column) affinity literal.now)) }
 {
-    let Some(column) = column_of(table, column) else {
-        return false;
+    let Some(known) = column_of(table, column) else {
+        return Ok(Some(turn(alloc, affinity, literal)?));
     };
+    if is_affinity(affinity, known.affinity) {
+        Ok(Some(literal.copy(alloc)?))
+    } else {
+        Ok(None)
+    }
+}
+
+/// Whether there is an affinity, and it is that one.
+fn is_affinity(affinity: Option<Affinity>, known: Affinity) -> bool
+    ensures { result ≡ true → Some known ≡ affinity }
+{
     match affinity {
-        Some(affinity) => column.affinity == affinity,
+        Some(affinity) => known == affinity,
         None => false,
     }
 }
