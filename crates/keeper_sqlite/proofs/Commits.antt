@@ -1,6 +1,7 @@
 -- Calls that commit nothing, or one value, one after another.
-use Rattle.std.proofs.Common.{◌≡◌, Result, Ok, Err, false, refl, ap, inl, arith}
-use Rattle.std.specs.Prelude.{IfOk, OnOk}
+use Rattle.std.proofs.Common.{◌≡◌, Bool, Result, Ok, Err, false, true, refl, ap, inl, arith}
+use Rattle.std.specs.Prelude.{IfOk, OnErr, OnOk}
+use Rattle.std.specs.Result.{is_ok}
 use Rattle.std.proofs.lemmas.Result.{on_ok_weaker}
 use Rattle.sqlite.specs.State.{State, HasCleanDisk, Shows, Survives}
 use Rattle.sqlite.proofs.StateLemmas.{survives_then, survives_weaker}
@@ -45,3 +46,14 @@ pub success_is_told : {T : Type 0} (P : Type 0) (answer : Result T Stop) → OnO
 success_is_told P (Ok value) holds = holds
 success_is_told P (Err Fault) holds = tt
 success_is_told P (Err NoMemory) holds = tt
+
+-- and whether it went well
+pub known_is_told : {T : Type 0} (answer : Result T Stop) (known : Bool) → known ≡ is_ok answer → OnOk (told_of answer) (known ≡ true)
+known_is_told (Ok value) known is = is
+known_is_told (Err Fault) known is = tt
+known_is_told (Err NoMemory) known is = tt
+
+pub unknown_is_told : {T : Type 0} (answer : Result T Stop) (known : Bool) → known ≡ is_ok answer → OnErr (told_of answer) (known ≡ false)
+unknown_is_told (Ok value) known is = tt
+unknown_is_told (Err Fault) known is = is
+unknown_is_told (Err NoMemory) known is = is

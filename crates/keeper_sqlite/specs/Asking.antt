@@ -1,5 +1,5 @@
 -- What a keeper asks of SQLite: what its queries show, and what the statements of a seal leave behind its commit.
-use Rattle.std.specs.Prelude.{◌≡◌, ◌⊎◌, ℕ, true, List, [], ◌∷◌, map, Some, Ok}
+use Rattle.std.specs.Prelude.{◌≡◌, ◌⊎◌, ℕ, Bool, true, List, [], ◌∷◌, map, Some, Ok}
 use Rattle.sqlite_value.specs.declared.value.Value.{Value as Stored}
 use Rattle.sqlite_value.specs.declared.value.Value.TheVariants as stored
 use Rattle.sqlite_trees.specs.declared.store.Store.{Ghosts}
@@ -58,18 +58,22 @@ module _ {S : Type 0} (g : Ghosts S) where
       × (((names ≡ []) × ExecutesAllInside g 0 TABLES.now mid new (Ok tt))
       ⊎ ((found : List (List Value)) × Finds LAYOUT_OF.now found mid new × (is_layout found ≡ true)))
 
+  -- the tables are ready: an earlier seal of the connection found them so, and nothing was asked; or they were looked at now
+  abbrev pub IsReadyOnce : Bool → Held S → Held S → Type 0
+  IsReadyOnce is_known old new = ((is_known ≡ true) × (new ≡ old)) ⊎ IsReady old new
+
   -- the statements of these entries ran over the tables, by the counts that the tables had
-  pub record Adds (entries : List Entry) (old new : Held S) : Type 0 where
+  pub record Adds (is_known : Bool) (entries : List Entry) (old new : Held S) : Type 0 where
     pub ready : Held S
-    pub tables : IsReady old ready
+    pub tables : IsReadyOnce is_known old ready
     pub begun : Held S
     pub counts : Counts
     pub counted : FindsCounts counts ready begun
     pub made : AreMade (map spelled (seal_edits counts entries)) begun new
 
   -- what the seal commits is what those statements leave
-  abbrev pub IsSealed : List Entry → Held S → Held S → Type 0
-  IsSealed entries old new = (done : Held S) × Adds entries (record old { in_transaction = true }) done × ((state g new).committed ≡ (state g done).now)
+  abbrev pub IsSealed : Bool → List Entry → Held S → Held S → Type 0
+  IsSealed is_known entries old new = (done : Held S) × Adds is_known entries (record old { in_transaction = true }) done × ((state g new).committed ≡ (state g done).now)
 
   -- the queries of a load showed this, one after another
   pub record AreFound (found : Found) (old new : Held S) : Type 0 where

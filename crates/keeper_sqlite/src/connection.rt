@@ -1,11 +1,11 @@
 //! The keeper over an open connection.
 
-ghost use Rattle.std.specs.Prelude.{◌≡◌, IfOk, OnOk};
+ghost use Rattle.std.specs.Prelude.{◌≡◌, IfOk, OnErr, OnOk, false, true};
 ghost use Rattle.osq_outside.specs.Causes.{FaultHasCause};
 ghost use Rattle.sqlite.specs.Held.{state};
 ghost use Rattle.sqlite.specs.State.{HasCleanDisk};
 ghost use Rattle.keeper_sqlite.specs.Commits.{CommitsNothing, IsOneCommit};
-ghost use Rattle.keeper_sqlite.specs.Asking.{Adds, AreFound, FindsCounts, HasLoaded, IsReady, IsSealed, Loads};
+ghost use Rattle.keeper_sqlite.specs.Asking.{Adds, AreFound, FindsCounts, HasLoaded, IsReady, IsReadyOnce, IsSealed, Loads};
 
 use crate::database::{make_all, show, show_of};
 use crate::stop::{Stop, told};
@@ -23,12 +23,18 @@ use std::alloc::Global;
 pub struct ConnectionKeeper<S: Alter> {
     conn: Connection<S>,
     faults: u64,
+    /// Whether the last seal succeeded: its tables needn't be looked at again.
+    is_known: bool,
 }
 
 // It is written out, so that the parts of a connection aren't dropped here again.
 impl<S: Alter + Drop> Drop for ConnectionKeeper<S> {
     fn drop(self) {
-        let ConnectionKeeper { conn: _, faults: _ } = self;
+        let ConnectionKeeper {
+            conn: _,
+            faults: _,
+            is_known: _,
+        } = self;
     }
 }
 
@@ -37,15 +43,24 @@ impl<S: Alter> ConnectionKeeper<S> {
     pub fn adopt(conn: Connection<S>) -> ConnectionKeeper<S>
         ensures faults { result.faults ≡ 0 }
         ensures conn { result.conn ≡ conn }
+        ensures unknown { result.is_known ≡ false }
     {
-        ConnectionKeeper { conn, faults: 0 }
+        ConnectionKeeper {
+            conn,
+            faults: 0,
+            is_known: false,
+        }
     }
 
     /// The connection.
     pub fn into_connection(self) -> Connection<S>
         ensures { result ≡ self.conn }
     {
-        let ConnectionKeeper { conn, faults: _ } = self;
+        let ConnectionKeeper {
+            conn,
+            faults: _,
+            is_known: _,
+        } = self;
         conn
     }
 }
@@ -68,6 +83,23 @@ fn ready<S: Alter>(alloc: Global, tx: &mut Transaction<'_, S>) -> Result<(), Sto
     } else {
         Err(Stop::Fault)
     }
+}
+
+/// Sees to the tables, unless an earlier seal of the connection has.
+#[tactic(auto, using(crate::proofs::Commits::same_commits_nothing))]
+fn ready_once<S: Alter>(
+    alloc: Global,
+    tx: &mut Transaction<'_, S>,
+    is_known: bool,
+) -> Result<(), Stop>
+    ensures same_reference { tx.new.conn.ghost_name ≡ tx.old.conn.ghost_name }
+    ensures survives { CommitsNothing (state S.Store tx.old.conn.now) (state S.Store tx.new.conn.now) }
+    ensures tables { HasCleanDisk (state S.Store tx.new.conn.now) → OnOk result (IsReadyOnce S.Store is_known tx.old.conn.now tx.new.conn.now) }
+{
+    if is_known {
+        return Ok(());
+    }
+    ready(alloc, tx)
 }
 
 /// The counts of the list.
@@ -138,12 +170,13 @@ fn seal_inside<S: Alter>(
     alloc: Global,
     tx: &mut Transaction<'_, S>,
     entries: &EntryList,
+    is_known: bool,
 ) -> Result<(), Stop>
     ensures same_reference { tx.new.conn.ghost_name ≡ tx.old.conn.ghost_name }
     ensures survives { CommitsNothing (state S.Store tx.old.conn.now) (state S.Store tx.new.conn.now) }
-    ensures added { HasCleanDisk (state S.Store tx.new.conn.now) → OnOk result (Adds S.Store entries.now tx.old.conn.now tx.new.conn.now) }
+    ensures added { HasCleanDisk (state S.Store tx.new.conn.now) → OnOk result (Adds S.Store is_known entries.now tx.old.conn.now tx.new.conn.now) }
 {
-    ready(alloc, tx)?;
+    ready_once(alloc, tx, is_known)?;
     let counts = counts(alloc, tx)?;
     let changes = changes_of(alloc, counts, entries)?;
     make_all(alloc, tx, &changes)
@@ -175,15 +208,20 @@ fn fetch<S: Alter>(
     Ok(batch)
 }
 
-fn seal<S: Alter>(alloc: Global, conn: &mut Connection<S>, entries: &EntryList) -> Result<(), Stop>
+fn seal<S: Alter>(
+    alloc: Global,
+    conn: &mut Connection<S>,
+    entries: &EntryList,
+    is_known: bool,
+) -> Result<(), Stop>
     ensures whole { IsOneCommit (state S.Store conn.old) (state S.Store conn.new) result }
-    ensures sealed { HasCleanDisk (state S.Store conn.new) → OnOk result (IsSealed S.Store entries.now conn.old conn.new) }
+    ensures sealed { HasCleanDisk (state S.Store conn.new) → OnOk result (IsSealed S.Store is_known entries.now conn.old conn.new) }
 {
     if !conn.is_autocommit() {
         return Err(Stop::Fault);
     }
     let mut tx = conn.transaction();
-    seal_inside(alloc, &mut tx, entries)?;
+    seal_inside(alloc, &mut tx, entries, is_known)?;
     tx.commit()?;
     Ok(())
 }
@@ -204,6 +242,7 @@ impl<S: Alter> Keeper for ConnectionKeeper<S> {
 
     /// What is loaded are the values that the tables show, where the disk has failed nowhere and they show some.
     fn load(&mut self, alloc: Global) -> Result<Restored, KeeperError>
+        ensures known { self.new.is_known ≡ self.old.is_known }
         ensures loaded { HasCleanDisk (state S.Store self.new.conn) → IfOk result (λ restored. HasLoaded S.Store restored self.old.conn) }
         ensures cause { FaultHasCause KeeperError.Fault self.old.faults self.new.faults result }
     {
@@ -212,6 +251,7 @@ impl<S: Alter> Keeper for ConnectionKeeper<S> {
     }
 
     fn fetch(&mut self, alloc: Global, number: u64) -> Result<Option<Batch>, KeeperError>
+        ensures known { self.new.is_known ≡ self.old.is_known }
         ensures cause { FaultHasCause KeeperError.Fault self.old.faults self.new.faults result }
     {
         let fetched = fetch(alloc, &mut self.conn, number);
@@ -219,13 +259,17 @@ impl<S: Alter> Keeper for ConnectionKeeper<S> {
     }
 
     /// All that a call writes is one commit: a crash behind it leaves what it could leave before, or all of the entries. What it
-    /// commits is what the statements of these entries leave, where the disk has failed nowhere.
+    /// commits is what the statements of these entries leave, where the disk has failed nowhere. The tables are looked at, unless the seal before
+    /// it on this connection succeeded, which looked at them or went on from one that did: SQLite's lock keeps other hands from them in between.
     fn seal(&mut self, alloc: Global, entries: &EntryList) -> Result<(), KeeperError>
         ensures whole { IsOneCommit (state S.Store self.old.conn) (state S.Store self.new.conn) result }
-        ensures sealed { HasCleanDisk (state S.Store self.new.conn) → OnOk result (IsSealed S.Store entries.now self.old.conn self.new.conn) }
+        ensures sealed { HasCleanDisk (state S.Store self.new.conn) → OnOk result (IsSealed S.Store self.old.is_known entries.now self.old.conn self.new.conn) }
+        ensures known { OnOk result (self.new.is_known ≡ true) }
+        ensures unknown { OnErr result (self.new.is_known ≡ false) }
         ensures cause { FaultHasCause KeeperError.Fault self.old.faults self.new.faults result }
     {
-        let sealed = seal(alloc, &mut self.conn, entries);
+        let sealed = seal(alloc, &mut self.conn, entries, self.is_known);
+        self.is_known = sealed.is_ok();
         told(&mut self.faults, sealed)
     }
 }

@@ -54,9 +54,9 @@ returns-clause-sealed g c =
     let mid = c.seal_inside.new.tx.conn.now in
     let end = c.commit.new.self.0 in
     let same : end ≡ c.conn-2-1.given.0 = search rules in
-    subst (λ h. HasCleanDisk (state g.S.Store h) → IsSealed g.S.Store c.args.entries.now c.args.conn.now h) same (λ clean.
+    subst (λ h. HasCleanDisk (state g.S.Store h) → IsSealed g.S.Store c.args.is_known c.args.entries.now c.args.conn.now h) same (λ clean.
     let doubts = c.commit.ensures.survives.clean in (
       mid,
-      subst (λ h. Adds g.S.Store c.args.entries.now h mid) c.transaction-tx.ensures.begun (c.in_ok-seal_inside.ensures.added (omega (arith, doubts, clean))),
+      subst (λ h. Adds g.S.Store c.args.is_known c.args.entries.now h mid) c.transaction-tx.ensures.begun (c.in_ok-seal_inside.ensures.added (omega (arith, doubts, clean))),
       (c.in_ok-commit.ensures.ok clean).1.committed_is,
     ))

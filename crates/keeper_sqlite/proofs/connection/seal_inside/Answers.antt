@@ -11,8 +11,8 @@ returns-clause-added g c = λ clean.
     let counted_clean = clean_before _ _ c.make_all.ensures.survives clean in
     on_ok_weaker c.make_all.result
     (λ made. record {
-      ready = c.ready.new.tx.conn.now;
-      tables = c.in_ok-ready.ensures.tables (clean_before _ _ found.survives counted_clean);
+      ready = c.ready_once.new.tx.conn.now;
+      tables = c.in_ok-ready_once.ensures.tables (clean_before _ _ found.survives counted_clean);
       begun = c.counts.new.tx.conn.now;
       counts = c.in_ok-counts.counts;
       counted = found.found counted_clean;
