@@ -4,9 +4,11 @@ table beside SQLite, in one run.
 
 Usage: bench/fleet.py [ROUNDS [PROGRAM]]: the least processor time of so many runs (default 3) of the built program (default crates/osqd/out/osqd), since
 other work on the machine only takes time away; memory is the greatest resident size. The first ledger has 100000 frames of ten rows of ten values, of 1000
-hosts whose frames alternate, in some 130 MB. The second has 10000 such frames of one host and one query: a table of 100000 rows. Of its texts the
-time of reading is taken away, which is that of counting its batches; SQLite has the same rows in a table without affinities in memory, without an index
-of its own making, and its time is that of the query and of fetching its rows. What both give is compared. Skipped where the program isn't built.
+hosts whose frames alternate, in some 130 MB. The second has 10000 such frames of one host and one query: a table of 100000 rows. The time of reading,
+which is that of counting its batches, is taken away from all. What making the table takes beside that is that of counting its rows, and is put beside
+the inserts of the same rows into a table of SQLite without affinities, in memory and without an index of its own making. Then each text is told by
+itself, the making of the table aside on both sides, and with it. SQLite's time of a text is that of the query and of fetching its rows. What both give
+is compared. Skipped where the program isn't built.
 """
 
 import hashlib
@@ -87,12 +89,17 @@ def by_sqlite(text: str, base: sqlite3.Connection, rounds: int) -> tuple[float, 
     return least, [{name: "" if value is None else str(value) for name, value in zip(names, row)} for row in rows]
 
 
-def table_of_rows() -> sqlite3.Connection:
-    base = sqlite3.connect(":memory:")
-    base.execute(f"CREATE TABLE files (batch_number INTEGER, moment INTEGER, {', '.join(NAMES)})")
-    rows = ((at // ROWS + 1, 1000, *row_of(at)) for at in range(OWN * ROWS))
-    base.executemany(f"INSERT INTO files VALUES ({', '.join('?' * (len(NAMES) + 2))})", rows)
-    return base
+def table_of_rows(rounds: int) -> tuple[float, sqlite3.Connection]:
+    """The least processor time of making the table in SQLite, and the table."""
+    rows = [(at // ROWS + 1, 1000, *row_of(at)) for at in range(OWN * ROWS)]
+    least, base = float("inf"), sqlite3.connect(":memory:")
+    for _ in range(rounds):
+        base = sqlite3.connect(":memory:")
+        base.execute(f"CREATE TABLE files (batch_number INTEGER, moment INTEGER, {', '.join(NAMES)})")
+        start = time.process_time()
+        base.executemany(f"INSERT INTO files VALUES ({', '.join('?' * (len(NAMES) + 2))})", rows)
+        least = min(least, time.process_time() - start)
+    return least, base
 
 
 def measure_ledger(folder: pathlib.Path, program: str, ledger: pathlib.Path, rounds: int) -> None:
@@ -110,18 +117,21 @@ def measure_ledger(folder: pathlib.Path, program: str, ledger: pathlib.Path, rou
 
 
 def measure_texts(folder: pathlib.Path, program: str, ledger: pathlib.Path, rounds: int) -> None:
-    """Texts over one query's table, without the reading, beside SQLite."""
+    """Texts over one query's table, by themselves and with the making of the table, beside SQLite."""
     words = [program, "fleet", "--ledger", str(ledger), "--host", "h1", "--text"]
     reading, _, _ = spent(folder, [*words, "SELECT COUNT(*) AS n FROM batches"], rounds)
+    counting, _, _ = spent(folder, [*words, "SELECT COUNT(*) AS n FROM files"], rounds)
+    made, (inserted, base) = counting - reading, table_of_rows(rounds)
     print(f"{OWN} frames of a host are read in {reading:.2f} s")
-    base = table_of_rows()
+    print(f"{'the table of 100000 rows':28} {made * 1e3:7.1f} ms, SQLite {inserted * 1e3:7.1f}: {made / inserted:.2f}")
     for what, text in TEXTS:
         ours, most, told = spent(folder, [*words, text], rounds)
         theirs, rows = by_sqlite(text, base, rounds)
         if [json.loads(line) for line in told.splitlines()] != rows:
             sys.exit(f"other rows: {text}")
-        took = ours - reading
-        print(f"{what:28} {took * 1e3:7.1f} ms, SQLite {theirs * 1e3:7.1f}: {took / theirs:.2f} (goal: at most 0.6); {most / 1e6:.0f} MB", flush=True)
+        alone, whole = max(ours - counting, 0), ours - reading
+        print(f"{what:28} {alone * 1e3:7.1f} ms, SQLite {theirs * 1e3:7.1f}: {alone / theirs:.2f} (goal: at most 0.6); with the table "
+              f"{whole / (inserted + theirs):.2f}; {most / 1e6:.0f} MB", flush=True)
 
 
 def main() -> None:

@@ -56,6 +56,14 @@ pub fn filled(alloc: Global, frames: &[Frame], query: &Query) -> Result<FleetTab
     filled_for(alloc, frames, Some(query))
 }
 
+/// The tables of a host's frames, with the rows of each.
+pub(crate) fn all_filled(alloc: Global, frames: &[Frame]) -> Result<FleetTables, NoMemory>
+    ensures derived { IfOk result (λ tables. tables.derived ≡ fleet_derived frames.now) }
+    ensures rows { IfOk result (λ tables. (table : ℕ) → rows_in tables table ≡ fleet_view frames.now table) }
+{
+    filled_for(alloc, frames, None)
+}
+
 /// The tables of a host's frames, with the rows of those that a query names, or of each where there is no query.
 #[tactic(auto, unfolding(crate::specs::Tables::fleet_derived))]
 fn filled_for(

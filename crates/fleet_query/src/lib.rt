@@ -3,10 +3,12 @@
 
 pub mod columns;
 pub mod filling;
+pub mod fleet;
 mod names;
 mod tables;
 pub mod view;
 
 pub use columns::derived_of;
 pub use filling::{filled, rows_of_fleet};
+pub use fleet::Fleet;
 pub use view::FleetTables;
