@@ -1,0 +1,4 @@
+pub mod Outlooks
+pub mod Breaks
+pub mod Traces
+pub mod Beside
