@@ -1,0 +1,9 @@
+pub mod Asked
+pub mod Calls
+pub mod Derived
+pub mod Held
+pub mod Hidden
+pub mod Matching
+pub mod Patterns
+pub mod Reading
+pub mod Rows
